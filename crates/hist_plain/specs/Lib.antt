@@ -1,0 +1,5 @@
+pub mod Event
+pub mod File
+pub mod Plain
+pub mod PlainView
+pub mod History
