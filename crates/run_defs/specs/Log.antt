@@ -5,6 +5,7 @@ use Rattle.hist_plain.specs.File.{Shape, File}
 use Rattle.hist_plain.specs.Event.{caller_of}
 use Rattle.hist_plain.specs.Plain.{fresh, applied, reply}
 use Rattle.hist_plain.specs.History.{Entry, AllSuit, replay, is_by}
+use Rattle.run_defs.specs.declared.setting.FileEntry.{FileEntry}
 use Rattle.run_defs.specs.declared.log.History.{History}
 use Rattle.run_defs.specs.declared.log.Logged.{Logged}
 use Rattle.run_defs.specs.declared.log.Logged.TheVariants.{Entered, Noted}
@@ -70,3 +71,10 @@ pub record IsHistory (shape : Shape) (pages : ℕ) (h : History) : Type 0 where
   pub size : length h.opening ≡ pages * shape.page_size
   pub suit : AllSuit shape (first_file shape h) (trail_of h)
   pub few : place_of h ≤ 4194304
+
+-- a history for each file, in order
+abbrev pub AreHistories : Shape → List FileEntry → List History → Type 0
+AreHistories shape [] [] = Unit {0}
+AreHistories shape [] (history ∷ histories) = ⊥
+AreHistories shape (file ∷ files) [] = ⊥
+AreHistories shape (file ∷ files) (history ∷ histories) = IsHistory shape file.pages history × AreHistories shape files histories
