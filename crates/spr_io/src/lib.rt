@@ -1,0 +1,6 @@
+//! What lies outside of the program: texts, bays of stores, and a sink, each with a count of its faults.
+#![tactic(auto)]
+
+mod outside;
+
+pub use outside::{Bay, BayErr, Failed, Gate, OpenGate, Shelf, ShelfErr, Sink, Store};
