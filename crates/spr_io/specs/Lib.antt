@@ -2,3 +2,6 @@ pub mod Causes
 pub mod Content
 pub mod Berth
 pub mod Texts
+pub mod Calls
+pub mod Blocks
+pub mod Memory
