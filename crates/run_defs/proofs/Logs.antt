@@ -53,3 +53,8 @@ more-more h xs ys = ap (λ (l : List Logged). let k : History = record { opening
 
 pub more-nil : (h : History) (xs : List Logged) → xs ≡ [] → more h xs ≡ h
 more-nil h xs e = ap (more h) e ∙ ap (λ (l : List Logged). let k : History = record { opening = h.opening; log = l } in k) (append-nil h.log)
+
+-- a log that grew by one entry
+pub log-is : (opening : List ℕ) (new old : List Logged) (last : Logged) → new ≡ old ++ last ∷ []
+    → (let h : History = record { opening = opening; log = new } in h) ≡ more (record { opening = opening; log = old }) (last ∷ [])
+log-is opening new old last is = ap (λ (l : List Logged). let h : History = record { opening = opening; log = l } in h) is

@@ -3,5 +3,6 @@ pub mod Log
 pub mod Plan
 pub mod Fits
 pub mod Calls
+pub mod Kept
 pub mod Line
 pub mod Report

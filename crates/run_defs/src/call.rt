@@ -1,6 +1,7 @@
 //! What a call on a file answers.
 
 use hist_plain::Answer;
+use std::alloc::AllocError;
 
 /// The plain file's answer to a call, and where the call stands.
 #[derive(Clone, Copy, Debug, PartialEq, Eq)]
@@ -25,4 +26,15 @@ pub enum CallErr {
     TrailFull,
     /// Memory ran out.
     Memory,
+}
+
+impl From<AllocError> for CallErr {
+    ghost use Rattle.std.specs.Prelude.{◌≡◌};
+    ghost use Rattle.run_defs.specs.declared.call.CallErr.TheVariants.{Memory};
+
+    ghost from_gives = { λ _ e. e ≡ Memory };
+
+    fn from(_: AllocError) -> CallErr {
+        CallErr::Memory
+    }
 }
