@@ -1,0 +1,2 @@
+pub mod TowerLaws
+pub mod LineLaws
