@@ -3,6 +3,7 @@
 
 mod client;
 mod line;
+mod phase;
 mod towers;
 
 pub use client::{Client, perform};

@@ -202,6 +202,24 @@ worked_more setting c objects lines old mid new said kept line reply left worked
       (does_later setting (IsFull mid) (IsFull new) (full_later mid new went.did.later) c objects lines worked.made said kept worked.does) went.goes;
 }
 
+does_append : (setting : Setting) (F : ℕ → Type 0) (c : ℕ) (objects : List OpenObject) (xs ys : List CallLine) (made made' : List Made) (said said' : List Said) (mid left : List OpenObject)
+    → Does setting F c objects xs made said mid → Does setting F c mid ys made' said' left → Does setting F c objects (xs ++ ys) (made ++ made') (said ++ said') left
+does_append setting F c objects [] ys made made' said said' mid left f g =
+    rw (f.0, f.1) (subst (λ (os : List OpenObject). Does setting F c os ys made' said' left) f.2 g)
+does_append setting F c objects (l ∷ xs) ys made made' [] said' mid left f g = absurd f
+does_append setting F c objects (l ∷ xs) ys made made' (s ∷ said) said' mid left f g =
+    (f.0, f.1 ++ made', f.2, ap (λ (ms : List Made). ms ++ made') f.3 ∙ append_assoc f.0 f.1 made', f.4, f.5, does_append setting F c f.2 xs ys f.1 made' said said' mid left f.6 g)
+
+-- lines done, and then more lines
+pub worked_append : (setting : Setting) (c : ℕ) (objects : List OpenObject) (xs ys : List CallLine) (old mid new : List History) (said said' : List Said) (kept left : List OpenObject)
+    → Worked setting c objects xs old mid said kept → Worked setting c kept ys mid new said' left → Worked setting c objects (xs ++ ys) old new (said ++ said') left
+worked_append setting c objects xs ys old mid new said said' kept left f g = record {
+  made = f.made ++ g.made;
+  did = did_then (shape_of setting) c old mid new f.made g.made f.did g.did;
+  does = does_append setting (IsFull new) c objects xs ys f.made g.made said said' kept left
+      (does_later setting (IsFull mid) (IsFull new) (full_later mid new g.did.later) c objects xs f.made said kept f.does) g.does;
+}
+
 -- nothing, and then lines done
 pub worked_before : (setting : Setting) (c : ℕ) (objects : List OpenObject) (lines : List CallLine) (old mid new : List History) (said : List Said) (left : List OpenObject)
     → Did (shape_of setting) c old mid [] → Worked setting c objects lines mid new said left → Worked setting c objects lines old new said left
