@@ -1,6 +1,13 @@
-//! Scripts: their texts, and what they say.
+//! Scripts: their texts, what they say, and the answers to their lines.
 #![tactic(auto)]
 
+mod parse;
+mod print;
 mod script;
+mod verb;
+mod why;
 
+pub use parse::parse_script;
+pub use print::print_script;
 pub use script::{Call, CallLine, ClientLine, Reply, Said, Script, Sub};
+pub use why::{Refused, ScriptWhy};
