@@ -18,7 +18,8 @@ pub fn parse_script(alloc: Global, text: &[u8]) -> Result<Script, Refused>
     // Which line and which reason it is, unless memory runs out.
     ensures exact { Parses result (script_at text.now) }
 {
-    let _ = (alloc, text);
+    let _ = alloc;
+    let _ = text;
     Err(Refused {
         line: 0,
         why: ScriptWhy::Memory,

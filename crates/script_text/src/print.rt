@@ -12,6 +12,7 @@ pub fn print_script(alloc: Global, script: &Script) -> Result<Bytes, AllocError>
     requires { IsScript script.now }
     ensures { IfOk result (λ text. text ≡ spelling script.now) }
 {
-    let _ = (alloc, script);
+    let _ = alloc;
+    let _ = script;
     Err(AllocError)
 }
