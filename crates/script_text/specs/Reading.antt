@@ -128,15 +128,18 @@ call_at [] = Err why.Verb
 call_at (word ∷ args) = verb_at word >>= λ verb. args_at verb args
 
 -- a client line, after its first word
-unfoldable pub client_at : Script → List (List ℕ) → Result Script ScriptWhy
-client_at script (name ∷ machine ∷ []) =
+unfoldable pub new_client_at : Script → List ℕ → List ℕ → Result Script ScriptWhy
+new_client_at script name machine =
     if nat_lt 0 (length script.phases) || nat_le 16 (length script.clients) || has_client name script.clients then Err why.Client
     else if is_client_name name && is_name machine then Ok (record { clients = script.clients ++ record { name = name; machine = machine } ∷ []; phases = script.phases })
     else Err why.Name
+
+abbrev pub client_at : Script → List (List ℕ) → Result Script ScriptWhy
+client_at script (name ∷ machine ∷ []) = new_client_at script name machine
 client_at script words = Err why.Words
 
 -- a phase line, after its first word
-unfoldable pub phase_at : Script → List (List ℕ) → Result Script ScriptWhy
+abbrev pub phase_at : Script → List (List ℕ) → Result Script ScriptWhy
 phase_at script [] = Ok (record { clients = script.clients; phases = script.phases ++ [] ∷ [] })
 phase_at script words = Err why.Phase
 
@@ -159,7 +162,7 @@ call_line_at script number who words =
       >>= λ call. Ok (record { clients = script.clients; phases = onto_last (record { line = number; client = client; call = call }) script.phases })
 
 -- a line of words: what it is goes by its first word
-unfoldable pub words_line_at : Script → ℕ → List (List ℕ) → Result Script ScriptWhy
+abbrev pub words_line_at : Script → ℕ → List (List ℕ) → Result Script ScriptWhy
 words_line_at script number [] = Err why.Space
 words_line_at script number (first ∷ words) =
     if bytes_eq first (codes "client") then client_at script words
@@ -211,6 +214,11 @@ Gives (Err w) read = Fails w read
 -- a refusal for want of memory
 abbrev pub no_memory : Refused
 no_memory = record { line = 0; why = why.Memory }
+
+-- a refusal of a line
+abbrev pub refused_at : ℕ → ScriptWhy → Refused
+refused_at number why.Memory = no_memory
+refused_at number w = record { line = number; why = w }
 
 -- What parsing returned is what reading gives, unless memory ran out.
 abbrev pub Parses : Result Script Refused → Result Script Refused → Type 0

@@ -1,6 +1,9 @@
 //! Scripts: their texts, what they say, and the answers to their lines.
 #![tactic(auto)]
 
+mod args;
+mod calls;
+mod lines;
 mod parse;
 mod print;
 mod script;
