@@ -1,5 +1,5 @@
 -- The clients of a script: their names and numbers.
-use Rattle.std.proofs.Common.{◌≡◌, ℕ, zero, suc, ◌+◌, ◌<◌, ◌≤◌, List, [], ◌∷◌, ◌++◌, length, Bool, true, false, not, cond, ◌&&◌, ◌||◌, Option, Some, None, Result, Ok, Err, refl, sym, ap, subst, ◌∙◌, arith, inl, inr, ◌⊎◌}
+use Rattle.std.proofs.Common.{◌≡◌, ℕ, zero, suc, ◌+◌, ◌<◌, ◌≤◌, List, [], ◌∷◌, ◌++◌, length, get_or, Bool, true, false, not, cond, ◌&&◌, ◌||◌, Option, Some, None, Result, Ok, Err, refl, sym, ap, subst, ◌∙◌, arith, inl, inr, ◌⊎◌}
 use Rattle.std.specs.List.{AllByRecursion, list_any}
 use Rattle.std.specs.Str.{bytes_eq}
 use Rattle.std.proofs.lemmas.Bool.{cases_Bool, or_parts, or_from, false_from_ne_true}
@@ -68,3 +68,14 @@ place_again from (c ∷ clients) (suc i) d lt =
     let other : bytes_eq c.name (client_name clients i) ≡ false = false_from_ne_true _ (λ e. has_named c.name clients i (omega arith) (sym (same_word c.name (client_name clients i) e)) d.0) in
     let n : suc from + i ≡ from + suc i = omega arith in
     rw other (place_again (suc from) clients i d.1 (omega arith) ∙ ap (λ (k : ℕ). Some k) n)
+
+-- the client at a place has the name of its number
+pub name_at_place : (clients : List ClientLine) (i : ℕ) (c : ClientLine) → i < length clients → c ≡ get_or clients i c → c.name ≡ client_name clients i
+name_at_place [] i c lt e = absurd (omega arith)
+name_at_place (first ∷ clients) zero c lt e = ap (λ (d : ClientLine). d.name) e
+name_at_place (first ∷ clients) (suc i) c lt e = name_at_place clients i c (omega arith) e
+
+pub no_name : (clients : List ClientLine) (i : ℕ) → length clients ≤ i → [] ≡ client_name clients i
+no_name [] i le = refl
+no_name (first ∷ clients) zero le = absurd (omega arith)
+no_name (first ∷ clients) (suc i) le = no_name clients i (omega arith)
