@@ -1,5 +1,5 @@
 -- A call that is spelled so is read, and its words are words of a line that is not long.
-use Rattle.std.proofs.Common.{◌≡◌, ℕ, ◌+◌, ◌≤◌, List, [], ◌∷◌, ◌++◌, length, Bool, Option, Some, None, Result, Ok, Err, refl, sym, ap, ◌∙◌, arith, lit≤, length-append}
+use Rattle.std.proofs.Common.{◌≡◌, ℕ, ◌+◌, ◌≤◌, List, [], ◌∷◌, length, Result, Ok, refl, ◌∙◌, arith, lit≤, length-append}
 use Rattle.std.specs.List.{AllByRecursion, join_with_byte}
 use Rattle.std.specs.Fmt.{decimal}
 use Rattle.hex.specs.Hex.{encode_lower}
@@ -10,8 +10,8 @@ use Rattle.script_text.specs.declared.script.Call.TheVariants as calls
 use Rattle.script_text.specs.declared.verb.Verb.{Verb}
 use Rattle.script_text.specs.declared.verb.Verb.TheVariants as verbs
 use Rattle.script_text.specs.declared.why.ScriptWhy.{ScriptWhy}
-use Rattle.script_text.specs.Grammar.{IsCall, call_words, verb_word, sub_word, mode_word, root_or_path}
-use Rattle.script_text.specs.Reading.{◌>>=◌, verb_at, one_at, two_at, bind_at, read_at, write_at, map_at, args_at, call_at, name_at, path_at, root_or_path_at, sub_at, mode_at, number_at, address_at, hex_at}
+use Rattle.script_text.specs.Grammar.{IsCall, call_words, verb_word, sub_word, mode_word}
+use Rattle.script_text.specs.Reading.{◌>>=◌, verb_at, one_at, two_at, bind_at, read_at, write_at, map_at, args_at, call_at, name_at, path_at, sub_at, mode_at, number_at, address_at, hex_at}
 use Rattle.script_text.proofs.Fields.{Reads, step, name_reads, path_reads, root_reads, sub_reads, mode_reads, number_reads, address_reads, hex_reads}
 
 verb_again : (verb : Verb) → verb_at (verb_word verb) ≡ Ok verb
@@ -49,9 +49,9 @@ call_again (calls.Context path) h = args_again verbs.Context _ _ (one_again path
 call_again (calls.Bind path sub view file) h =
     args_again verbs.Bind _ _
     (step (path_at (path_word path)) path (λ p. sub_at (sub_word sub) >>= λ s. name_at view >>= λ v. name_at file >>= λ f. Ok (calls.Bind p s v f)) (path_reads.again path h.0)
-      ∙ step (sub_at (sub_word sub)) sub (λ s. name_at view >>= λ v. name_at file >>= λ f. Ok (calls.Bind path s v f)) (sub_reads.again sub tt)
-      ∙ step (name_at view) view (λ v. name_at file >>= λ f. Ok (calls.Bind path sub v f)) (name_reads.again view h.1)
-      ∙ one_again name_reads (calls.Bind path sub view) file h.2)
+    ∙ step (sub_at (sub_word sub)) sub (λ s. name_at view >>= λ v. name_at file >>= λ f. Ok (calls.Bind path s v f)) (sub_reads.again sub tt)
+    ∙ step (name_at view) view (λ v. name_at file >>= λ f. Ok (calls.Bind path sub v f)) (name_reads.again view h.1)
+    ∙ one_again name_reads (calls.Bind path sub view) file h.2)
 call_again (calls.Unbind path) h = args_again verbs.Unbind _ _ (one_again path_reads calls.Unbind path h)
 call_again (calls.List path) h = args_again verbs.List _ _ (one_again root_reads calls.List path h)
 call_again (calls.Open object path) h = args_again verbs.Open _ _ (step (name_at object) object (λ o. path_at (path_word path) >>= λ p. Ok (calls.Open o p)) (name_reads.again object h.0) ∙ one_again path_reads (calls.Open object) path h.1)
@@ -60,25 +60,25 @@ call_again (calls.Drop object) h = args_again verbs.Drop _ _ (one_again name_rea
 call_again (calls.Read object page off len) h =
     args_again verbs.Read _ _
     (step (name_at object) object (λ o. number_at (decimal page) >>= λ p. number_at (decimal off) >>= λ f. number_at (decimal len) >>= λ l. Ok (calls.Read o p f l)) (name_reads.again object h.0)
-      ∙ step (number_at (decimal page)) page (λ p. number_at (decimal off) >>= λ f. number_at (decimal len) >>= λ l. Ok (calls.Read object p f l)) (number_reads.again page h.1)
-      ∙ step (number_at (decimal off)) off (λ f. number_at (decimal len) >>= λ l. Ok (calls.Read object page f l)) (number_reads.again off h.2)
-      ∙ one_again number_reads (calls.Read object page off) len h.3)
+    ∙ step (number_at (decimal page)) page (λ p. number_at (decimal off) >>= λ f. number_at (decimal len) >>= λ l. Ok (calls.Read object p f l)) (number_reads.again page h.1)
+    ∙ step (number_at (decimal off)) off (λ f. number_at (decimal len) >>= λ l. Ok (calls.Read object page f l)) (number_reads.again off h.2)
+    ∙ one_again number_reads (calls.Read object page off) len h.3)
 call_again (calls.Write object page off bytes) h =
     args_again verbs.Write _ _
     (step (name_at object) object (λ o. number_at (decimal page) >>= λ p. number_at (decimal off) >>= λ f. hex_at (encode_lower bytes) >>= λ b. Ok (calls.Write o p f b)) (name_reads.again object h.0)
-      ∙ step (number_at (decimal page)) page (λ p. number_at (decimal off) >>= λ f. hex_at (encode_lower bytes) >>= λ b. Ok (calls.Write object p f b)) (number_reads.again page h.1)
-      ∙ step (number_at (decimal off)) off (λ f. hex_at (encode_lower bytes) >>= λ b. Ok (calls.Write object page f b)) (number_reads.again off h.2)
-      ∙ one_again hex_reads (calls.Write object page off) bytes h.3)
+    ∙ step (number_at (decimal page)) page (λ p. number_at (decimal off) >>= λ f. hex_at (encode_lower bytes) >>= λ b. Ok (calls.Write object p f b)) (number_reads.again page h.1)
+    ∙ step (number_at (decimal off)) off (λ f. hex_at (encode_lower bytes) >>= λ b. Ok (calls.Write object page f b)) (number_reads.again off h.2)
+    ∙ one_again hex_reads (calls.Write object page off) bytes h.3)
 call_again (calls.Clear object page) h = args_again verbs.Clear _ _ (step (name_at object) object (λ o. number_at (decimal page) >>= λ p. Ok (calls.Clear o p)) (name_reads.again object h.0) ∙ one_again number_reads (calls.Clear object) page h.1)
 call_again (calls.Sync object) h = args_again verbs.Sync _ _ (one_again name_reads calls.Sync object h)
 call_again (calls.Clean object) h = args_again verbs.Clean _ _ (one_again name_reads calls.Clean object h)
 call_again (calls.Map region object address pages write) h =
     args_again verbs.Map _ _
     (step (name_at region) region (λ r. name_at object >>= λ o. mode_at (mode_word write) >>= λ m. address_at (decimal address) >>= λ a. number_at (decimal pages) >>= λ p. Ok (calls.Map r o a p m)) (name_reads.again region h.0)
-      ∙ step (name_at object) object (λ o. mode_at (mode_word write) >>= λ m. address_at (decimal address) >>= λ a. number_at (decimal pages) >>= λ p. Ok (calls.Map region o a p m)) (name_reads.again object h.1)
-      ∙ step (mode_at (mode_word write)) write (λ m. address_at (decimal address) >>= λ a. number_at (decimal pages) >>= λ p. Ok (calls.Map region object a p m)) (mode_reads.again write tt)
-      ∙ step (address_at (decimal address)) address (λ a. number_at (decimal pages) >>= λ p. Ok (calls.Map region object a p write)) (address_reads.again address h.2)
-      ∙ one_again number_reads (λ p. calls.Map region object address p write) pages h.3)
+    ∙ step (name_at object) object (λ o. mode_at (mode_word write) >>= λ m. address_at (decimal address) >>= λ a. number_at (decimal pages) >>= λ p. Ok (calls.Map region o a p m)) (name_reads.again object h.1)
+    ∙ step (mode_at (mode_word write)) write (λ m. address_at (decimal address) >>= λ a. number_at (decimal pages) >>= λ p. Ok (calls.Map region object a p m)) (mode_reads.again write tt)
+    ∙ step (address_at (decimal address)) address (λ a. number_at (decimal pages) >>= λ p. Ok (calls.Map region object a p write)) (address_reads.again address h.2)
+    ∙ one_again number_reads (λ p. calls.Map region object address p write) pages h.3)
 call_again (calls.Unmap region) h = args_again verbs.Unmap _ _ (one_again name_reads calls.Unmap region h)
 call_again (calls.Load address len) h = args_again verbs.Load _ _ (step (address_at (decimal address)) address (λ a. number_at (decimal len) >>= λ l. Ok (calls.Load a l)) (address_reads.again address h.0) ∙ one_again number_reads (calls.Load address) len h.1)
 call_again (calls.Store address bytes) h = args_again verbs.Store _ _ (step (address_at (decimal address)) address (λ a. hex_at (encode_lower bytes) >>= λ b. Ok (calls.Store a b)) (address_reads.again address h.0) ∙ one_again hex_reads (calls.Store address) bytes h.1)

@@ -1,5 +1,5 @@
 -- A call that is read is spelled so, and a call that is spelled so is read.
-use Rattle.std.proofs.Common.{◌≡◌, ℕ, ◌+◌, ◌≤◌, List, [], ◌∷◌, ◌++◌, length, codes, Bool, true, false, cond, Option, Some, None, Result, Ok, Err, refl, sym, ap, subst, ◌∙◌, arith, lit≤, inl, inr, ◌⊎◌}
+use Rattle.std.proofs.Common.{◌≡◌, ℕ, List, [], ◌∷◌, Bool, true, false, cond, Option, Some, Result, Ok, refl, sym, ap, subst, ◌∙◌, inl, inr, ◌⊎◌}
 use Rattle.std.specs.Str.{bytes_eq}
 use Rattle.script_text.specs.declared.script.Call.{Call}
 use Rattle.script_text.specs.declared.script.Call.TheVariants as calls
@@ -8,8 +8,8 @@ use Rattle.script_text.specs.declared.verb.Verb.TheVariants as verbs
 use Rattle.script_text.specs.declared.why.ScriptWhy.{ScriptWhy}
 use Rattle.script_text.specs.declared.why.ScriptWhy.TheVariants as why
 use Rattle.script_text.specs.Grammar.{IsCall, call_words, verb_word}
-use Rattle.script_text.specs.Reading.{◌>>=◌, or_why, named, all_verbs, verb_at, one_at, two_at, bind_at, read_at, write_at, map_at, four_at, five_at, args_at, call_at, name_at, mode_at, address_at, number_at}
-use Rattle.script_text.proofs.Fields.{Reads, done, ok_is, bind_ok, step, some_of, same_word, name_reads, path_reads, root_reads, sub_reads, mode_reads, number_reads, address_reads, hex_reads}
+use Rattle.script_text.specs.Reading.{◌>>=◌, named, all_verbs, verb_at, one_at, two_at, bind_at, read_at, write_at, map_at, four_at, five_at, args_at, call_at, name_at, mode_at, address_at, number_at}
+use Rattle.script_text.proofs.Fields.{Reads, ok_is, bind_ok, some_of, same_word, name_reads, path_reads, root_reads, sub_reads, mode_reads, number_reads, address_reads, hex_reads}
 
 -- the verb that a word is has that word
 found_first : (b : Bool) (u v : Verb) (rest : Option Verb) → cond b (Some u) rest ≡ Some v → ((b ≡ true) × (u ≡ v)) ⊎ (rest ≡ Some v)
@@ -59,7 +59,7 @@ four_found {ra = ra} {wa = wa} RA {rb = rb} {wb = wb} RB {rc = rc} RC {rd = rd} 
     let g = RB.found b t.0 t.1 in
     subst (λ (w : List ℕ). P call w b c d) (sym f.0)
     (subst (λ (w : List ℕ). P call (wa s.0) w c d) (sym g.0)
-      (two_found RC RD (make s.0 t.0) (λ k v w. P k (wa s.0) (wb t.0) v w) (so s.0 f.1 t.0 g.1) c d call t.2))
+    (two_found RC RD (make s.0 t.0) (λ k v w. P k (wa s.0) (wb t.0) v w) (so s.0 f.1 t.0 g.1) c d call t.2))
 
 -- a call, and its words
 abbrev Spells : Verb → Call → List (List ℕ) → Type 0

@@ -1,8 +1,7 @@
 -- The clients of a script: their names and numbers.
-use Rattle.std.proofs.Common.{◌≡◌, ℕ, zero, suc, ◌+◌, ◌<◌, ◌≤◌, List, [], ◌∷◌, ◌++◌, length, get_or, Bool, true, false, not, cond, ◌&&◌, ◌||◌, Option, Some, None, Result, Ok, Err, refl, sym, ap, subst, ◌∙◌, arith, inl, inr, ◌⊎◌}
-use Rattle.std.specs.List.{AllByRecursion, list_any}
+use Rattle.std.proofs.Common.{◌≡◌, ℕ, zero, suc, ◌+◌, ◌<◌, ◌≤◌, List, [], ◌∷◌, ◌++◌, length, get_or, Bool, true, false, cond, Option, Some, refl, sym, ap, ◌∙◌, arith, inl, inr, ◌⊎◌}
 use Rattle.std.specs.Str.{bytes_eq}
-use Rattle.std.proofs.lemmas.Bool.{cases_Bool, or_parts, or_from, false_from_ne_true}
+use Rattle.std.proofs.lemmas.Bool.{or_parts, or_from, false_from_ne_true}
 use Rattle.std.proofs.lemmas.Slice.Eq.{bytes_eq-Decides}
 use Rattle.script_text.specs.declared.script.ClientLine.{ClientLine}
 use Rattle.script_text.specs.Grammar.{has_client, AreDistinct, client_name}
@@ -48,9 +47,9 @@ place_found from name (c ∷ clients) n e =
       | inl h ↦ (0, omega (arith, h.1), omega arith, same_word c.name name h.0)
       | inr rest ↦ let r = place_found (suc from) name clients n rest in (suc r.0, omega (arith, r.1), omega (arith, r.2), r.3)
     ] where
-  first_or : (b : Bool) (m k : ℕ) (rest : Option ℕ) → cond b (Some m) rest ≡ Some k → ((b ≡ true) × (m ≡ k)) ⊎ (rest ≡ Some k)
-  first_or true m k rest e = inl (refl, cc)
-  first_or false m k rest e = inr e
+      first_or : (b : Bool) (m k : ℕ) (rest : Option ℕ) → cond b (Some m) rest ≡ Some k → ((b ≡ true) × (m ≡ k)) ⊎ (rest ≡ Some k)
+      first_or true m k rest e = inl (refl, cc)
+      first_or false m k rest e = inr e
 
 has_named : (name : List ℕ) (clients : List ClientLine) (i : ℕ) → i < length clients → client_name clients i ≡ name → has_client name clients ≡ false → ⊥
 has_named name [] i lt e h = absurd (omega arith)

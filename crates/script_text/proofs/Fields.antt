@@ -1,5 +1,5 @@
 -- Words in their places: what is read is spelled so, and what is spelled so is read.
-use Rattle.std.proofs.Common.{◌≡◌, ℕ, ◌+◌, ◌≤◌, ◌<◌, ◌^◌, List, [], ◌∷◌, ◌++◌, length, codes, Bool, true, false, cond, ◌&&◌, eqb, leb, Option, Some, None, Result, Ok, Err, refl, sym, ap, subst, ◌∙◌, arith, lit≤, inl, inr, ◌⊎◌}
+use Rattle.std.proofs.Common.{◌≡◌, ℕ, ◌≤◌, List, [], ◌∷◌, ◌++◌, length, codes, Bool, true, false, cond, ◌&&◌, eqb, leb, Option, Some, None, Result, Ok, Err, refl, ap, subst, ◌∙◌, arith, lit≤, inl, inr, ◌⊎◌}
 use Rattle.std.specs.List.{flat_map, list_all}
 use Rattle.std.proofs.lemmas.Bool.{and_parts}
 use Rattle.std.proofs.lemmas.Bool.Decides.{nat_tests}
@@ -16,7 +16,6 @@ use Rattle.text_words.proofs.NumberLaws.{number_is, number_again}
 use Rattle.text_words.proofs.HexLaws.{hex_is, hex_again}
 use Rattle.text_words.proofs.WordLaws.{path_is, path_again}
 use Rattle.text_words.proofs.Spellings.{name_word, name_length, decimal_word, number_length, address_length, hex_word, hex_length, path_is_word, path_length}
-use Rattle.script_text.specs.declared.script.Call.{Call}
 use Rattle.script_text.specs.declared.script.Sub.{Sub}
 use Rattle.script_text.specs.declared.script.Sub.TheVariants as subs
 use Rattle.script_text.specs.declared.why.ScriptWhy.{ScriptWhy}

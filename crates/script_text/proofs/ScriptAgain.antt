@@ -1,15 +1,14 @@
 -- A script that is spelled is read again.
-use Rattle.std.proofs.Common.{◌≡◌, ℕ, zero, suc, ◌+◌, ◌<◌, ◌≤◌, List, [], ◌∷◌, ◌++◌, length, map, codes, Bool, true, false, not, cond, ◌&&◌, ◌||◌, eqb, ltb, leb, Option, Some, None, Result, Ok, Err, refl, sym, ap, subst, ◌∙◌, arith, append_assoc, length-append, zero-add, lit≤}
+use Rattle.std.proofs.Common.{◌≡◌, ℕ, zero, suc, ◌+◌, ◌<◌, ◌≤◌, List, [], ◌∷◌, ◌++◌, length, map, codes, true, false, not, cond, ◌&&◌, ◌||◌, eqb, ltb, leb, Some, Result, Ok, Err, refl, sym, ap, subst, ◌∙◌, arith, append_assoc, length-append, zero-add, lit≤}
 use Rattle.std.specs.Prelude.{IsTrue}
 use Rattle.std.specs.List.{AllByRecursion, flat_map, join_with_byte}
 use Rattle.std.specs.Str.{bytes_eq}
 use Rattle.std.proofs.lemmas.Bool.{and_parts, and_from, or_parts, or_from, not-true, le-ltb, lt-leb, ne_eqb, cond-true, cond-false}
 use Rattle.std.proofs.lemmas.List.{append-nil, length-map}
 use Rattle.text_words.specs.Words.{is_name, IsName}
-use Rattle.text_words.specs.Lines.{Row, rows_of, words_at, words_row, AreWords, IsWord, text_of}
+use Rattle.text_words.specs.Lines.{words_at, words_row, AreWords}
 use Rattle.text_words.proofs.LineLaws.{words_again, rows_again}
 use Rattle.text_words.proofs.Spellings.{name_word, name_length}
-use Rattle.script_text.specs.declared.script.Call.{Call}
 use Rattle.script_text.specs.declared.script.CallLine.{CallLine}
 use Rattle.script_text.specs.declared.script.ClientLine.{ClientLine}
 use Rattle.script_text.specs.declared.script.Script.{Script}
@@ -17,9 +16,9 @@ use Rattle.script_text.specs.declared.why.ScriptWhy.{ScriptWhy}
 use Rattle.script_text.specs.declared.why.ScriptWhy.TheVariants as why
 use Rattle.script_text.specs.declared.why.Refused.{Refused}
 use Rattle.script_text.specs.Grammar.{IsCall, IsClient, is_client_name, has_client, AreDistinct, AreCalls, ArePhases, client_words, client_name, call_line_words, phase_lines, script_lines, spelling, IsScript, call_words}
-use Rattle.script_text.specs.Reading.{◌>>=◌, or_why, new_client_at, client_at, phase_at, place_from, onto_last, call_at, call_line_at, words_line_at, of_words, line_at, go_on, lines_at, script_at}
+use Rattle.script_text.specs.Reading.{◌>>=◌, or_why, new_client_at, place_from, onto_last, call_at, call_line_at, words_line_at, of_words, line_at, go_on, lines_at, script_at}
 use Rattle.script_text.proofs.Fields.{step}
-use Rattle.script_text.proofs.CallAgain.{call_again, call_fits, cost, joined_cost, Fits, fits_more}
+use Rattle.script_text.proofs.CallAgain.{call_again, call_fits, joined_cost, Fits, fits_more}
 use Rattle.script_text.proofs.ClientLaws.{new_here, place_again}
 use Rattle.script_text.proofs.Phases.{onto_last_of, phases_length}
 

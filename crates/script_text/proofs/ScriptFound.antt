@@ -1,5 +1,5 @@
 -- A script that is read is spelled so, each line of it.
-use Rattle.std.proofs.Common.{◌≡◌, ℕ, zero, suc, ◌+◌, ◌<◌, ◌≤◌, List, [], ◌∷◌, ◌++◌, length, map, codes, Bool, true, false, not, cond, ◌&&◌, ◌||◌, eqb, ltb, leb, Option, Some, None, Result, Ok, Err, refl, sym, ap, subst, ◌∙◌, arith, append_assoc, length-append, inl, inr, ◌⊎◌}
+use Rattle.std.proofs.Common.{◌≡◌, ℕ, zero, suc, ◌+◌, ◌<◌, ◌≤◌, List, [], ◌∷◌, ◌++◌, length, map, codes, Bool, true, false, cond, ◌&&◌, ◌||◌, eqb, ltb, leb, Result, Ok, Err, refl, sym, ap, subst, ◌∙◌, arith, append_assoc, length-append, inl, inr}
 use Rattle.std.specs.List.{AllByRecursion, flat_map}
 use Rattle.std.specs.Str.{bytes_eq}
 use Rattle.std.proofs.lemmas.Bool.{and_parts, or_parts, ltb-false, leb-false, eqb-false, cases_Bool, cond-true, cond-false}
@@ -15,7 +15,7 @@ use Rattle.script_text.specs.declared.script.Script.{Script}
 use Rattle.script_text.specs.declared.why.ScriptWhy.{ScriptWhy}
 use Rattle.script_text.specs.declared.why.ScriptWhy.TheVariants as why
 use Rattle.script_text.specs.declared.why.Refused.{Refused}
-use Rattle.script_text.specs.Grammar.{IsCall, IsClient, is_client_name, has_client, AreDistinct, ArePhases, client_words, client_name, call_line_words, phase_lines, script_lines, spelling, IsScript, call_words}
+use Rattle.script_text.specs.Grammar.{IsCall, IsClient, is_client_name, has_client, client_words, client_name, call_line_words, phase_lines, script_lines, spelling, IsScript, call_words}
 use Rattle.script_text.specs.Reading.{◌>>=◌, or_why, new_client_at, client_at, phase_at, place_from, onto_last, call_at, call_line_at, words_line_at, of_words, line_at, go_on, lines_at, script_at}
 use Rattle.script_text.proofs.Fields.{done, ok_is, bind_ok, some_of, same_word}
 use Rattle.script_text.proofs.CallLaws.{call_found}
@@ -47,7 +47,7 @@ client_longer : (clients : List ClientLine) (c : ClientLine) (n : ℕ) → IsScr
     → length clients < 16 → has_client c.name clients ≡ false → IsClient c → Longer (record { clients = clients; phases = [] }) (client_words c) (record { clients = clients ++ c ∷ []; phases = [] })
 client_longer clients c n s count few room new is =
     let lines : script_lines (record { clients = clients ++ c ∷ []; phases = [] }) ≡ script_lines (record { clients = clients; phases = [] }) ++ client_words c ∷ [] =
-      append-nil (map client_words (clients ++ c ∷ [])) ∙ map-append client_words clients (c ∷ []) ∙ ap (λ (ls : List (List (List ℕ))). ls ++ client_words c ∷ []) (sym (append-nil (map client_words clients))) in
+    append-nil (map client_words (clients ++ c ∷ [])) ∙ map-append client_words clients (c ∷ []) ∙ ap (λ (ls : List (List (List ℕ))). ls ++ client_words c ∷ []) (sym (append-nil (map client_words clients))) in
     record {
       is = record {
         clients = clients_more clients c s.clients is;
@@ -88,19 +88,19 @@ phase_found s (word ∷ words) n t is count few e = absurd cc
 phase_found s [] n t is count few e =
     let longer : Script = record { clients = s.clients; phases = s.phases ++ [] ∷ [] } in
     let lines : script_lines longer ≡ script_lines s ++ (codes "phase" ∷ []) ∷ [] =
-      ap (λ (ls : List (List (List ℕ))). map client_words s.clients ++ ls) (flat_map-append (phase_lines s.clients) s.phases ([] ∷ []))
-      ∙ sym (append_assoc (map client_words s.clients) (flat_map (phase_lines s.clients) s.phases) ((codes "phase" ∷ []) ∷ [])) in
+    ap (λ (ls : List (List (List ℕ))). map client_words s.clients ++ ls) (flat_map-append (phase_lines s.clients) s.phases ([] ∷ []))
+    ∙ sym (append_assoc (map client_words s.clients) (flat_map (phase_lines s.clients) s.phases) ((codes "phase" ∷ []) ∷ [])) in
     subst (λ (u : Script). Longer s (codes "phase" ∷ []) u) (ok_is longer t e)
     (record {
-        is = record {
-          clients = is.clients;
-          distinct = is.distinct;
-          few = is.few;
-          phases = phases_more (length s.clients) (suc (length s.clients)) s.phases is.phases;
-          lines = one_more s longer (codes "phase" ∷ []) n count few lines;
-        };
-        lines = lines;
-      })
+      is = record {
+        clients = is.clients;
+        distinct = is.distinct;
+        few = is.few;
+        phases = phases_more (length s.clients) (suc (length s.clients)) s.phases is.phases;
+        lines = one_more s longer (codes "phase" ∷ []) n count few lines;
+      };
+      lines = lines;
+    })
 
 some_phases : {A : Type 0} (b : Bool) (r : Result A ScriptWhy) (x : A) → cond b (Err why.Phase) r ≡ done x → (b ≡ false) × (r ≡ done x)
 some_phases true r x e = absurd cc
@@ -122,8 +122,8 @@ call_longer : (s : Script) (c : CallLine) (n : ℕ) → IsScript s → suc (leng
 call_longer s c n is count few some line client call =
     let longer : Script = record { clients = s.clients; phases = onto_last c s.phases } in
     let lines : script_lines longer ≡ script_lines s ++ call_line_words s.clients c ∷ [] =
-      ap (λ (ls : List (List (List ℕ))). map client_words s.clients ++ ls) (onto_lines s.clients s.phases c some)
-      ∙ sym (append_assoc (map client_words s.clients) (flat_map (phase_lines s.clients) s.phases) (call_line_words s.clients c ∷ [])) in
+    ap (λ (ls : List (List (List ℕ))). map client_words s.clients ++ ls) (onto_lines s.clients s.phases c some)
+    ∙ sym (append_assoc (map client_words s.clients) (flat_map (phase_lines s.clients) s.phases) (call_line_words s.clients c ∷ [])) in
     let both = length-append (map client_words s.clients) (flat_map (phase_lines s.clients) s.phases) in
     let mapped = length-map s.clients client_words in
     let place : c.line ≡ suc (length s.clients) + length (flat_map (phase_lines s.clients) s.phases) = omega arith in
@@ -154,7 +154,7 @@ call_line_found s who words n t is count few e =
     let spelled : call_line_words s.clients c ≡ who ∷ words = ap (λ (w : List ℕ). w ∷ call_words b.0) named ∙ ap (λ (ws : List (List ℕ)). who ∷ ws) (sym call.1) in
     subst (λ (u : Script). Longer s (who ∷ words) u) (ok_is (record { clients = s.clients; phases = onto_last c s.phases }) t b.2)
     (subst (λ (ws : List (List ℕ)). Longer s ws (record { clients = s.clients; phases = onto_last c s.phases })) spelled
-      (call_longer s c n is count few some refl inside call.0))
+    (call_longer s c n is count few some refl inside call.0))
 
 words_found : (s : Script) (words : List (List ℕ)) (n : ℕ) (t : Script) → IsScript s → suc (length (script_lines s)) ≡ n → n ≤ 2097152 → words_line_at s n words ≡ Ok t → Longer s words t
 words_found s [] n t is count few e = absurd cc

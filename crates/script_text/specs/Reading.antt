@@ -1,8 +1,7 @@
 -- Reading a script line by line, with the first bad line and the first reason why it is bad.
-use Rattle.std.specs.Prelude.{◌≡◌, ℕ, suc, ◌&&◌, ◌||◌, not, nat_lt, nat_le, ◌==◌, List, [], ◌∷◌, ◌++◌, length, codes, Bool, true, false, if◌then◌else◌, Option, Some, None, Result, Ok, Err, ◌⊎◌}
+use Rattle.std.specs.Prelude.{◌≡◌, ℕ, suc, ◌&&◌, ◌||◌, nat_lt, nat_le, ◌==◌, List, [], ◌∷◌, ◌++◌, length, codes, Bool, true, false, if◌then◌else◌, Option, Some, None, Result, Ok, Err, ◌⊎◌}
 use Rattle.std.specs.Str.{bytes_eq}
 use Rattle.text_words.specs.declared.lines.LineWhy.{LineWhy}
-use Rattle.text_words.specs.declared.lines.LineWhy.TheVariants as line_why
 use Rattle.text_words.specs.Words.{is_name, hex_of, path_of}
 use Rattle.text_words.specs.Numbers.{number_of, address_of}
 use Rattle.text_words.specs.Lines.{Row, rows_of, words_at}
@@ -19,7 +18,7 @@ use Rattle.script_text.specs.declared.script.Script.{Script}
 use Rattle.script_text.specs.declared.verb.Verb.{Verb}
 use Rattle.script_text.specs.declared.verb.Verb.TheVariants as verbs
 use Rattle.script_text.specs.Why.{from_line}
-use Rattle.script_text.specs.Grammar.{verb_word, sub_word, is_client_name, has_client}
+use Rattle.script_text.specs.Grammar.{verb_word, is_client_name, has_client}
 
 -- the next step, where there was no reason to refuse
 infixl 10 ◌>>=◌
@@ -159,7 +158,7 @@ unfoldable pub call_line_at : Script → ℕ → List ℕ → List (List ℕ) �
 call_line_at script number who words =
     if length script.phases == 0 then Err why.Phase
     else or_why why.Who (place_from 0 who script.clients) >>= λ client. call_at words
-      >>= λ call. Ok (record { clients = script.clients; phases = onto_last (record { line = number; client = client; call = call }) script.phases })
+    >>= λ call. Ok (record { clients = script.clients; phases = onto_last (record { line = number; client = client; call = call }) script.phases })
 
 -- a line of words: what it is goes by its first word
 abbrev pub words_line_at : Script → ℕ → List (List ℕ) → Result Script ScriptWhy

@@ -3,7 +3,9 @@
 ghost use Rattle.std.specs.Prelude.{◌≡◌, ◌∷◌, [], map};
 ghost use Rattle.script_text.specs.Reading.{Gives, one_at, two_at, bind_at, read_at, write_at, map_at, four_at, five_at, args_at, call_at};
 
-use crate::args::{address_of, hex_of, mode_of, name_of, number_of, path_of, root_or_path_of, sub_of};
+use crate::args::{
+    address_of, hex_of, mode_of, name_of, number_of, path_of, root_or_path_of, sub_of,
+};
 use crate::script::Call;
 use crate::verb::{Verb, verb_of};
 use crate::why::ScriptWhy;
@@ -91,13 +93,7 @@ fn two(alloc: Global, verb: Verb, first: &[u8], second: &[u8]) -> Result<Call, S
 }
 
 #[tactic(auto, unfolding(crate::specs::Reading::bind_at))]
-fn bind(
-    alloc: Global,
-    path: &[u8],
-    sub: &[u8],
-    view: &[u8],
-    file: &[u8],
-) -> Result<Call, ScriptWhy>
+fn bind(alloc: Global, path: &[u8], sub: &[u8], view: &[u8], file: &[u8]) -> Result<Call, ScriptWhy>
     ensures { Gives result (bind_at path.now sub.now view.now file.now) }
 {
     let path = path_of(alloc, path)?;

@@ -1,6 +1,7 @@
 //! Scripts: their texts, what they say, and the answers to their lines.
 #![tactic(auto)]
 
+mod answer;
 mod args;
 mod calls;
 mod lines;
@@ -10,6 +11,7 @@ mod script;
 mod verb;
 mod why;
 
+pub use answer::put_reply;
 pub use parse::parse_script;
 pub use print::print_script;
 pub use script::{Call, CallLine, ClientLine, Reply, Said, Script, Sub};

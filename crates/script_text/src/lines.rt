@@ -50,7 +50,9 @@ fn new_client(
     ensures clients { IfOk result (λ longer. length longer.clients ≤ 16) }
 {
     let clients = script.clients.as_slice();
-    if !script.phases.as_slice().is_empty() || clients.len() >= CLIENTS || has_client(clients, name)
+    if !script.phases.as_slice().is_empty()
+        || clients.len() >= CLIENTS
+        || has_client(clients, name)
     {
         return Err(ScriptWhy::Client);
     }

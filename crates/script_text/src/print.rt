@@ -34,7 +34,11 @@ fn put_root_or_path(out: &mut Vec<u8>, path: &Option<Path>) -> Result<(), AllocE
 fn put_mode(out: &mut Vec<u8>, write: bool) -> Result<(), AllocError>
     ensures { OnOk result (out.new.items ≡ out.old.items ++ 32 ∷ mode_word write) }
 {
-    if write { put_word(out, b"w") } else { put_word(out, b"r") }
+    if write {
+        put_word(out, b"w")
+    } else {
+        put_word(out, b"r")
+    }
 }
 
 /// Appends the words of a call, each with a space before it.
@@ -46,7 +50,12 @@ fn put_call(alloc: Global, out: &mut Vec<u8>, call: &Call) -> Result<(), AllocEr
             put_word(out, Verb::Context.word())?;
             put_path(out, path)
         }
-        Call::Bind { path, sub, view, file } => {
+        Call::Bind {
+            path,
+            sub,
+            view,
+            file,
+        } => {
             put_word(out, Verb::Bind.word())?;
             put_path(out, path)?;
             put_word(out, sub_word(*sub))?;
@@ -75,14 +84,24 @@ fn put_call(alloc: Global, out: &mut Vec<u8>, call: &Call) -> Result<(), AllocEr
             put_word(out, Verb::Drop.word())?;
             put_word(out, object.as_str().as_bytes())
         }
-        Call::Read { object, page, off, len } => {
+        Call::Read {
+            object,
+            page,
+            off,
+            len,
+        } => {
             put_word(out, Verb::Read.word())?;
             put_word(out, object.as_str().as_bytes())?;
             put_number(out, u64::from(*page))?;
             put_number(out, u64::from(*off))?;
             put_number(out, u64::from(*len))
         }
-        Call::Write { object, page, off, bytes } => {
+        Call::Write {
+            object,
+            page,
+            off,
+            bytes,
+        } => {
             put_word(out, Verb::Write.word())?;
             put_word(out, object.as_str().as_bytes())?;
             put_number(out, u64::from(*page))?;
@@ -102,7 +121,13 @@ fn put_call(alloc: Global, out: &mut Vec<u8>, call: &Call) -> Result<(), AllocEr
             put_word(out, Verb::Clean.word())?;
             put_word(out, object.as_str().as_bytes())
         }
-        Call::Map { region, object, address, pages, write } => {
+        Call::Map {
+            region,
+            object,
+            address,
+            pages,
+            write,
+        } => {
             put_word(out, Verb::Map.word())?;
             put_word(out, region.as_str().as_bytes())?;
             put_word(out, object.as_str().as_bytes())?;
@@ -205,6 +230,11 @@ pub fn print_script(alloc: Global, script: &Script) -> Result<Bytes, AllocError>
 {
     let mut out = Vec::new(alloc);
     put_clients(&mut out, script.clients.as_slice())?;
-    put_phases(alloc, &mut out, script.clients.as_slice(), script.phases.as_slice())?;
+    put_phases(
+        alloc,
+        &mut out,
+        script.clients.as_slice(),
+        script.phases.as_slice(),
+    )?;
     Ok(Bytes::from_vec(out))
 }

@@ -87,10 +87,10 @@ decimal_again n small =
     let digits : list_all is_ascii_digit (decimal n) ≡ true = digits_decimal own n small in
     let some : ltb 0 (length (decimal n)) ≡ true = lt-ltb 0 (length (decimal n)) (decimal_nonempty n small) in
     let first : (not (eqb (get_or (decimal n) 0 0) 48) || eqb (length (decimal n)) 1) ≡ true =
-      elim (cases_eq n 0) [
-        | inl e ↦ one_digit n e
-        | inr more ↦ first_digit (get_or (decimal n) 0 0) (length (decimal n)) (first_decimal n (omega arith) small)
-      ] in
+    elim (cases_eq n 0) [
+      | inl e ↦ one_digit n e
+      | inr more ↦ first_digit (get_or (decimal n) 0 0) (length (decimal n)) (first_decimal n (omega arith) small)
+    ] in
     and_from _ _ (and_from _ _ digits some) first
 
 -- what is written as a number is read

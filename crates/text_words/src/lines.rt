@@ -123,5 +123,4 @@ pub fn words_of(alloc: Global, line: Line<'_>) -> Result<Vec<&[u8]>, LineWhy>
 pub fn lines_and_text()
     ensures split_joined { (text : List ℕ) → flat_map row_bytes (rows_of text) ≡ text }
     ensures joined_split { (lines : List (List (List ℕ))) → AllByRecursion AreWords lines → rows_of (text_of lines) ≡ map words_row lines }
-{
-}
+{}

@@ -49,7 +49,10 @@ fn words(rt: HostRuntime) -> Result<(), Fail> {
     ] {
         assert_eq!(rt; number(word), value);
     }
-    assert_eq!(rt; address(b"9223372036854775807"), Some(9_223_372_036_854_775_807));
+    assert_eq!(rt;
+        address(b"9223372036854775807"),
+        Some(9_223_372_036_854_775_807)
+    );
     assert_eq!(rt; address(b"9223372036854775808"), None);
     assert_eq!(rt; address(b"99999999999999999999999"), None);
     let bytes = hex_bytes(rt.alloc(), b"00ff1a")?.ok_or("hex")?;
@@ -59,7 +62,15 @@ fn words(rt: HostRuntime) -> Result<(), Fail> {
     }
     let path = read_path(rt.alloc(), b"a/b_1/c")?.ok_or("a path")?;
     assert_eq!(rt; path.as_slice().len(), 3);
-    for word in [b"".as_slice(), b"/", b"a/", b"/a", b"a//b", b"a/B", b"a/b/c/d/e/f/g/h/i"] {
+    for word in [
+        b"".as_slice(),
+        b"/",
+        b"a/",
+        b"/a",
+        b"a//b",
+        b"a/B",
+        b"a/b/c/d/e/f/g/h/i",
+    ] {
         assert!(rt; read_path(rt.alloc(), word)?.is_none());
     }
     assert_eq!(rt; text_of_name(rt.alloc(), b"f")?.as_str(), "f");
@@ -98,6 +109,9 @@ fn printing(rt: HostRuntime) -> Result<(), Fail> {
     put_path(&mut out, &path)?;
     put_spaced(&mut out, &[b"y", b"z"])?;
     put_line(&mut out, &[b"", b"q", b"r"])?;
-    assert_eq!(rt; out.as_slice(), b"x read 18446744073709551615 00ab c/f y z q r\n".as_slice());
+    assert_eq!(rt;
+        out.as_slice(),
+        b"x read 18446744073709551615 00ab c/f y z q r\n".as_slice()
+    );
     Ok(())
 }
