@@ -16,3 +16,6 @@ pub use parse::parse_script;
 pub use print::print_script;
 pub use script::{Call, CallLine, ClientLine, Reply, Said, Script, Sub};
 pub use why::{Refused, ScriptWhy};
+
+#[cfg(test)]
+mod tests;
