@@ -5,3 +5,5 @@ pub mod Texts
 pub mod Calls
 pub mod Blocks
 pub mod Memory
+pub mod MemoryTexts
+pub mod MemoryBay

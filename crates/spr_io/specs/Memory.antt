@@ -1,5 +1,5 @@
 -- A store in memory.
-use Rattle.std.specs.Prelude.{ℕ, List, [], slice_set, if◌then◌else◌}
+use Rattle.std.specs.Prelude.{ℕ, List, [], Bool, length, ◌==◌, ◌&&◌, slice_set, if◌then◌else◌}
 use Rattle.spr_io.specs.Calls.{Calls, fails, one_more, no_calls, count_after}
 use Rattle.spr_io.specs.Content.{Content, zeros}
 
@@ -35,3 +35,7 @@ after_flush s = record s {
   flushes = one_more s.flushes;
   count = count_after s.flushes s.count;
 }
+
+-- whether a store has this block size and number of blocks
+abbrev pub fits_shape : ℕ → ℕ → Mem → Bool
+fits_shape size blocks store = (store.size == size) && (length store.content.blocks == blocks)

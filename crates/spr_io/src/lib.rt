@@ -3,8 +3,11 @@
 
 mod blocks;
 mod memory;
+mod memory_bay;
+mod memory_texts;
 mod ordinals;
 mod outside;
 
 pub use memory::MemStore;
+pub use memory_texts::{MemShelf, MemSink};
 pub use outside::{Bay, BayErr, Failed, Gate, OpenGate, Shelf, ShelfErr, Sink, Store};

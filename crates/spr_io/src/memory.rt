@@ -1,10 +1,10 @@
 //! A store in memory.
 
-ghost use Rattle.std.specs.Prelude.{◌≡◌, ◌<◌, ◌↔◌, IsTrue, IfOk, OnOk, OnErr, IsErr, is_err, length, slice_get, Some};
+ghost use Rattle.std.specs.Prelude.{◌≡◌, ◌<◌, IsTrue, IfOk, OnOk, OnErr, IsErr, is_err, length, slice_get, Some};
 ghost use Rattle.spr_io.specs.Causes.{Counts};
 ghost use Rattle.spr_io.specs.Calls.{fails, one_more, count_after};
 ghost use Rattle.spr_io.specs.Content.{KeepsShape};
-ghost use Rattle.spr_io.specs.Memory.{new_store, after_read, after_write, after_flush};
+ghost use Rattle.spr_io.specs.Memory.{new_store, after_read, after_write, after_flush, fits_shape};
 
 use crate::blocks::Blocks;
 use crate::ordinals::Calls;
@@ -57,7 +57,7 @@ impl MemStore {
 
     /// Whether it has this size and number of blocks.
     pub fn has_shape(&self, size: u32, blocks: u32) -> bool
-        ensures { IsTrue result ↔ ((self.now.size ≡ size) × (length self.now.content.blocks ≡ blocks)) }
+        ensures { result ≡ fits_shape size blocks self.now }
     {
         self.held.size() == size && self.held.number() == blocks
     }
