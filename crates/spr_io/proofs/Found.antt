@@ -1,10 +1,11 @@
 -- The first element that passes a test, before and after one is replaced or appended.
-use Rattle.std.proofs.Common.{◌≡◌, ℕ, zero, suc, ◌+◌, ◌<◌, ◌≤◌, ltb, List, [], ◌∷◌, ◌++◌, length, get_or, find, position, Bool, true, false, cond, Option, Some, None, refl, sym, ap, subst, set, ◌∙◌, arith}
+use Rattle.std.proofs.Common.{◌≡◌, ℕ, zero, suc, ◌+◌, ◌<◌, ◌≤◌, ltb, List, [], ◌∷◌, ◌++◌, length, get_or, find, position, Bool, true, false, cond, not, Option, Some, None, refl, sym, ap, subst, set, ◌∙◌, arith, length-append}
 use Rattle.std.specs.List.{position_or_len}
 use Rattle.std.specs.Option.{option_or}
-use Rattle.std.proofs.lemmas.Bool.{ltb-true, ltb-false}
+use Rattle.std.proofs.lemmas.Bool.{ltb-true, ltb-false, lt-ltb, eq-eqb}
 use Rattle.std.proofs.lemmas.Option.{slice_get_past}
-use Rattle.std.proofs.lemmas.List.Folds.{find_at, find-set, find_past, find-append}
+use Rattle.std.proofs.lemmas.List.Folds.{find_at, find-set, find_past, find-append, position_or_len_push, length-prefix_len}
+use Rattle.std.proofs.lemmas.List.{length-take}
 
 pub record Finds {X : Type 0} (p : X → Bool) (xs : List X) (i : ℕ) : Type 0 where
   pub item : X
@@ -71,3 +72,13 @@ or_none (Some x) = refl
 
 pub appended_other : {X : Type 0} (q : X → Bool) (xs : List X) (y : X) → q y ≡ false → find q (xs ++ y ∷ []) ≡ find q xs
 appended_other q xs y fails = rw (find-append q xs (y ∷ []), fails) (or_none (find q xs))
+
+-- the place of an element that is appended where none passes
+pub place_added : {X : Type 0} (p : X → Bool) (xs : List X) (y : X) → position p xs ≡ None → p y ≡ true → position p (xs ++ y ∷ []) ≡ Some (length xs)
+place_added p xs y e passes =
+    let past : length xs ≤ position_or_len p xs = ltb-false _ _ (none_part _ _ e) in
+    let within : position_or_len p xs ≤ length xs = omega (arith, length-prefix_len (λ x. not (p x)) xs, length-take (position_or_len p xs) xs) in
+    let at : position_or_len p xs ≡ length xs = omega arith in
+    let here : position_or_len p (xs ++ y ∷ []) ≡ length xs = position_or_len_push p xs y ∙ rw (at, eq-eqb (length xs) (length xs) refl, passes) (omega arith) in
+    let longer : length xs < length (xs ++ y ∷ []) = rw length-append (omega arith) in
+    rw (here, lt-ltb (length xs) (length (xs ++ y ∷ [])) longer) refl

@@ -1,3 +1,4 @@
 pub mod Sound
 pub mod Found
 pub mod Named
+pub mod Slots

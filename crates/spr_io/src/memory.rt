@@ -3,7 +3,7 @@
 ghost use Rattle.std.specs.Prelude.{◌≡◌, ◌<◌, IsTrue, IfOk, OnOk, OnErr, IsErr, is_err, length, slice_get, Some};
 ghost use Rattle.spr_io.specs.Causes.{Counts};
 ghost use Rattle.spr_io.specs.Calls.{fails, one_more, count_after};
-ghost use Rattle.spr_io.specs.Content.{KeepsShape};
+ghost use Rattle.spr_io.specs.Content.{HasShape, KeepsShape};
 ghost use Rattle.spr_io.specs.Memory.{new_store, after_read, after_write, after_flush, fits_shape};
 
 use crate::blocks::Blocks;
@@ -44,7 +44,8 @@ impl MemStore {
         writes: &[u64],
         flushes: &[u64],
     ) -> Result<MemStore, AllocError>
-        ensures { IfOk result (λ store. store ≡ new_store size blocks reads.now writes.now flushes.now) }
+        ensures new { IfOk result (λ store. store ≡ new_store size blocks reads.now writes.now flushes.now) }
+        ensures shape { IfOk result (λ store. HasShape store.size (length store.content.blocks) store.content) }
     {
         Ok(MemStore {
             held: Blocks::new(alloc, size, blocks)?,
@@ -57,7 +58,8 @@ impl MemStore {
 
     /// Whether it has this size and number of blocks.
     pub fn has_shape(&self, size: u32, blocks: u32) -> bool
-        ensures { result ≡ fits_shape size blocks self.now }
+        ensures answer { result ≡ fits_shape size blocks self.now }
+        ensures shape { HasShape self.now.size (length self.now.content.blocks) self.now.content }
     {
         self.held.size() == size && self.held.number() == blocks
     }

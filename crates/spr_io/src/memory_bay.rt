@@ -1,13 +1,13 @@
 //! A bay of stores in memory.
 
-ghost use Rattle.std.specs.Prelude.{◌≡◌, ◌↔◌, ◌<◌, ◌∷◌, ◌++◌, [], ℕ, List, IsTrue, IfOk, OnOk, OnErr, IfErr, IsErr, IsOk, IfSome, IfNone, is_err, length, find, position, slice_set, true, false, Some, None};
+ghost use Rattle.std.specs.Prelude.{◌≡◌, ◌≢◌, ◌↔◌, ◌∷◌, ◌++◌, ◌&&◌, [], ℕ, List, IsTrue, IfOk, OnOk, OnErr, IfErr, IsErr, IsSome, IfSome, IfNone, length, position, not, is_none, true, false, Some, None, if◌then◌else◌};
 ghost use Rattle.std.specs.Option.{option_copied};
 ghost use Rattle.spr_io.specs.Causes.{HasCause};
 ghost use Rattle.spr_io.specs.Calls.{is_next_to_fail, one_more, no_calls, one_fault};
-ghost use Rattle.spr_io.specs.Content.{KeepsShape};
+ghost use Rattle.spr_io.specs.Content.{HasShape, KeepsShape};
 ghost use Rattle.spr_io.specs.Berth.{Opens, taken, given, lost, SameElsewhere, SameBerths};
 ghost use Rattle.spr_io.specs.Memory.{fits_shape};
-ghost use Rattle.spr_io.specs.MemoryBay.{is_slot, stored, berth_of, take_fails, give_fails, taken_store};
+ghost use Rattle.spr_io.specs.MemoryBay.{is_slot, slot_of, stored, in_slot, berth_of, SetsSlot, is_out, refuses_shape, take_fails, give_fails, taken_store};
 
 use crate::memory::MemStore;
 use crate::ordinals::{Calls, count_fault};
@@ -21,7 +21,7 @@ struct Slot {
     disk: String,
     file: String,
     store: Option<MemStore>,
-    /// The store's count of faults when it went out, or when it was lost.
+    /// The store's count of faults when it was put, taken, given back or lost last.
     count: u64,
 }
 
@@ -35,7 +35,7 @@ impl Model for Slot {
 }
 
 impl Slot {
-    /// A slot of a disk and a file.
+    /// An empty slot of a disk and a file.
     fn new(alloc: Global, disk: &str, file: &str) -> Result<Slot, AllocError>
         ensures { IfOk result (λ slot. slot ≡ record { disk = disk.now; file = file.now; store = None; count = 0 }) }
     {
@@ -62,7 +62,8 @@ impl Slot {
     /// Takes the store out, where it is there and has this shape.
     fn take(&mut self, size: u32, blocks: u32) -> Option<MemStore>
         ensures some { IfSome result (λ store. (self.old.store ≡ Some store) × (fits_shape size blocks store ≡ true) × (self.new ≡ record self.old { store = None; count = store.count })) }
-        ensures none { IfNone result ((self.new ≡ self.old) × IfSome self.old.store (λ store. fits_shape size blocks store ≡ false)) }
+        ensures shape { IfSome result (λ store. HasShape store.size (length store.content.blocks) store.content) }
+        ensures none { IfNone result ((self.new ≡ self.old) × (refuses_shape size blocks (Some self.old) ≡ true)) }
     {
         match &self.store {
             Some(store) if store.has_shape(size, blocks) => {
@@ -71,5 +72,145 @@ impl Slot {
             }
             _ => None,
         }
+    }
+
+    /// Puts a store in, whatever was there.
+    fn put(&mut self, store: MemStore)
+        ensures { self.new ≡ record self.old { store = Some store; count = store.count } }
+    {
+        self.count = store.count();
+        self.store = Some(store);
+    }
+
+    /// Puts a store in, where the slot is empty and the store is not refused; a refused one is lost.
+    fn give(&mut self, store: MemStore, refused: bool) -> bool
+        ensures answer { result ≡ (is_none self.old.store && not refused) }
+        ensures given { result ≡ true → self.new ≡ record self.old { store = Some store; count = store.count } }
+        ensures lost { self.old.store ≡ None → result ≡ false → self.new ≡ record self.old { count = store.count } }
+        ensures same { IfSome self.old.store (λ _. self.new ≡ self.old) }
+    {
+        if self.store.is_some() {
+            return false;
+        }
+        self.count = store.count();
+        if !refused {
+            self.store = Some(store);
+        }
+        !refused
+    }
+}
+
+/// Where the slot of a disk and a file stands.
+fn place_of(slots: &[Slot], disk: &str, file: &str) -> Option<usize>
+    ensures { result ≡ position (is_slot disk.now file.now) slots.now }
+{
+    slots.iter().position(|s| s.is_of(disk, file))
+}
+
+/// Adds an empty slot, and answers its place.
+fn add(alloc: Global, slots: &mut Vec<Slot>, disk: &str, file: &str) -> Result<usize, AllocError>
+    requires { position (is_slot disk.now file.now) slots.old.items ≡ None }
+    ensures place { IfOk result (λ at. position (is_slot disk.now file.now) slots.new.items ≡ Some at) }
+    ensures slots { OnOk result (SetsSlot disk.now file.now None 0 slots.old.items slots.new.items) }
+    ensures err { OnErr result (slots.new.items ≡ slots.old.items) }
+{
+    let at = slots.len();
+    slots.push(Slot::new(alloc, disk, file)?)?;
+    Ok(at)
+}
+
+/// Sets the store of a disk and a file.
+fn put(
+    alloc: Global,
+    slots: &mut Vec<Slot>,
+    disk: &str,
+    file: &str,
+    store: MemStore,
+) -> Result<(), (AllocError, MemStore)>
+    ensures ok { OnOk result (SetsSlot disk.now file.now (Some store) store.count slots.old.items slots.new.items) }
+    ensures err { IfErr result (λ e. (e.1 ≡ store) × (slots.new.items ≡ slots.old.items)) }
+{
+    match place_of(slots, disk, file) {
+        Some(at) => {
+            let slot = &mut slots[at];
+            slot.put(store);
+            Ok(())
+        }
+        None => match add(alloc, slots, disk, file) {
+            Ok(at) => {
+                let slot = &mut slots[at];
+                slot.put(store);
+                Ok(())
+            }
+            Err(AllocError) => Err((AllocError, store)),
+        },
+    }
+}
+
+/// Makes a store of zeros, and room for it when it is given back.
+fn make(
+    alloc: Global,
+    slots: &mut Vec<Slot>,
+    disk: &str,
+    file: &str,
+    size: u32,
+    blocks: u32,
+) -> Result<MemStore, AllocError>
+    requires { position (is_slot disk.now file.now) slots.old.items ≡ None }
+    ensures store { IfOk result (λ store. store ≡ taken_store size blocks None) }
+    ensures shape { IfOk result (λ store. HasShape size blocks store.content) }
+    ensures slots { OnOk result (SetsSlot disk.now file.now None 0 slots.old.items slots.new.items) }
+    ensures err { OnErr result (slots.new.items ≡ slots.old.items) }
+{
+    let store = MemStore::new(alloc, size, blocks, &[], &[], &[])?;
+    add(alloc, slots, disk, file)?;
+    Ok(store)
+}
+
+/// Takes the store of a disk and a file, or one of zeros where there is none.
+fn take(
+    alloc: Global,
+    slots: &mut Vec<Slot>,
+    disk: &str,
+    file: &str,
+    size: u32,
+    blocks: u32,
+) -> Result<MemStore, BayErr>
+    ensures fits { OnOk result (refuses_shape size blocks (slot_of slots.old.items disk.now file.now) ≡ false) }
+    ensures failed { result ≡ Err BayErr.Failed → refuses_shape size blocks (slot_of slots.old.items disk.now file.now) ≡ true }
+    ensures memory { result ≡ Err BayErr.Memory → slot_of slots.old.items disk.now file.now ≡ None }
+    ensures store { IfOk result (λ store. store ≡ taken_store size blocks (in_slot (slot_of slots.old.items disk.now file.now))) }
+    ensures shape { IfOk result (λ store. (store.size ≡ size) × HasShape size blocks store.content) }
+    ensures slots { IfOk result (λ store. SetsSlot disk.now file.now None store.count slots.old.items slots.new.items) }
+    ensures err { OnErr result (slots.new.items ≡ slots.old.items) }
+{
+    match place_of(slots, disk, file) {
+        Some(at) => {
+            let slot = &mut slots[at];
+            match slot.take(size, blocks) {
+                Some(store) => Ok(store),
+                None => Err(BayErr::Failed),
+            }
+        }
+        None => match make(alloc, slots, disk, file, size, blocks) {
+            Ok(store) => Ok(store),
+            Err(AllocError) => Err(BayErr::Memory),
+        },
+    }
+}
+
+/// Puts a store back, where one of this name is out and it is not refused.
+fn give(slots: &mut Vec<Slot>, disk: &str, file: &str, store: MemStore, refused: bool) -> bool
+    ensures answer { result ≡ (is_out (slot_of slots.old.items disk.now file.now) && not refused) }
+    ensures given { result ≡ true → SetsSlot disk.now file.now (Some store) store.count slots.old.items slots.new.items }
+    ensures lost { result ≡ false → is_out (slot_of slots.old.items disk.now file.now) ≡ true → SetsSlot disk.now file.now None store.count slots.old.items slots.new.items }
+    ensures same { is_out (slot_of slots.old.items disk.now file.now) ≡ false → slots.new.items ≡ slots.old.items }
+{
+    match place_of(slots, disk, file) {
+        Some(at) => {
+            let slot = &mut slots[at];
+            slot.give(store, refused)
+        }
+        None => false,
     }
 }
