@@ -9,5 +9,6 @@ mod ordinals;
 mod outside;
 
 pub use memory::MemStore;
+pub use memory_bay::MemBay;
 pub use memory_texts::{MemShelf, MemSink};
 pub use outside::{Bay, BayErr, Failed, Gate, OpenGate, Shelf, ShelfErr, Sink, Store};

@@ -214,3 +214,127 @@ fn give(slots: &mut Vec<Slot>, disk: &str, file: &str, store: MemStore, refused:
         None => false,
     }
 }
+
+/// Stores in memory by disk and file.
+#[derive(Debug, Drop)]
+pub struct MemBay {
+    alloc: Global,
+    slots: Vec<Slot>,
+    takes: Calls,
+    gives: Calls,
+    faults: u64,
+}
+
+impl Model for MemBay {
+    ghost use Rattle.spr_io.specs.MemoryBay as bay;
+
+    ghost Value = { bay.Bay };
+
+    ghost view = { λ b. record { slots = b.slots.items; takes = b.takes; gives = b.gives; faults = b.faults } };
+}
+
+impl MemBay {
+    /// A bay with no store; the lists are the ordinals of the calls that are to fail, counted from 1.
+    pub fn new(alloc: Global, takes: &[u64], gives: &[u64]) -> Result<MemBay, AllocError>
+        ensures { IfOk result (λ bay. bay ≡ record { slots = []; takes = no_calls takes.now; gives = no_calls gives.now; faults = 0 }) }
+    {
+        Ok(MemBay {
+            alloc,
+            slots: Vec::new(alloc),
+            takes: Calls::new(alloc, takes)?,
+            gives: Calls::new(alloc, gives)?,
+            faults: 0,
+        })
+    }
+
+    /// Sets the store of a disk and a file; for want of memory it gives the store back.
+    pub fn put(
+        &mut self,
+        alloc: Global,
+        disk: &str,
+        file: &str,
+        store: MemStore,
+    ) -> Result<(), (AllocError, MemStore)>
+        ensures ok { OnOk result (SetsSlot disk.now file.now (Some store) store.count self.old.slots self.new.slots) }
+        ensures same { (self.new.takes ≡ self.old.takes) × (self.new.gives ≡ self.old.gives) × (self.new.faults ≡ self.old.faults) }
+        ensures err { IfErr result (λ e. (e.1 ≡ store) × (self.new ≡ self.old)) }
+    {
+        put(alloc, &mut self.slots, disk, file, store)
+    }
+
+    /// The store that lies under a disk and a file, if there is one.
+    pub fn look(&self, disk: &str, file: &str) -> Option<&MemStore>
+        ensures { option_copied result ≡ stored self.now disk.now file.now }
+    {
+        match place_of(&self.slots, disk, file) {
+            Some(at) => self.slots[at].store(),
+            None => None,
+        }
+    }
+}
+
+impl Bay for MemBay {
+    type Store = MemStore;
+
+    ghost berth = { λ b disk file. berth_of b disk file };
+
+    ghost faults = { λ b. b.faults };
+
+    fn take(
+        &mut self,
+        disk: &str,
+        file: &str,
+        size: u32,
+        blocks: u32,
+    ) -> Result<MemStore, BayErr>
+        ensures failed { result ≡ Err BayErr.Failed ↔ IsTrue (take_fails self.old disk.now file.now size blocks) }
+        ensures memory { result ≡ Err BayErr.Memory → stored self.old disk.now file.now ≡ None }
+        ensures store { IfOk result (λ store. store ≡ taken_store size blocks (stored self.old disk.now file.now)) }
+        ensures slots { IfOk result (λ store. SetsSlot disk.now file.now None store.count self.old.slots self.new.slots) }
+        ensures err { OnErr result (self.new.slots ≡ self.old.slots) }
+        ensures calls { (self.new.takes ≡ one_more self.old.takes) × (self.new.gives ≡ self.old.gives) }
+        ensures faults { self.new.faults ≡ (if take_fails self.old disk.now file.now size blocks then one_fault self.old.faults else self.old.faults) }
+        ensures shape { IfOk result (λ store. KeepsShape size blocks store.size (length store.content.blocks) (Some store.content)) }
+        ensures content { IfOk result (λ store. Opens size blocks (berth_of self.old disk.now file.now).holds (Some store.content)) }
+        ensures count { IfOk result (λ store. store.count ≡ (berth_of self.old disk.now file.now).faults) }
+        ensures was_in { OnOk result ((berth_of self.old disk.now file.now).out ≡ false) }
+        ensures taken { OnOk result (berth_of self.new disk.now file.now ≡ taken (berth_of self.old disk.now file.now)) }
+        ensures others { OnOk result (SameElsewhere disk.now file.now (berth_of self.old) (berth_of self.new)) }
+        ensures refused { OnErr result (SameBerths (berth_of self.old) (berth_of self.new)) }
+        ensures cause { HasCause self.old.faults self.new.faults (result ≡ Err BayErr.Failed) }
+    {
+        if self.takes.next_fails() {
+            count_fault(&mut self.faults);
+            return Err(BayErr::Failed);
+        }
+        match take(self.alloc, &mut self.slots, disk, file, size, blocks) {
+            Ok(store) => Ok(store),
+            Err(BayErr::Failed) => {
+                count_fault(&mut self.faults);
+                Err(BayErr::Failed)
+            }
+            Err(BayErr::Memory) => Err(BayErr::Memory),
+        }
+    }
+
+    fn give(&mut self, disk: &str, file: &str, store: MemStore) -> Result<(), Failed>
+        ensures failed { IsErr result ↔ IsTrue (give_fails self.old disk.now file.now) }
+        ensures slots { OnOk result (SetsSlot disk.now file.now (Some store) store.count self.old.slots self.new.slots) }
+        ensures lost { OnErr result (is_out (slot_of self.old.slots disk.now file.now) ≡ true → SetsSlot disk.now file.now None store.count self.old.slots self.new.slots) }
+        ensures same { is_out (slot_of self.old.slots disk.now file.now) ≡ false → self.new.slots ≡ self.old.slots }
+        ensures calls { (self.new.gives ≡ one_more self.old.gives) × (self.new.takes ≡ self.old.takes) }
+        ensures faults { self.new.faults ≡ (if give_fails self.old disk.now file.now then one_fault self.old.faults else self.old.faults) }
+        ensures was_out { OnOk result ((berth_of self.old disk.now file.now).out ≡ true) }
+        ensures given { OnOk result (berth_of self.new disk.now file.now ≡ given (Some store.content) store.count (berth_of self.old disk.now file.now)) }
+        ensures refused { OnErr result (berth_of self.new disk.now file.now ≡ lost store.count (berth_of self.old disk.now file.now)) }
+        ensures others { SameElsewhere disk.now file.now (berth_of self.old) (berth_of self.new) }
+        ensures cause { HasCause self.old.faults self.new.faults (IsErr result) }
+    {
+        let refused = self.gives.next_fails();
+        if give(&mut self.slots, disk, file, store, refused) {
+            return Ok(());
+        }
+        count_fault(&mut self.faults);
+        Err(Failed)
+    }
+}
