@@ -10,55 +10,34 @@ use Rattle.std.proofs.lemmas.List.Folds.{position_or_len_push}
 use Rattle.spr_io.specs.Berth.{Berth, Opens, taken, given, lost}
 use Rattle.spr_io.specs.Memory.{Mem, fits_shape}
 use Rattle.spr_io.specs.MemoryBay.{Slot, is_slot, slot_of, in_slot, slot_berth, is_out, refuses_shape, taken_store, SetsSlot}
-use Rattle.spr_io.proofs.Found.{Finds, finds, finds_none, place_within, replaced, passed_over, appended, appended_other, place_added}
-use Rattle.spr_io.proofs.Named.{same_bytes, is_false}
+use Rattle.spr_io.proofs.Found.{finds_none}
+use Rattle.spr_io.proofs.Keyed.{SetsKey, key_at, key_passes, names_of, key_sets, key_adds, key_place_added}
 
 -- the slot that stands at the first place of its name
 pub slot_at : (disk file : List ℕ) (slots : List Slot) (i : ℕ) (slot : Slot) → position (is_slot disk file) slots ≡ Some i → slot ≡ get_or slots i slot → slot_of slots disk file ≡ Some slot
-slot_at disk file slots i slot e is =
-    let f = finds (is_slot disk file) slots i e in
-    f.found ∙ ap (λ (s : Slot). Some s) (sym (f.at slot) ∙ sym is)
+slot_at disk file slots i slot e is = key_at (is_slot disk file) slots i slot e is
 
 pub none_at : (disk file : List ℕ) (slots : List Slot) → position (is_slot disk file) slots ≡ None → slot_of slots disk file ≡ None
 none_at disk file slots e = finds_none (is_slot disk file) slots e
-
-both : (a b : Bool) → (a && b) ≡ true → (a ≡ true) × (b ≡ true)
-both true b h = (refl, h)
-both false b h = absurd cc
-
--- its names
-names_of : (disk file : List ℕ) (slot : Slot) → is_slot disk file slot ≡ true → (slot.disk ≡ disk) × (slot.file ≡ file)
-names_of disk file slot h =
-    let parts = both (bytes_eq slot.disk disk) (bytes_eq slot.file file) h in
-    ((bytes_eq-Decides slot.disk disk).0 parts.0, (bytes_eq-Decides slot.file file).0 parts.1)
-
-is_it : (disk file : List ℕ) (store : Option Mem) (count : ℕ) → is_slot disk file (record { disk = disk; file = file; store = store; count = count }) ≡ true
-is_it disk file store count = rw (same_bytes disk, same_bytes file) refl
-
--- a slot of one name is of no other
-other_slot : (slot : Slot) (disk file d f : List ℕ) → (slot.disk ≡ disk) × (slot.file ≡ file) → (d ≡ disk → f ≡ file → ⊥) → is_slot d f slot ≡ false
-other_slot slot disk file d f names differs =
-    is_false (is_slot d f slot) (λ (h : is_slot d f slot ≡ true). let other = names_of d f slot h in differs (sym other.0 ∙ names.0) (sym other.1 ∙ names.1))
 
 -- a slot that is set
 pub sets : (disk file : List ℕ) (slots : List Slot) (i : ℕ) (slot : Slot) (store : Option Mem) (count : ℕ) → position (is_slot disk file) slots ≡ Some i → slot ≡ get_or slots i slot
     → SetsSlot disk file store count slots (set slots i (record slot { store = store; count = count }))
 sets disk file slots i slot store count e is =
-    let f = finds (is_slot disk file) slots i e in
-    let it : is_slot disk file slot ≡ true = ap (is_slot disk file) (is ∙ f.at slot) ∙ f.passes in
-    let names = names_of disk file slot it in
-    record {
-      here = replaced (is_slot disk file) slots i (record slot { store = store; count = count }) e it ∙ rw (names.0, names.1) refl;
-      others = λ d f differs. passed_over (is_slot d f) slots i slot (record slot { store = store; count = count }) is (other_slot slot disk file d f names differs) (other_slot slot disk file d f names differs);
-    }
+    let k = key_sets (λ (s : Slot). s.disk) (λ (s : Slot). s.file) disk file slots i slot (record slot { store = store; count = count }) e is refl refl in
+    let names = names_of (λ (s : Slot). s.disk) (λ (s : Slot). s.file) disk file slot (key_passes (is_slot disk file) slots i slot e is) in
+    record { here = k.here ∙ rw (names.0, names.1) refl; others = k.others }
 
 -- a slot that is added
 pub adds : (disk file : List ℕ) (slots : List Slot) (store : Option Mem) (count : ℕ) → position (is_slot disk file) slots ≡ None
     → SetsSlot disk file store count slots (slots ++ record { disk = disk; file = file; store = store; count = count } ∷ [])
-adds disk file slots store count e = record {
-  here = appended (is_slot disk file) slots (record { disk = disk; file = file; store = store; count = count }) e (is_it disk file store count);
-  others = λ d f differs. appended_other (is_slot d f) slots (record { disk = disk; file = file; store = store; count = count }) (other_slot (record { disk = disk; file = file; store = store; count = count }) disk file d f (refl, refl) differs);
-}
+adds disk file slots store count e =
+    let k = key_adds (λ (s : Slot). s.disk) (λ (s : Slot). s.file) disk file slots (record { disk = disk; file = file; store = store; count = count }) e refl refl in
+    record { here = k.here; others = k.others }
+
+pub place_of_added : (disk file : List ℕ) (slots : List Slot) (store : Option Mem) (count : ℕ) → position (is_slot disk file) slots ≡ None
+    → position (is_slot disk file) (slots ++ record { disk = disk; file = file; store = store; count = count } ∷ []) ≡ Some (length slots)
+place_of_added disk file slots store count e = key_place_added (λ (s : Slot). s.disk) (λ (s : Slot). s.file) disk file slots (record { disk = disk; file = file; store = store; count = count }) e refl refl
 
 -- one slot set after another of the same name
 pub sets_again : (disk file : List ℕ) (s1 s2 : Option Mem) (c1 c2 : ℕ) (before between after : List Slot) → SetsSlot disk file s1 c1 before between → SetsSlot disk file s2 c2 between after → SetsSlot disk file s2 c2 before after
@@ -71,10 +50,6 @@ out_of disk file (Some store) count = refl
 
 pub out_is_none : (slot : Slot) → is_out (Some slot) ≡ is_none slot.store
 out_is_none slot = out_of slot.disk slot.file slot.store slot.count
-
-pub place_of_added : (disk file : List ℕ) (slots : List Slot) (store : Option Mem) (count : ℕ) → position (is_slot disk file) slots ≡ None
-    → position (is_slot disk file) (slots ++ record { disk = disk; file = file; store = store; count = count } ∷ []) ≡ Some (length slots)
-place_of_added disk file slots store count e = place_added (is_slot disk file) slots (record { disk = disk; file = file; store = store; count = count }) e (is_it disk file store count)
 
 -- whether a store of a slot is out, and what an answer to that says
 pub gives_out : (slot : Option Slot) (s : Slot) (refused answer : Bool) → slot ≡ Some s → answer ≡ (is_none s.store && not refused) → answer ≡ (is_out slot && not refused)

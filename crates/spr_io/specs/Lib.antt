@@ -7,3 +7,4 @@ pub mod Blocks
 pub mod Memory
 pub mod MemoryTexts
 pub mod MemoryBay
+pub mod Host

@@ -2,6 +2,7 @@
 #![tactic(auto)]
 
 mod blocks;
+mod host;
 mod memory;
 mod memory_bay;
 mod memory_texts;
