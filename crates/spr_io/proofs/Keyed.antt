@@ -1,8 +1,8 @@
 -- An element of a list that is found by the two names of its key.
-use Rattle.std.proofs.Common.{◌≡◌, ℕ, List, [], ◌∷◌, ◌++◌, length, get_or, find, position, Bool, true, false, ◌&&◌, Option, Some, None, refl, sym, ap, set, ◌∙◌}
+use Rattle.std.proofs.Common.{◌≡◌, ℕ, List, [], ◌∷◌, ◌++◌, length, get_or, find, position, Bool, true, false, ◌&&◌, Some, None, refl, sym, ap, set, ◌∙◌}
 use Rattle.std.specs.Str.{bytes_eq}
 use Rattle.std.proofs.lemmas.Slice.Eq.{bytes_eq-Decides}
-use Rattle.spr_io.proofs.Found.{Finds, finds, finds_none, replaced, passed_over, appended, appended_other, place_added}
+use Rattle.spr_io.proofs.Found.{finds, replaced, passed_over, appended, appended_other, place_added}
 use Rattle.spr_io.proofs.Named.{same_bytes, is_false}
 
 -- whether an element has a key

@@ -1,10 +1,10 @@
 -- A text that is put under a name, and no other.
-use Rattle.std.proofs.Common.{◌≡◌, ℕ, ◌<◌, List, [], ◌∷◌, ◌++◌, length, get_or, position, Bool, true, false, Option, Some, None, refl, sym, ap, set, ◌∙◌}
+use Rattle.std.proofs.Common.{◌≡◌, ℕ, List, [], ◌∷◌, ◌++◌, get_or, position, Bool, true, false, Option, Some, None, refl, sym, ap, set, ◌∙◌}
 use Rattle.std.specs.Str.{bytes_eq}
 use Rattle.std.specs.Option.{option_map}
 use Rattle.std.proofs.lemmas.Slice.Eq.{bytes_eq-Decides}
 use Rattle.spr_io.specs.MemoryTexts.{NamedText, is_named, text_in}
-use Rattle.spr_io.proofs.Found.{Finds, finds, place_within, replaced, passed_over, appended, appended_other}
+use Rattle.spr_io.proofs.Found.{finds, replaced, passed_over, appended, appended_other}
 
 pub same_bytes : (xs : List ℕ) → bytes_eq xs xs ≡ true
 same_bytes xs = (bytes_eq-Decides xs xs).1 refl

@@ -1,17 +1,11 @@
 -- The slot of a disk and a file, before and after it is set.
-use Rattle.std.proofs.Common.{◌≡◌, ℕ, zero, ◌<◌, ◌≤◌, ltb, List, [], ◌∷◌, ◌++◌, length, get_or, position, Bool, true, false, cond, not, ◌&&◌, Option, Some, None, IfSome, refl, sym, ap, subst, set, ◌∙◌, arith, length-append}
+use Rattle.std.proofs.Common.{◌≡◌, ℕ, List, [], ◌∷◌, ◌++◌, length, get_or, position, Bool, true, false, not, ◌&&◌, Option, Some, None, IfSome, refl, sym, ap, set, ◌∙◌}
 use Rattle.std.specs.Option.{is_none}
-use Rattle.std.specs.Str.{bytes_eq}
-use Rattle.std.specs.List.{position_or_len}
-use Rattle.std.proofs.lemmas.Bool.{lt-ltb}
-use Rattle.std.proofs.lemmas.Slice.Eq.{bytes_eq-Decides}
 use Rattle.std.proofs.lemmas.List.{set-get_or}
-use Rattle.std.proofs.lemmas.List.Folds.{position_or_len_push}
-use Rattle.spr_io.specs.Berth.{Berth, Opens, taken, given, lost}
 use Rattle.spr_io.specs.Memory.{Mem, fits_shape}
-use Rattle.spr_io.specs.MemoryBay.{Slot, is_slot, slot_of, in_slot, slot_berth, is_out, refuses_shape, taken_store, SetsSlot}
+use Rattle.spr_io.specs.MemoryBay.{Slot, is_slot, slot_of, in_slot, is_out, refuses_shape, taken_store, SetsSlot}
 use Rattle.spr_io.proofs.Found.{finds_none}
-use Rattle.spr_io.proofs.Keyed.{SetsKey, key_at, key_passes, names_of, key_sets, key_adds, key_place_added}
+use Rattle.spr_io.proofs.Keyed.{key_at, key_passes, names_of, key_sets, key_adds, key_place_added}
 
 -- the slot that stands at the first place of its name
 pub slot_at : (disk file : List ℕ) (slots : List Slot) (i : ℕ) (slot : Slot) → position (is_slot disk file) slots ≡ Some i → slot ≡ get_or slots i slot → slot_of slots disk file ≡ Some slot

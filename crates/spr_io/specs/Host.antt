@@ -1,5 +1,5 @@
 -- What the host's stores and bay tell.
-use Rattle.std.specs.Prelude.{ℕ, ◌≡◌, List, Option, Some, None, Bool, false, find, ◌&&◌}
+use Rattle.std.specs.Prelude.{ℕ, List, Option, Some, None, Bool, false, find, ◌&&◌}
 use Rattle.std.specs.Str.{bytes_eq}
 use Rattle.spr_io.specs.Berth.{Berth}
 

@@ -1,5 +1,5 @@
 -- A store in memory.
-use Rattle.std.specs.Prelude.{ℕ, List, [], Bool, length, ◌==◌, ◌&&◌, slice_set, if◌then◌else◌}
+use Rattle.std.specs.Prelude.{ℕ, List, Bool, length, ◌==◌, ◌&&◌, slice_set, if◌then◌else◌}
 use Rattle.spr_io.specs.Calls.{Calls, fails, one_more, no_calls, count_after}
 use Rattle.spr_io.specs.Content.{Content, zeros}
 

@@ -1,9 +1,7 @@
 -- A bay of stores in memory.
-use Rattle.std.specs.Prelude.{ℕ, ◌≡◌, List, [], Option, Some, None, Bool, true, false, not, is_none, find, ◌&&◌, ◌||◌, if◌then◌else◌}
-use Rattle.std.specs.Option.{option_map}
+use Rattle.std.specs.Prelude.{ℕ, ◌≡◌, List, [], Option, Some, None, Bool, true, false, not, find, ◌&&◌, ◌||◌}
 use Rattle.std.specs.Str.{bytes_eq}
-use Rattle.spr_io.specs.Calls.{Calls, is_next_to_fail, one_more, one_fault, no_calls}
-use Rattle.spr_io.specs.Content.{Content}
+use Rattle.spr_io.specs.Calls.{Calls, is_next_to_fail}
 use Rattle.spr_io.specs.Berth.{Berth}
 use Rattle.spr_io.specs.Memory.{Mem, new_store, fits_shape}
 

@@ -7,12 +7,11 @@ ghost use Rattle.spr_io.specs.Causes.{Counts};
 
 use crate::ordinals::count_fault;
 use crate::outside::{Failed, Shelf, ShelfErr, Sink, Store};
-use std::fs;
 use std::fs::OpenFile;
-use std::io;
 use std::io::{ErrorKind, Read, Seek, SeekFrom, Write};
 use std::marker::Model;
 use std::rt::Files;
+use std::{fs, io};
 
 /// The texts in the host's files; a name is a path.
 #[derive(Drop)]

@@ -280,13 +280,7 @@ impl Bay for MemBay {
 
     ghost faults = { λ b. b.faults };
 
-    fn take(
-        &mut self,
-        disk: &str,
-        file: &str,
-        size: u32,
-        blocks: u32,
-    ) -> Result<MemStore, BayErr>
+    fn take(&mut self, disk: &str, file: &str, size: u32, blocks: u32) -> Result<MemStore, BayErr>
         ensures failed { result ≡ Err BayErr.Failed ↔ IsTrue (take_fails self.old disk.now file.now size blocks) }
         ensures memory { result ≡ Err BayErr.Memory → stored self.old disk.now file.now ≡ None }
         ensures store { IfOk result (λ store. store ≡ taken_store size blocks (stored self.old disk.now file.now)) }

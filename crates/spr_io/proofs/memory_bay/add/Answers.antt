@@ -1,4 +1,4 @@
-use Rattle.std.proofs.Common.{◌≡◌, ◌++◌, ◌∷◌, [], None}
+use Rattle.std.proofs.Common.{None}
 use Rattle.spr_io.proofs.Slots.{adds, place_of_added}
 use Rattle.spr_io.proofs.memory_bay.add.Goals as goal
 

@@ -1,5 +1,5 @@
-use Rattle.std.proofs.Common.{◌≡◌, List, ℕ, Some, None, true, false, position, sym, refl, set}
-use Rattle.spr_io.specs.MemoryBay.{Slot, is_slot, slot_of, is_out, SetsSlot}
+use Rattle.std.proofs.Common.{◌≡◌, Some, None, true, false, position, sym, refl}
+use Rattle.spr_io.specs.MemoryBay.{is_slot, slot_of}
 use Rattle.spr_io.proofs.Slots.{slot_at, none_at, sets, gives_out, is_empty, is_filled, same_slots}
 use Rattle.spr_io.proofs.memory_bay.give.Goals as goal
 

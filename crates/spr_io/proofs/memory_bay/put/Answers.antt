@@ -1,5 +1,4 @@
-use Rattle.std.proofs.Common.{◌≡◌, Some, None, position, sym}
-use Rattle.spr_io.specs.MemoryBay.{is_slot, slot_of}
+use Rattle.std.proofs.Common.{Some, None, sym}
 use Rattle.spr_io.proofs.Slots.{sets, sets_again}
 use Rattle.spr_io.proofs.memory_bay.put.Goals as goal
 

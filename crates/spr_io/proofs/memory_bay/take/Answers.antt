@@ -1,5 +1,5 @@
-use Rattle.std.proofs.Common.{◌≡◌, List, ℕ, Some, None, Ok, Err, true, false, position, sym, refl, set}
-use Rattle.spr_io.specs.MemoryBay.{Slot, is_slot, slot_of, in_slot, taken_store, refuses_shape, SetsSlot}
+use Rattle.std.proofs.Common.{◌≡◌, Some, None, position, sym, refl}
+use Rattle.spr_io.specs.MemoryBay.{is_slot, slot_of}
 use Rattle.spr_io.proofs.Slots.{slot_at, none_at, sets, refuses_of, lies_there}
 use Rattle.spr_io.proofs.memory_bay.take.Goals as goal
 

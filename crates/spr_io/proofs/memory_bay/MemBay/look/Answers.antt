@@ -1,5 +1,5 @@
 use Rattle.std.proofs.Common.{◌≡◌, Some, None, position, sym, ap, ◌∙◌}
-use Rattle.spr_io.specs.MemoryBay.{Slot, Bay, is_slot, slot_of, in_slot, stored}
+use Rattle.spr_io.specs.MemoryBay.{Bay, is_slot, in_slot, stored}
 use Rattle.spr_io.proofs.Slots.{slot_at, none_at}
 use Rattle.spr_io.proofs.memory_bay.MemBay.look.Goals as goal
 

@@ -1,9 +1,7 @@
-use Rattle.std.proofs.Common.{◌≡◌, ◌++◌, ◌∷◌, [], List, ℕ, Some, position, ap, sym, ◌∙◌}
-use Rattle.spr_io.specs.MemoryTexts.{NamedText, Texts, is_named, text_in}
-use Rattle.spr_io.proofs.Named.{SetsText, sets_text, adds_text}
+use Rattle.std.proofs.Common.{◌≡◌, Some, position, ap, sym, ◌∙◌}
+use Rattle.spr_io.specs.MemoryTexts.{Texts, is_named, text_in}
+use Rattle.spr_io.proofs.Named.{sets_text, adds_text}
 use Rattle.spr_io.proofs.memory_texts.MemShelf.put.Goals as goal
-
-
 
 pub returns-in-Some-clause-set : goal.returns-in-Some-clause-set
 returns-in-Some-clause-set c =
