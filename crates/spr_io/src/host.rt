@@ -104,7 +104,7 @@ impl<F> Model for HostStore<F> {
 
 impl<F: Read + Write + Seek + OpenFile + Drop> HostStore<F> {
     /// The store in a file of as many bytes, with the count of faults that it had.
-    pub fn new(file: F, size: u32, blocks: u32, count: u64) -> HostStore<F>
+    pub(crate) fn new(file: F, size: u32, blocks: u32, count: u64) -> HostStore<F>
         ensures { result ≡ record { size = size; blocks = blocks; count = count } }
     {
         HostStore {

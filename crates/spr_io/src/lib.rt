@@ -16,3 +16,6 @@ pub use memory::MemStore;
 pub use memory_bay::MemBay;
 pub use memory_texts::{MemShelf, MemSink};
 pub use outside::{Bay, BayErr, Failed, Gate, OpenGate, Shelf, ShelfErr, Sink, Store};
+
+#[cfg(test)]
+mod tests;
