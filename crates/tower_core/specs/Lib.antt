@@ -1,0 +1,7 @@
+pub mod TreeShape
+pub mod Count
+pub mod Column
+pub mod Trail
+pub mod Legal
+pub mod Page
+pub mod Sheet
