@@ -107,17 +107,22 @@ MayStep shape col (Pushes node) = col.right node ≡ Right.Write
 MayStep shape col (Flushes node) = (col.right node ≡ Right.Write) × NoChildHolds shape col node
 MayStep shape col (Deletes node) = (col.right node ≡ Right.Read) × NoChildHolds shape col node
 
--- the node that a step names is no ground
+-- the node that a step is about
+abbrev pub node_of_step : Step → ℕ
+node_of_step Untouched = 0
+node_of_step (Reads node) = node
+node_of_step (Writes node) = node
+node_of_step (Grants node write) = node
+node_of_step (PagesOut node) = node
+node_of_step (Denies node) = node
+node_of_step (Pushes node) = node
+node_of_step (Flushes node) = node
+node_of_step (Deletes node) = node
+
+-- that node is one of the tree, and not the ground
 abbrev pub IsStepOf : TreeShape → Step → Type 0
 IsStepOf shape Untouched = Unit {0}
-IsStepOf shape (Reads node) = IsUpper shape node
-IsStepOf shape (Writes node) = IsUpper shape node
-IsStepOf shape (Grants node write) = IsUpper shape node
-IsStepOf shape (PagesOut node) = IsUpper shape node
-IsStepOf shape (Denies node) = IsUpper shape node
-IsStepOf shape (Pushes node) = IsUpper shape node
-IsStepOf shape (Flushes node) = IsUpper shape node
-IsStepOf shape (Deletes node) = IsUpper shape node
+IsStepOf shape step = IsUpper shape (node_of_step step)
 
 -- Nothing is below Read, and Read below Write
 abbrev pub strength : Right → ℕ
@@ -125,7 +130,7 @@ strength Right.Nothing = 0
 strength Right.Read = 1
 strength Right.Write = 2
 
--- (a) to (d) and the part of (e) on places, where the trail has len events
+-- the page is coherent, where the trail has len events so far
 pub record IsCoherent (shape : TreeShape) (len : ℕ) (col : Column) : Type 0 where
   -- a node's right is at most its parent's
   pub capped : (node : ℕ) → IsUpper shape node → strength (col.right node) ≤ strength (col.right (parent shape node))

@@ -1,6 +1,9 @@
+//! One page's table: a cell for each node.
+
 ghost use Rattle.std.specs.Prelude.{◌≡◌, ◌<◌, ◌+◌, ◌≤◌, ◌↔◌, IfOk, IsTrue, vec_len, ℕ};
 ghost use Rattle.tower_core.specs.TreeShape.{nodes, IsUpper};
 ghost use Rattle.tower_core.specs.Column.{at_after, newest_after, right_after, used_after, given, updated, MayStep, NoChildHolds, NoChildWrites, NoSiblingHolds, IsStepOf, column_after};
+ghost use Rattle.tower_core.specs.Trail.{holds};
 ghost use Rattle.tower_core.specs.Page.{IsFresh, cell_of, page_column, page_used};
 
 use crate::{Right, Step, Tree};
@@ -9,15 +12,20 @@ use std::alloc::{AllocError, Global};
 /// What one node may do with a page, and what its copy shows.
 #[derive(Clone, Copy)]
 pub struct Cell {
+    /// What the node may do with the page.
     pub right: Right,
+    /// The place whose bytes its copy shows, and 0 where it has none.
     pub at: u64,
+    /// The place after its last use of the page.
     pub used: u64,
 }
 
 /// One page's rights and places, by node.
 #[derive(Drop)]
 pub struct Page {
+    /// A cell for each node.
     pub cells: Vec<Cell>,
+    /// The place after the page's last effective write or clear.
     pub newest: u64,
 }
 
@@ -37,6 +45,17 @@ impl Page {
         let ground = &mut cells[0];
         ground.right = Right::Write;
         Ok(Page { cells, newest: 0 })
+    }
+
+    /// Whether the node has a right.
+    pub fn holds(&self, node: u32) -> bool
+        requires { node < vec_len self.now.cells }
+        ensures { result ≡ holds ((page_column self.now).right node) }
+    {
+        match self.cells[node as usize].right {
+            Right::Nothing => false,
+            Right::Read | Right::Write => true,
+        }
     }
 
     /// Whether no child of the node has Write.

@@ -1,21 +1,28 @@
-ghost use Rattle.std.specs.Prelude.{◌≡◌, ◌<◌, ◌≤◌, All, vec_len};
+//! A trail's rights, places, uses and lives, kept as tables.
+
+ghost use Rattle.std.specs.Prelude.{◌≡◌, ◌<◌, ◌≤◌, All, IfOk, vec_len};
 ghost use Rattle.std.proofs.Props.{props};
+ghost use Rattle.tower_core.specs.Page.{IsHeldCounted};
 
 use crate::page::Page;
 use crate::{Right, Step, Tree};
 use hist_plain::{Event, Op};
 use std::alloc::{AllocError, Global};
 
-/// What a file's trail is worth: the rights, places, uses and lives after it.
+/// What a file's trail is worth: the rights, places, uses and lives after it. `seen` tells contracts
+/// the state that it stands for.
 #[derive(Drop)]
 pub struct Sheet {
     lives: Vec<u32>,
+    held: Vec<u32>,
     pages: Vec<Page>,
     len: u64,
     ghost grounded: { 0 < vec_len lives },
     ghost few: { vec_len pages ≤ 1024 },
+    ghost counts: { vec_len held ≡ vec_len lives },
     ghost sized: { All (λ page. vec_len page.cells ≡ vec_len lives) pages.items } by { Prim.hlevel props },
     ghost counted: { All (λ life. life ≤ len) lives.items } by { Prim.hlevel props },
+    ghost held_counted: { IsHeldCounted pages.items held.items } by { Prim.hlevel props },
 }
 
 impl Sheet {
@@ -40,7 +47,8 @@ impl Sheet {
             tables.push(Page::new(alloc, nodes)?)?;
         }
         Ok(Sheet {
-            lives: vec![in alloc; 0; nodes]?,
+            lives: zeros(alloc, nodes)?,
+            held: counts_at_start(alloc, nodes, pages)?,
             pages: tables,
             len: 0,
         })
@@ -143,13 +151,7 @@ impl Sheet {
         requires { node < nodes_of self.now }
         ensures { result ≡ held_below (seen self.now) node (pages_of self.now) }
     {
-        let mut held = 0;
-        for page in 0..self.pages() {
-            if self.right(node, page) != Right::Nothing {
-                held += 1;
-            }
-        }
-        held
+        self.held[node as usize]
     }
 
     /// Whether a grant of the page to the node leaves it within its frames, if it is a leaf.
@@ -183,12 +185,7 @@ impl Sheet {
         requires { node < nodes_of self.now }
         ensures { IsTrue result ↔ HoldsNothing (pages_of self.now) (seen self.now) node }
     {
-        for page in 0..self.pages() {
-            if self.right(node, page) != Right::Nothing {
-                return false;
-            }
-        }
-        true
+        self.held(node) == 0
     }
 
     /// Whether no node of the subtree has a right on any page.
@@ -312,7 +309,11 @@ impl Sheet {
     {
         let len = self.len;
         let table = &mut self.pages[page as usize];
+        let node = step.node();
+        let had = table.holds(node);
         table.take(tree, step, len);
+        let has = table.holds(node);
+        recount(&mut self.held, node, had, has);
         self.len += 1;
     }
 
@@ -407,10 +408,45 @@ impl Sheet {
     }
 }
 
-ghost use Rattle.std.specs.Prelude.{length, slice_index, ℕ};
+ghost use Rattle.std.specs.Prelude.{◌+◌, ◌≢◌, length, slice_index, ℕ};
+ghost use Rattle.std.specs.Int.{from_bool};
 ghost use Rattle.tower_core.specs.TreeShape.{nodes, IsUpper};
 ghost use Rattle.tower_core.specs.Trail.{lives_after};
 ghost use Rattle.hist_plain.specs.Event.{node_of};
+
+/// A zero for each node.
+fn zeros(alloc: Global, nodes: usize) -> Result<Vec<u32>, AllocError>
+    ensures len { IfOk result (λ xs. vec_len xs ≡ nodes) }
+    ensures zeros { IfOk result (λ xs. All (λ x. x ≤ 0) xs.items) }
+{
+    vec![in alloc; 0; nodes]
+}
+
+/// The counts of held pages at the start, where the ground alone holds pages.
+fn counts_at_start(alloc: Global, nodes: usize, pages: u32) -> Result<Vec<u32>, AllocError>
+    requires { 0 < nodes }
+    ensures len { IfOk result (λ counts. vec_len counts ≡ nodes) }
+    ensures ground { IfOk result (λ counts. slice_index counts.items 0 ≡ pages) }
+    ensures others { IfOk result (λ counts. (n : ℕ) → 0 < n → slice_index counts.items n ≡ 0) }
+{
+    let mut counts = zeros(alloc, nodes)?;
+    counts[0] = pages;
+    Ok(counts)
+}
+
+/// Counts a page that a node had or has a right on.
+fn recount(held: &mut Vec<u32>, node: u32, had: bool, has: bool)
+    requires node_in { node < vec_len held.old }
+    requires low { slice_index held.old.items node ≤ 1024 }
+    requires had { from_bool had ≤ slice_index held.old.items node }
+    ensures len { vec_len held.new ≡ vec_len held.old }
+    ensures node { slice_index held.new.items node + from_bool had ≡ slice_index held.old.items node + from_bool has }
+    ensures others { (n : ℕ) → n ≢ node → slice_index held.new.items n ≡ slice_index held.old.items n }
+{
+    let count = &mut held[node as usize];
+    *count += u32::from(has);
+    *count -= u32::from(had);
+}
 
 /// The node that an event names.
 fn node_of(event: &Event) -> u32
