@@ -13,7 +13,7 @@ use Rattle.tower_core.specs.TreeShape.{TreeShape, frames_of, IsTree}
 use Rattle.tower_core.specs.Column.{Column, updated, right_after, MayStep}
 use Rattle.tower_core.specs.Trail.{State, state_after, start, of_page, step_of, step_of_access, state_of, holds, held_below, IsAllowed, IsFramed, IsRun, IsCoherentState}
 use Rattle.tower_core.proofs.Ranks.{same_or_not}
-use Rattle.tower_core.proofs.Trails.{on_each_page, start_nothing, trail_coherent, trail_zero}
+use Rattle.tower_core.proofs.Trails.{on_each_page, start_nothing, start_coherent, event_keeps, event_zero}
 
 -- a table with another value at one key holds there what the value holds, and elsewhere what it held
 holds_updated : (right : ℕ → Right) (n : ℕ) (v : Right) (node : ℕ) → (holds v ≡ true → holds (right n) ≡ true) → holds (updated right n v node) ≡ true → holds (right node) ≡ true
@@ -179,15 +179,25 @@ start_held node (suc k) above = rw (start_nothing node above) (start_held node k
 pub start_framed : (shape : TreeShape) (pages : ℕ) → IsFramed shape pages start
 start_framed shape pages node above leaf = omega (arith, start_held node pages above)
 
--- A LEAF HOLDS AT MOST ITS FRAMES AFTER EVERY TRAIL OF ALLOWED EVENTS
-pub run_framed : (shape : TreeShape) (pages : ℕ) (s : State) (trail : List Event) → IsTree shape → IsFramed shape pages s → IsRun shape pages s trail → IsFramed shape pages (fold (state_after shape) s trail)
-run_framed shape pages s [] tree framed run = framed
-run_framed shape pages s (event ∷ events) tree framed run = run_framed shape pages (state_after shape s event) events tree (event_frames shape pages s event tree framed run.0) run.1
+-- COHERENCE, WHOLE: at the start, after an event, and after every trail
 
--- COHERENT, WHOLE
-pub run_coherent : (shape : TreeShape) (pages : ℕ) (trail : List Event) → IsTree shape → IsRun shape pages start trail → IsCoherentState shape pages (state_of shape trail)
-run_coherent shape pages trail tree run = record {
-  columns = trail_coherent shape pages trail tree run;
-  framed = run_framed shape pages start trail tree (start_framed shape pages) run;
-  empty = λ page node un e. trail_zero shape pages trail tree run node page un e;
+pub start_coherent_state : (shape : TreeShape) (pages : ℕ) → IsCoherentState shape pages start
+start_coherent_state shape pages = record {
+  columns = start_coherent shape;
+  framed = start_framed shape pages;
+  empty = λ page node un e. refl;
 }
+
+pub event_coherent : (shape : TreeShape) (pages : ℕ) (s : State) (event : Event) → IsTree shape → IsCoherentState shape pages s → IsAllowed shape pages s event → IsCoherentState shape pages (state_after shape s event)
+event_coherent shape pages s event tree coh ok = record {
+  columns = event_keeps shape pages s event tree coh.columns ok;
+  framed = event_frames shape pages s event tree coh.framed ok;
+  empty = event_zero shape pages s event tree coh.columns ok coh.empty;
+}
+
+run_coherent_from : (shape : TreeShape) (pages : ℕ) (s : State) (trail : List Event) → IsTree shape → IsCoherentState shape pages s → IsRun shape pages s trail → IsCoherentState shape pages (fold (state_after shape) s trail)
+run_coherent_from shape pages s [] tree coh run = coh
+run_coherent_from shape pages s (event ∷ events) tree coh run = run_coherent_from shape pages (state_after shape s event) events tree (event_coherent shape pages s event tree coh run.0) run.1
+
+pub run_coherent : (shape : TreeShape) (pages : ℕ) (trail : List Event) → IsTree shape → IsRun shape pages start trail → IsCoherentState shape pages (state_of shape trail)
+run_coherent shape pages trail tree run = run_coherent_from shape pages start trail tree (start_coherent_state shape pages) run

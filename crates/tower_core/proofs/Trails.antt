@@ -82,11 +82,6 @@ start_coherent shape page = record {
   placed = λ node inside. omega arith;
 }
 
-run_keeps : (shape : TreeShape) (pages : ℕ) (s : State) (trail : List Event) → IsTree shape → AllCoherent shape s → IsRun shape pages s trail → AllCoherent shape (fold (state_after shape) s trail)
-run_keeps shape pages s [] tree coh run = coh
-run_keeps shape pages s (event ∷ events) tree coh run =
-    run_keeps shape pages (state_after shape s event) events tree (event_keeps shape pages s event tree coh run.0) run.1
-
 run_len : (shape : TreeShape) (s : State) (trail : List Event) → (fold (state_after shape) s trail).len ≡ s.len + length trail
 run_len shape s [] = omega arith
 run_len shape s (event ∷ events) = omega (arith, run_len shape (state_after shape s event) events)
@@ -118,27 +113,11 @@ run_ground shape pages s (event ∷ events) page tree run = run_ground shape pag
 pub trail_ground : (shape : TreeShape) (pages : ℕ) (trail : List Event) → IsTree shape → IsRun shape pages start trail → (page : ℕ) → right_of shape trail 0 page ≡ Right.Write
 trail_ground shape pages trail tree run page = run_ground shape pages start trail page tree run
 
--- EVERY TRAIL OF ALLOWED EVENTS IS COHERENT
-pub trail_coherent : (shape : TreeShape) (pages : ℕ) (trail : List Event) → IsTree shape → IsRun shape pages start trail → (page : ℕ) → IsCoherent shape (state_of shape trail).len ((state_of shape trail).column page)
-trail_coherent shape pages trail tree run page =
-    (run_keeps shape pages start trail tree (start_coherent shape) run page)
-
--- a node that has Nothing on a page has place 0 there
-
-abbrev AllZeroWithout : TreeShape → State → Type 0
-AllZeroWithout shape s = (page : ℕ) → IsZeroWithout shape (s.column page)
-
-run_zero : (shape : TreeShape) (pages : ℕ) (s : State) (trail : List Event) → IsTree shape → AllCoherent shape s → AllZeroWithout shape s → IsRun shape pages s trail → AllZeroWithout shape (fold (state_after shape) s trail)
-run_zero shape pages s [] tree coh zeros run = zeros
-run_zero shape pages s (event ∷ events) tree coh zeros run =
-    run_zero shape pages (state_after shape s event) events tree (event_keeps shape pages s event tree coh run.0)
-    (λ page.
-    let may = on_each_page shape pages s event tree run.0.upper run.0.line page in
-    keeps_zero shape s.len (s.column page) (step_of s.life page event) tree may.0 (coh page) may.1 (zeros page))
-    run.1
-
-pub trail_zero : (shape : TreeShape) (pages : ℕ) (trail : List Event) → IsTree shape → IsRun shape pages start trail → (node page : ℕ) → IsUpper shape node → ((state_of shape trail).column page).right node ≡ Right.Nothing → ((state_of shape trail).column page).at node ≡ 0
-trail_zero shape pages trail tree run node page un e = run_zero shape pages start trail tree (start_coherent shape) (λ p n u r. refl) run page node un e
+-- a node that has Nothing on a page has place 0 there, and an allowed event leaves that so
+pub event_zero : (shape : TreeShape) (pages : ℕ) (s : State) (event : Event) → IsTree shape → AllCoherent shape s → IsAllowed shape pages s event → ((page : ℕ) → IsZeroWithout shape (s.column page)) → (page : ℕ) → IsZeroWithout shape ((state_after shape s event).column page)
+event_zero shape pages s event tree coh ok zeros page =
+    let may = on_each_page shape pages s event tree ok.upper ok.line page in
+    keeps_zero shape s.len (s.column page) (step_of s.life page event) tree may.0 (coh page) may.1 (zeros page)
 
 some_is : {p q : ℕ} → Some p ≡ Some q → p ≡ q
 some_is e = cc

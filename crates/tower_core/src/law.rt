@@ -34,6 +34,17 @@ pub fn event_keeps_frames()
         IsFramed shape pages (state_after shape s event) }
 {}
 
+/// A file with no event is coherent, and each allowed event keeps it so.
+pub fn event_keeps_coherence()
+    ensures start { (shape : TreeShape) (pages : ℕ) → IsCoherentState shape pages start }
+    ensures event { (shape : TreeShape) (pages : ℕ) (s : State) (event : AnEvent) →
+        IsTree shape → IsCoherentState shape pages s → IsAllowed shape pages s event →
+        IsCoherentState shape pages (state_after shape s event) }
+    ensures ground { (shape : TreeShape) (pages : ℕ) (s : State) (event : AnEvent) (page : ℕ) →
+        IsTree shape → IsAllowed shape pages s event →
+        ((state_after shape s event).column page).right 0 ≡ (s.column page).right 0 }
+{}
+
 /// The ground has Write on every page after every trail of allowed events.
 pub fn ground_keeps_write()
     ensures { (shape : TreeShape) (pages : ℕ) (trail : List AnEvent) →

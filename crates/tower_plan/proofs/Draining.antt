@@ -1,19 +1,19 @@
 -- A drain's next event is allowed and lowers the number of rights by one.
-use Rattle.std.proofs.Common.{◌≡◌, ◌≢◌, ℕ, suc, zero, ◌+◌, ◌<◌, inl, inr, sym, ◌∙◌, ap, subst, refl, arith, Bool, true, false, ◌&&◌}
-use Rattle.std.proofs.lemmas.Bool.{false≢true}
+use Rattle.std.proofs.Common.{◌≡◌, ◌≢◌, ℕ, suc, zero, ◌+◌, ◌<◌, inl, inr, sym, ◌∙◌, ap, subst, refl, arith, Bool, true, false, ◌&&◌, ◌≤◌, ◌↔◌}
+use Rattle.std.proofs.lemmas.Bool.{false≢true, true≢false}
 use Rattle.hist_plain.specs.declared.event.Event.{Event}
 use Rattle.tower_core.specs.declared.right.Right.{Right}
 use Rattle.tower_core.specs.declared.step.Step.TheVariants.{Flushes, Deletes}
 use Rattle.tower_core.specs.TreeShape.{TreeShape, nodes, is_within, IsUpper, IsChild, IsTree}
 use Rattle.tower_core.specs.Count.{count_below}
-use Rattle.tower_core.specs.Column.{Column}
+use Rattle.tower_core.specs.Column.{Column, IsCoherent, strength}
 use Rattle.tower_core.specs.Trail.{State, state_after, holds, IsAllowed, IsSubtreeEmpty}
-use Rattle.tower_core.proofs.Paths.{le_on_path, up}
-use Rattle.tower_core.proofs.Counts.{count_below-same, count_below-less}
+use Rattle.tower_core.proofs.Paths.{le_on_path, up, is_within-same}
+use Rattle.tower_core.proofs.Counts.{count_below-same, count_below-less, count_below-zero}
 use Rattle.tower_plan.specs.declared.plan.Next.{Next}
 use Rattle.tower_plan.specs.Plan.{revoking, IfDo}
 use Rattle.tower_plan.specs.Drain.{is_held, rights_below, IsFirstHolder, NoHolder, Drain, IsDrainAnswer}
-use Rattle.tower_plan.proofs.Rules.{same_or_not, true_or_false, depth_of-child, Changes, step_changes, is_nothing}
+use Rattle.tower_plan.proofs.Rules.{same_or_not, true_or_false, depth_of-child, Changes, step_changes, is_nothing, path_has}
 
 both : (a b : Bool) → (a && b) ≡ true → (a ≡ true) × (b ≡ true)
 both true b h = (refl, h)
@@ -102,3 +102,52 @@ drain_answer_cheaper shape pages s top (Next.Do event) (Drain page node inside l
 pub drained : (shape : TreeShape) (pages : ℕ) (s : State) (top : ℕ) → ((page : ℕ) → page < pages → NoHolder shape (s.column page) top) → IsSubtreeEmpty shape pages s top
 drained shape pages s top none node inside on page paged =
     is_nothing ((s.column page).right node) (let no_right : (is_within shape node top && holds ((s.column page).right node)) ≡ false = none page paged node inside in rw on at no_right)
+
+pub empty_drained : (shape : TreeShape) (pages : ℕ) (s : State) (top : ℕ) → IsSubtreeEmpty shape pages s top → (page : ℕ) → page < pages → NoHolder shape (s.column page) top
+empty_drained shape pages s top empty page paged node inside = elim (true_or_false (is_within shape node top)) [
+  | inl on ↦ rw on (ap holds (empty node inside on page paged))
+  | inr off ↦ rw off refl
+]
+
+-- where the top has no right no node below it has one
+pub none_below : (shape : TreeShape) (len : ℕ) (col : Column) (top : ℕ) → IsTree shape → IsCoherent shape len col → col.right top ≡ Right.Nothing → NoHolder shape col top
+none_below shape len col top tree coh none node inside = elim (true_or_false (is_within shape node top)) [
+  | inl on ↦
+      let low = path_has shape tree len col coh node top inside on in
+      rw on (weak (col.right node) (omega (arith, low, ap strength none)))
+  | inr off ↦ rw off refl
+]
+  where
+    weak : (r : Right) → strength r ≤ 0 → holds r ≡ false
+    weak Right.Nothing h = refl
+    weak Right.Read h = absurd (omega arith)
+    weak Right.Write h = absurd (omega arith)
+
+-- the top itself has a right there
+pub top_holds : (shape : TreeShape) (col : Column) (top : ℕ) → top < nodes shape → col.right top ≢ Right.Nothing → NoHolder shape col top → ⊥
+top_holds shape col top inside some' none = held_some (col.right top) some' (rw (is_within-same shape top top refl) at (none top inside))
+  where
+    held_some : (r : Right) → r ≢ Right.Nothing → holds r ≡ false → ⊥
+    held_some Right.Nothing d h = d refl
+    held_some Right.Read d h = true≢false h
+    held_some Right.Write d h = true≢false h
+
+-- Ready means that the subtree is empty, and that no right is counted
+
+rights_below-zero : (shape : TreeShape) (s : State) (top k : ℕ) → ((page : ℕ) → page < k → NoHolder shape (s.column page) top) → rights_below shape s top k ≡ 0
+rights_below-zero shape s top zero none = refl
+rights_below-zero shape s top (suc k) none =
+    omega (arith, rights_below-zero shape s top k (λ page h. none page (omega arith)), count_below-zero (is_held shape (s.column k) top) (nodes shape) (none k (omega arith)))
+
+do_is_not : (event : Event) → Next.Do event ≢ Next.Ready
+do_is_not event e = cc
+
+pub drain_answer_ready : (shape : TreeShape) (pages : ℕ) (s : State) (top : ℕ) (answer : Next) → IsDrainAnswer shape pages s top answer → answer ≡ Next.Ready ↔ IsSubtreeEmpty shape pages s top
+drain_answer_ready shape pages s top Next.Ready rule = ((λ e. drained shape pages s top rule), λ empty. refl)
+drain_answer_ready shape pages s top (Next.Do event) (Drain page node inside lowest first) =
+    ((λ e. absurd (do_is_not event e)), λ empty. absurd (false≢true (sym (empty_drained shape pages s top empty page inside node first.inside) ∙ first.held)))
+
+pub drain_answer_done : (shape : TreeShape) (pages : ℕ) (s : State) (top : ℕ) (answer : Next) → IsDrainAnswer shape pages s top answer → answer ≡ Next.Ready ↔ (rights_below shape s top pages ≡ 0)
+drain_answer_done shape pages s top Next.Ready rule = ((λ e. rights_below-zero shape s top pages rule), λ z. refl)
+drain_answer_done shape pages s top (Next.Do event) (Drain page node inside lowest first) =
+    ((λ e. absurd (do_is_not event e)), λ z. absurd (omega (arith, z, drain_cheaper shape pages s top page node ((s.column page).right node) inside first refl)))

@@ -13,7 +13,7 @@ use Rattle.tower_core.specs.Column.{Column, MayStep, column_after, right_after, 
 use Rattle.tower_core.specs.Trail.{State, of_page, state_after, holds, held_below, HoldsNothing, IsOldest, IsAllowed}
 use Rattle.tower_core.proofs.Paths.{ground_on_path, parent_on_path, child_on_path, one_child_on_path, le_on_path, down, up, above_other, is_within-same}
 use Rattle.tower_core.proofs.Counts.{count_below-same, count_below-less, count_below-none, count_below-zero}
-use Rattle.tower_plan.specs.Plan.{lacks, hinders, is_left, is_full, cost_of, depth_of, depth_within, IsHindrance, IsFirstHindrance, IsLacking, IsFirstLacking, NoHindrance, NoneLacks, revoking, is_write, IsNext, Revoke, Evict, Grant, IsReady, IsVictim, IsAnswer, IfDo, MayAccessFor}
+use Rattle.tower_plan.specs.Plan.{lacks, hinders, must_change, is_left, is_full, cost_of, depth_of, depth_within, IsHindrance, IsFirstHindrance, IsLacking, IsFirstLacking, NoHindrance, NoneLacks, revoking, is_write, IsNext, Revoke, Evict, Grant, IsReady, IsVictim, IsAnswer, IfDo, MayAccessFor}
 use Rattle.tower_plan.specs.declared.plan.Next.{Next}
 
 pub same_or_not : (a b : ℕ) → (a ≡ b) ⊎ (a ≢ b)
@@ -296,7 +296,7 @@ module _ (shape : TreeShape) (pages : ℕ) (s t : State) (node page : ℕ) (want
   -- the one node that was left is left no more
   one_less : (m : ℕ) (right : Right) → Changes s t page m right → m < nodes shape → is_left shape (s.column page) node want m ≡ true → is_left shape (t.column page) node want m ≡ false → count_below (is_left shape (t.column page) node want) (nodes shape) + 1 ≡ count_below (is_left shape (s.column page) node want) (nodes shape)
   one_less m right change inside was is = count_below-less (is_left shape (s.column page) node want) (is_left shape (t.column page) node want) m (nodes shape) inside was is
-      (λ n h d. ap (λ r. cond (is_within shape node n) (lacks want r) (hinders want r)) (change.beside n d))
+      (λ n h d. ap (λ r. must_change want (is_within shape node n) r) (change.beside n d))
 
   add_up : (a b : ℕ) (x y : Bool) → a + 1 ≡ b → x ≡ y → a + cond x 1 0 + 1 ≡ b + cond y 1 0
   add_up a b x y e f = rw f (omega (arith, e))
@@ -329,7 +329,7 @@ evict_cheaper shape pages s t node page want victim change inside other held ful
     (holds_some ((s.column victim).right node) held) (ap holds change.hit) (λ p h d. ap holds (change.elsewhere p node d)) in
     let roomy : is_full shape pages t node page ≡ false = fewer_roomy (holds ((t.column page).right node)) (frames_of shape node) (held_below t node pages) (omega (arith, fewer, framed)) in
     let same : count_below (is_left shape (t.column page) node want) (nodes shape) ≡ count_below (is_left shape (s.column page) node want) (nodes shape) = count_below-same (is_left shape (s.column page) node want) (is_left shape (t.column page) node want) (nodes shape)
-    (λ n h. ap (λ r. cond (is_within shape node n) (lacks want r) (hinders want r)) (change.elsewhere page n other)) in
+    (λ n h. ap (λ r. must_change want (is_within shape node n) r) (change.elsewhere page n other)) in
     rw roomy (rw full (rw same (omega arith)))
 
 revoke_cheaper : (shape : TreeShape) (pages : ℕ) (s : State) (node page : ℕ) (want have : Right) (other : ℕ) → IsUpper shape node → IsFirstHindrance shape (s.column page) node want other → (s.column page).right other ≡ have → cost_of shape pages (state_after shape s (revoking want have other page)) node page want + 1 ≡ cost_of shape pages s node page want
@@ -368,7 +368,7 @@ next_cheaper shape pages s node page want event upper framed (Grant other free r
 pub ready_cost : (shape : TreeShape) (pages : ℕ) (s : State) (node page : ℕ) (want : Right) → IsReady shape pages s node page want → cost_of shape pages s node page want ≡ 0
 ready_cost shape pages s node page want ready = rw ready.roomy (omega (arith, none))
   where
-    here : (n : ℕ) → n < nodes shape → (b : Bool) → is_within shape node n ≡ b → cond b (lacks want ((s.column page).right n)) (hinders want ((s.column page).right n)) ≡ false
+    here : (n : ℕ) → n < nodes shape → (b : Bool) → is_within shape node n ≡ b → must_change want b ((s.column page).right n) ≡ false
     here n h true e = elim (true_or_false (lacks want ((s.column page).right n))) [
       | inl hit ↦ absurd (ready.complete n (record { inside = h; on = e; lacks = hit }))
       | inr miss ↦ miss
@@ -435,7 +435,7 @@ module _ (shape : TreeShape) (tree : IsTree shape) (len : ℕ) (col : Column) (c
         omega (arith, coh.capped node un, path_within k (parent shape node) m (omega arith) (omega arith) (down shape tree node m un d on))
   ]
 
-  path_has : (node m : ℕ) → node < nodes shape → is_within shape node m ≡ true → strength (col.right node) ≤ strength (col.right m)
+  pub path_has : (node m : ℕ) → node < nodes shape → is_within shape node m ≡ true → strength (col.right node) ≤ strength (col.right m)
   path_has node m inside on = path_within (suc node) node m (omega arith) inside on
 
   abbrev OnOnePath : ℕ → ℕ → Type 0

@@ -1,5 +1,5 @@
 -- A sync's next event is allowed, and lowers the page's cost by one.
-use Rattle.std.proofs.Common.{◌≡◌, ◌≢◌, ℕ, suc, zero, ◌+◌, ◌<◌, ◌≤◌, ◌⊎◌, inl, inr, sym, ◌∙◌, ap, subst, refl, arith, Bool, true, false}
+use Rattle.std.proofs.Common.{◌≡◌, ◌≢◌, ℕ, suc, zero, ◌+◌, ◌<◌, ◌≤◌, ◌⊎◌, inl, inr, sym, ◌∙◌, ap, subst, refl, arith, Bool, true, false, ◌↔◌}
 use Rattle.std.proofs.lemmas.Bool.{eq-eqb}
 use Rattle.hist_plain.specs.declared.event.Keep.{Keep}
 use Rattle.tower_core.specs.declared.right.Right.{Right}
@@ -12,7 +12,7 @@ use Rattle.tower_core.proofs.StepLaw.{updated-same, updated-other}
 use Rattle.tower_core.proofs.Paths.{down, above_other}
 use Rattle.tower_plan.specs.declared.plan.Next.{Next}
 use Rattle.tower_plan.specs.Plan.{depth_of, IfDo}
-use Rattle.tower_plan.specs.Sync.{IsPusher, IsDeepestPusher, NoPusher, pushing, IsUnsettled, Push, IsSyncAnswer, IsSyncCost, Settled, Left}
+use Rattle.tower_plan.specs.Sync.{IsPusher, IsDeepestPusher, NoPusher, pushing, IsUnsettled, Push, IsSyncAnswer, IsSyncCost, IsOneLess, Settled, Left}
 use Rattle.tower_plan.proofs.Rules.{same_or_not, depth_of-child, comparable, strong_right}
 
 is_write_or_not : (r : Right) → (r ≡ Right.Write) ⊎ (r ≢ Right.Write)
@@ -290,10 +290,12 @@ push_allowed shape pages s page m Keep.Read false tree first = record { upper = 
 same_depth : (shape : TreeShape) (col : Column) (keep : Keep) (m o : ℕ) → IsDeepestPusher shape col keep m → IsDeepestPusher shape col keep o → depth_of shape m ≡ depth_of shape o
 same_depth shape col keep m o fm fo = omega (arith, fm.deepest o fo.is_one, fo.deepest m fm.is_one)
 
--- a cost of an unsettled page is the depth of each deepest node that pushes
-cost_depth : (shape : TreeShape) (col : Column) (from : ℕ) (keep : Keep) (m n : ℕ) → IsUnsettled from col → IsDeepestPusher shape col keep m → IsSyncCost shape col from keep n → depth_of shape m ≡ n
-cost_depth shape col from keep m n unsettled first (Settled settled) = absurd (unsettled settled)
-cost_depth shape col from keep m n unsettled first (Left other u fo) = same_depth shape col keep m other first fo
+-- a page has one cost
+pub one_cost : (shape : TreeShape) (col : Column) (from : ℕ) (keep : Keep) (m n : ℕ) → IsSyncCost shape col from keep m → IsSyncCost shape col from keep n → m ≡ n
+one_cost shape col from keep m n (Settled a) (Settled b) = refl
+one_cost shape col from keep m n (Settled a) (Left other u first) = absurd (u a)
+one_cost shape col from keep m n (Left other u first) (Settled b) = absurd (u b)
+one_cost shape col from keep m n (Left one u fo) (Left other v ft) = same_depth shape col keep one other fo ft
 
 -- what follows of any answer
 
@@ -301,9 +303,22 @@ pub sync_answer_allowed : (shape : TreeShape) (pages : ℕ) (s : State) (page no
 sync_answer_allowed shape pages s page node from keep Next.Ready tree rule = tt
 sync_answer_allowed shape pages s page node from keep (Next.Do event) tree (Push other unsettled first) = push_allowed shape pages s page other keep (is_within shape node other) tree first
 
-pub sync_answer_cheaper : (shape : TreeShape) (s : State) (page node from : ℕ) (keep : Keep) (answer : Next) → IsTree shape → IsCoherent shape s.len (s.column page) → IsSyncAnswer shape s page node from keep answer → IfDo answer (λ event. (n : ℕ) → IsSyncCost shape (s.column page) from keep (n + 1) → IsSyncCost shape ((state_after shape s event).column page) from keep n)
+pub sync_answer_cheaper : (shape : TreeShape) (s : State) (page node from : ℕ) (keep : Keep) (answer : Next) → IsTree shape → IsCoherent shape s.len (s.column page) → IsSyncAnswer shape s page node from keep answer → IfDo answer (λ event. IsOneLess (IsSyncCost shape (s.column page) from keep) (IsSyncCost shape ((state_after shape s event).column page) from keep))
 sync_answer_cheaper shape s page node from keep Next.Ready tree coh rule = tt
-sync_answer_cheaper shape s page node from keep (Next.Do event) tree coh (Push other unsettled first) = λ n cost.
-    cheaper shape tree s.len (s.column page) ((state_after shape s (pushing keep (is_within shape node other) other page)).column page) coh from keep other unsettled first
-    (pushed shape s page other keep (is_within shape node other) (tree.ordered other first.is_one.upper) first.is_one.writes)
-    n (cost_depth shape (s.column page) from keep other (n + 1) unsettled first cost)
+sync_answer_cheaper shape s page node from keep (Next.Do event) tree coh (Push other unsettled first) =
+    let um = first.is_one.upper in
+    let step = depth_of-child shape other (parent shape other) tree (record { upper = um; hangs = refl }) in
+    record {
+      left = depth_of shape (parent shape other);
+      cost_before = subst (IsSyncCost shape (s.column page) from keep) step (Left other unsettled first);
+      cost_after = cheaper shape tree s.len (s.column page) ((state_after shape s (pushing keep (is_within shape node other) other page)).column page) coh from keep other unsettled first
+          (pushed shape s page other keep (is_within shape node other) (tree.ordered other um) first.is_one.writes)
+          (depth_of shape (parent shape other)) step;
+    }
+
+pub sync_answer_ready : (shape : TreeShape) (s : State) (page node from : ℕ) (keep : Keep) (answer : Next) → IsSyncAnswer shape s page node from keep answer → answer ≡ Next.Ready ↔ IsSettled from (s.column page)
+sync_answer_ready shape s page node from keep Next.Ready rule = ((λ e. rule), λ settled. refl)
+sync_answer_ready shape s page node from keep (Next.Do event) (Push other unsettled first) = ((λ e. absurd (differ e)), λ settled. absurd (unsettled settled))
+  where
+    differ : Next.Do event ≢ Next.Ready
+    differ e = cc

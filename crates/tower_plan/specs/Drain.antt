@@ -1,5 +1,5 @@
 -- What is left of a subtree whose caches end.
-use Rattle.std.specs.Prelude.{◌≡◌, ℕ, zero, suc, ◌+◌, ◌<◌, ◌≤◌, Bool, true, false, ◌&&◌}
+use Rattle.std.specs.Prelude.{◌≡◌, ◌≢◌, ℕ, zero, suc, ◌+◌, ◌<◌, ◌≤◌, Bool, true, false, ◌&&◌}
 use Rattle.hist_plain.specs.declared.event.Event.{Event}
 use Rattle.tower_core.specs.declared.right.Right.{Right}
 use Rattle.tower_core.specs.Count.{count_below}
@@ -28,6 +28,12 @@ pub record IsFirstHolder (shape : TreeShape) (col : Column) (top node : ℕ) : T
 -- no node of the subtree has a right on the page
 abbrev pub NoHolder : TreeShape → Column → ℕ → Type 0
 NoHolder shape col top = (node : ℕ) → node < nodes shape → is_held shape col top node ≡ false
+
+-- the lowest page on which the node has a right
+pub record IsLowestHeld (pages : ℕ) (s : State) (node page : ℕ) : Type 0 where
+  pub inside : page < pages
+  pub held : (s.column page).right node ≢ Right.Nothing
+  pub lowest : (lower : ℕ) → lower < page → (s.column lower).right node ≡ Right.Nothing
 
 -- THE RULE: on the lowest page with such a right its first holder gives it up
 pub data IsNextOfDrain (shape : TreeShape) (pages : ℕ) (s : State) (top : ℕ) : Event → Type 0 where

@@ -29,9 +29,13 @@ hinders Right.Write Right.Nothing = false
 hinders Right.Write Right.Read = true
 hinders Right.Write Right.Write = true
 
--- the node must change its right: it is on the path and lacks one, or it is off the path and hinders
+-- a node must change its right: it is on the path and lacks one, or it is off the path and hinders
+abbrev pub must_change : Right → Bool → Right → Bool
+must_change want true right = lacks want right
+must_change want false right = hinders want right
+
 abbrev pub is_left : TreeShape → Column → ℕ → Right → ℕ → Bool
-is_left shape col node want other = if is_within shape node other then lacks want (col.right other) else hinders want (col.right other)
+is_left shape col node want other = must_change want (is_within shape node other) (col.right other)
 
 -- the node is a leaf with no frame left, and has Nothing on the page
 abbrev pub is_full : TreeShape → ℕ → State → ℕ → ℕ → Bool

@@ -1,5 +1,5 @@
 -- How a page is brought to the ground.
-use Rattle.std.specs.Prelude.{◌≡◌, ◌≢◌, ℕ, ◌≤◌, Bool, true, false}
+use Rattle.std.specs.Prelude.{◌≡◌, ◌≢◌, ℕ, ◌+◌, ◌≤◌, Bool, true, false}
 use Rattle.hist_plain.specs.declared.event.Event.{Event}
 use Rattle.hist_plain.specs.declared.event.Keep.{Keep}
 use Rattle.tower_core.specs.declared.right.Right.{Right}
@@ -44,3 +44,9 @@ IsSyncAnswer shape s page node from keep (Next.Do event) = IsNextOfSync shape s 
 pub data IsSyncCost (shape : TreeShape) (col : Column) (from : ℕ) (keep : Keep) : ℕ → Type 0 where
   Settled : IsSettled from col → IsSyncCost shape col from keep 0
   Left : (other : ℕ) → IsUnsettled from col → IsDeepestPusher shape col keep other → IsSyncCost shape col from keep (depth_of shape other)
+
+-- there is a cost before that is one more than a cost afterwards
+pub record IsOneLess (before after : ℕ → Type 0) : Type 0 where
+  pub left : ℕ
+  pub cost_before : before (left + 1)
+  pub cost_after : after left

@@ -1,3 +1,5 @@
+//! Which event comes next on the way to an access.
+
 ghost use Rattle.std.specs.Prelude.{IsTrue, MatchOption, ℕ, ◌+◌, ◌<◌, ◌≡◌, ◌≢◌, ◌≤◌, ◌↔◌, false};
 ghost use Rattle.tower_core.specs.TreeShape.{IsTree, IsUpper, frames_of, nodes};
 ghost use Rattle.tower_core.specs.Column.{IsCoherent, MayStep};
@@ -5,19 +7,23 @@ ghost use Rattle.tower_core.specs.Trail.{IsAllowed, held_below, state_after};
 ghost use Rattle.tower_core.specs.declared.step.Step.{Step as AStep};
 
 use crate::Rights;
+use crate::table::{depths, path};
 use hist_plain::Event;
 use tower_core::{Right, Tree};
 
-/// What is to be done for an access.
-#[derive(Drop)]
+/// What comes next.
+#[derive(Debug, Drop)]
 pub enum Next {
-    /// The access may be made.
+    /// Nothing is left to do.
     Ready,
-    /// This event comes first.
+    /// This event comes next.
     Do { event: Event },
 }
 
-ghost use Rattle.tower_plan.specs.Plan.{IfDo, IsAnswer, IsFirstHindrance, IsFirstLacking, IsReady, IsVictim, MayAccessFor, NoHindrance, NoneLacks, cost_of, depth_of, hinders, is_full, is_left, is_write, lacks, revoking};
+ghost use Rattle.tower_plan.specs.Plan.{IfDo, IsAnswer, IsFirstHindrance, IsFirstLacking, IsReady, IsVictim, MayAccessFor, NoHindrance, NoneLacks, cost_of, hinders, is_full, is_left, is_write, lacks, must_change, revoking};
+ghost use Rattle.tower_core.specs.Count.{count_below};
+ghost use Rattle.tower_core.specs.TreeShape.{is_within};
+ghost use Rattle.tower_plan.specs.Table.{AreFlags, AreNumbers};
 
 /// Whether a node on the path lacks what is wanted.
 fn lacks(want: Right, right: Right) -> bool
@@ -41,39 +47,28 @@ fn hinders(want: Right, right: Right) -> bool
     }
 }
 
-/// How many steps up from the node the ground is.
-pub(crate) fn depth(tree: &Tree, node: u32) -> u32
-    requires tree { IsTree tree.now }
-    requires node_in { node < nodes tree.now }
-    ensures { result ≡ depth_of tree.now node }
-{
-    let mut at = node;
-    let mut depth = 0;
-    while at != 0 {
-        at = tree.parent(at);
-        depth += 1;
-    }
-    depth
-}
-
 /// The deepest node off the path that hinders, and of equal depth the one of the greatest number.
 fn first_hindrance<R: Rights>(
     tree: &Tree,
     rights: &R,
+    on: &[bool; 32],
     node: u32,
     page: u32,
     want: Right,
 ) -> Option<u32>
     requires same_tree { nodes tree.now ≡ R.node_count rights.now }
-    requires upper { IsUpper tree.now node }
+    requires path { AreFlags (is_within tree.now node) (nodes tree.now) on.now }
     requires page_in { page < R.page_count rights.now }
-    ensures { MatchOption result (NoHindrance tree.now ((R.state rights.now).column page) node want) (IsFirstHindrance tree.now ((R.state rights.now).column page) node want) }
+    ensures { MatchOption result
+        (NoHindrance tree.now ((R.state rights.now).column page) node want)
+        (IsFirstHindrance tree.now ((R.state rights.now).column page) node want) }
 {
+    let depths = depths(tree);
     let mut first: Option<u32> = None;
     for other in 0..tree.nodes() {
-        if !tree.within(node, other) && hinders(want, rights.right(other, page)) {
+        if !on[other as usize] && hinders(want, rights.right(other, page)) {
             let comes_first = match first {
-                Some(best) => depth(tree, best) <= depth(tree, other),
+                Some(best) => depths[best as usize] <= depths[other as usize],
                 None => true,
             };
             if comes_first {
@@ -88,17 +83,20 @@ fn first_hindrance<R: Rights>(
 fn first_lacking<R: Rights>(
     tree: &Tree,
     rights: &R,
+    on: &[bool; 32],
     node: u32,
     page: u32,
     want: Right,
 ) -> Option<u32>
     requires same_tree { nodes tree.now ≡ R.node_count rights.now }
-    requires upper { IsUpper tree.now node }
+    requires path { AreFlags (is_within tree.now node) (nodes tree.now) on.now }
     requires page_in { page < R.page_count rights.now }
-    ensures { MatchOption result (NoneLacks tree.now ((R.state rights.now).column page) node want) (IsFirstLacking tree.now ((R.state rights.now).column page) node want) }
+    ensures { MatchOption result
+        (NoneLacks tree.now ((R.state rights.now).column page) node want)
+        (IsFirstLacking tree.now ((R.state rights.now).column page) node want) }
 {
     for other in 0..tree.nodes() {
-        if tree.within(node, other) && lacks(want, rights.right(other, page)) {
+        if on[other as usize] && lacks(want, rights.right(other, page)) {
             return Some(other);
         }
     }
@@ -116,29 +114,63 @@ fn is_full<R: Rights>(tree: &Tree, rights: &R, node: u32, page: u32) -> bool
     rights.right(node, page) == Right::Nothing && frames != 0 && frames <= rights.held(node)
 }
 
-/// How many events are left before the access.
+/// How many events are left before the access: at most the number of nodes.
 pub fn cost<R: Rights>(tree: &Tree, rights: &R, node: u32, page: u32, want: Right) -> u32
+    requires same_tree { nodes tree.now ≡ R.node_count rights.now }
+    requires upper { IsUpper tree.now node }
+    requires page_in { page < R.page_count rights.now }
+    requires ground { ((R.state rights.now).column page).right 0 ≡ Right.Write }
+    ensures count { result ≡ cost_of tree.now (R.page_count rights.now) (R.state rights.now) node page want }
+    ensures few { result ≤ nodes tree.now }
+{
+    let _nodes = tree.nodes();
+    events_left(tree, rights, node, page, want)
+}
+
+/// How many events are left before the access.
+fn events_left<R: Rights>(tree: &Tree, rights: &R, node: u32, page: u32, want: Right) -> u32
     requires same_tree { nodes tree.now ≡ R.node_count rights.now }
     requires upper { IsUpper tree.now node }
     requires page_in { page < R.page_count rights.now }
     ensures { result ≡ cost_of tree.now (R.page_count rights.now) (R.state rights.now) node page want }
 {
+    let _nodes = tree.nodes();
+    let left = count_left(tree, rights, &path(tree, node), node, page, want);
+    left + u32::from(is_full(tree, rights, node, page))
+}
+
+/// How many nodes must change their right before the access.
+fn count_left<R: Rights>(
+    tree: &Tree,
+    rights: &R,
+    on: &[bool; 32],
+    node: u32,
+    page: u32,
+    want: Right,
+) -> u32
+    requires same_tree { nodes tree.now ≡ R.node_count rights.now }
+    requires path { AreFlags (is_within tree.now node) (nodes tree.now) on.now }
+    requires page_in { page < R.page_count rights.now }
+    ensures count { result ≡ count_below (is_left tree.now ((R.state rights.now).column page) node want) (nodes tree.now) }
+    ensures few { result ≤ nodes tree.now }
+{
     let mut left = 0;
     for other in 0..tree.nodes() {
-        let right = rights.right(other, page);
-        let is_left = if tree.within(node, other) {
-            lacks(want, right)
-        } else {
-            hinders(want, right)
-        };
-        if is_left {
+        if is_left(on[other as usize], want, rights.right(other, page)) {
             left += 1;
         }
     }
-    if is_full(tree, rights, node, page) {
-        left + 1
+    left
+}
+
+/// Whether a node on the path, or off it, must change its right.
+fn is_left(is_on: bool, want: Right, right: Right) -> bool
+    ensures { result ≡ must_change want is_on right }
+{
+    if is_on {
+        lacks(want, right)
     } else {
-        left
+        hinders(want, right)
     }
 }
 
@@ -191,7 +223,8 @@ fn by_rule<R: Rights>(tree: &Tree, rights: &R, node: u32, page: u32, want: Right
     ensures tree { IsTree tree.now }
 {
     let _nodes = tree.nodes();
-    if let Some(other) = first_hindrance(tree, rights, node, page, want) {
+    let on = path(tree, node);
+    if let Some(other) = first_hindrance(tree, rights, &on, node, page, want) {
         let have = rights.right(other, page);
         return Next::Do {
             event: revoke(want, have, other, page),
@@ -202,7 +235,7 @@ fn by_rule<R: Rights>(tree: &Tree, rights: &R, node: u32, page: u32, want: Right
             event: Event::PageOut { node, page: victim },
         };
     }
-    match first_lacking(tree, rights, node, page, want) {
+    match first_lacking(tree, rights, &on, node, page, want) {
         Some(other) => Next::Do {
             event: Event::PageIn {
                 node: other,
@@ -214,7 +247,15 @@ fn by_rule<R: Rights>(tree: &Tree, rights: &R, node: u32, page: u32, want: Right
     }
 }
 
-/// The event that comes next on the way to an access of the node that wants this right.
+/// The event that comes next on the way to an access of the node that wants this right: Read for a
+/// read, Write for a write or a clear.
+///
+/// First the deepest node off the path that hinders, and of equal depth the one of the greatest
+/// number: for a read it has Write and gets DenyWrites, and for a write it has any right and gets
+/// FlushBack or DeleteRange. Then, where the node is a leaf without a frame for the page, PageOut of
+/// its least recently used page. Then the lowest node on the path that lacks the right gets a grant,
+/// as PageIn. Ready means that the access is allowed. These rules are this project's own; the papers
+/// ask only for one writer or many readers.
 pub fn next_for<R: Rights>(tree: &Tree, rights: &R, node: u32, page: u32, want: Right) -> Next
     requires same_tree { nodes tree.now ≡ R.node_count rights.now }
     requires upper { IsUpper tree.now node }

@@ -1,11 +1,13 @@
+//! Which event comes next on the way to a page that is on the ground.
+
 ghost use Rattle.std.specs.Prelude.{IsTrue, MatchOption, ◌↔◌, ◌+◌, ◌<◌, ◌≡◌, ℕ};
 ghost use Rattle.tower_core.specs.TreeShape.{IsTree, IsUpper, is_within, nodes};
 ghost use Rattle.tower_core.specs.Column.{IsCoherent};
 ghost use Rattle.tower_core.specs.Trail.{IsAllowed, IsSettled, state_after};
 ghost use Rattle.tower_plan.specs.Plan.{IfDo};
-ghost use Rattle.tower_plan.specs.Sync.{IsDeepestPusher, IsSyncAnswer, IsSyncCost, NoPusher, pushing};
+ghost use Rattle.tower_plan.specs.Sync.{IsDeepestPusher, IsSyncAnswer, IsOneLess, IsSyncCost, NoPusher, pushing};
 
-use crate::plan::depth;
+use crate::table::depths;
 use crate::{Next, Rights};
 use hist_plain::{Event, Keep};
 use tower_core::{Right, Tree};
@@ -17,13 +19,14 @@ fn deepest_pusher<R: Rights>(tree: &Tree, rights: &R, page: u32, keep: Keep) -> 
     ensures { MatchOption result (NoPusher tree.now ((R.state rights.now).column page) keep)
         (IsDeepestPusher tree.now ((R.state rights.now).column page) keep) }
 {
+    let depths = depths(tree);
     let mut deepest: Option<u32> = None;
     for node in 1..tree.nodes() {
         let pushes = rights.right(node, page) == Right::Write
             && (keep == Keep::Read || rights.at(node, page) != rights.at(tree.parent(node), page));
         if pushes {
             let is_deeper = match deepest {
-                Some(best) => depth(tree, best) <= depth(tree, node),
+                Some(best) => depths[best as usize] <= depths[node as usize],
                 None => true,
             };
             if is_deeper {
@@ -87,7 +90,11 @@ fn by_rule<R: Rights>(tree: &Tree, rights: &R, page: u32, node: u32, from: u64, 
     }
 }
 
-/// The event that comes next on the way to a settled page.
+/// The event that comes next on the way to a page that is settled from that place on: the deepest
+/// node with Write and a changed copy pushes it, and where only Read is kept the deepest with Write.
+/// The message is the one of a node that asks for it itself, SyncOut or WriteOut, where the pushing
+/// node is on the path to the node of the sync, and WriteBack or DenyWrites elsewhere. Ready means
+/// that the page is settled. This rule is this project's own.
 pub fn next_sync<R: Rights>(
     tree: &Tree,
     rights: &R,
@@ -103,9 +110,10 @@ pub fn next_sync<R: Rights>(
     requires ground { ((R.state rights.now).column page).right 0 ≡ Right.Write }
     ensures rule { IsSyncAnswer tree.now (R.state rights.now) page node from keep result }
     ensures allowed { IfDo result (IsAllowed tree.now (R.page_count rights.now) (R.state rights.now)) }
-    ensures cheaper { IfDo result (λ event. (n : ℕ) →
-        IsSyncCost tree.now ((R.state rights.now).column page) from keep (n + 1) →
-        IsSyncCost tree.now ((state_after tree.now (R.state rights.now) event).column page) from keep n) }
+    ensures ready { result ≡ Next.Ready ↔ IsSettled from ((R.state rights.now).column page) }
+    ensures cheaper { IfDo result (λ event.
+        IsOneLess (IsSyncCost tree.now ((R.state rights.now).column page) from keep)
+            (IsSyncCost tree.now ((state_after tree.now (R.state rights.now) event).column page) from keep)) }
 {
     let _nodes = tree.nodes();
     by_rule(tree, rights, page, node, from, keep)
