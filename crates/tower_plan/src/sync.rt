@@ -113,7 +113,7 @@ pub fn next_sync<R: Rights>(
     ensures ready { result ≡ Next.Ready ↔ IsSettled from ((R.state rights.now).column page) }
     ensures cheaper { IfDo result (λ event.
         IsOneLess (IsSyncCost tree.now ((R.state rights.now).column page) from keep)
-            (IsSyncCost tree.now ((state_after tree.now (R.state rights.now) event).column page) from keep)) }
+        (IsSyncCost tree.now ((state_after tree.now (R.state rights.now) event).column page) from keep)) }
 {
     let _nodes = tree.nodes();
     by_rule(tree, rights, page, node, from, keep)

@@ -1,5 +1,5 @@
 use Rattle.std.proofs.Common.{◌∙◌, ◌+◌, arith, ap, sym, length-set}
-use Rattle.tower_core.specs.TreeShape.{IsChild, IsUpper}
+use Rattle.tower_core.specs.TreeShape.{IsChild}
 use Rattle.tower_plan.specs.Plan.{depth_of}
 use Rattle.tower_plan.proofs.Rules.{depth_of-child}
 use Rattle.tower_plan.proofs.Tables.{filled, filled_low}

@@ -1,7 +1,7 @@
-use Rattle.std.proofs.Common.{◌∙◌, arith, ap, sym, refl, ◌≤◌, ◌||◌, false, true, get_or, length-set}
+use Rattle.std.proofs.Common.{◌∙◌, arith, ap, refl, ◌≤◌, ◌||◌, false, true, get_or, length-set}
 use Rattle.std.proofs.Math.ListN.{set}
 use Rattle.tower_core.specs.TreeShape.{is_within, nodes}
-use Rattle.tower_plan.proofs.Tables.{no_flag, path_up, path_end}
+use Rattle.tower_plan.proofs.Tables.{no_flag, path_up}
 use Rattle.tower_plan.proofs.table.path.Goals as goal
 
 pub loop-at-init : goal.loop-at-init
