@@ -26,7 +26,7 @@ holds_at : (r v : Right) → r ≡ v → holds v ≡ true → holds r ≡ true
 holds_at r v e h = rw e h
 
 -- no step but a grant at the node gives it a right
-no_gain : (shape : TreeShape) (col : Column) (step : Step) (node : ℕ) → MayStep shape col step → ((write : Bool) → step ≢ Grants node write) → holds (right_after col.right step node) ≡ true → holds (col.right node) ≡ true
+pub no_gain : (shape : TreeShape) (col : Column) (step : Step) (node : ℕ) → MayStep shape col step → ((write : Bool) → step ≢ Grants node write) → holds (right_after col.right step node) ≡ true → holds (col.right node) ≡ true
 no_gain shape col Untouched node may other h = h
 no_gain shape col (Reads n) node may other h = h
 no_gain shape col (Writes n) node may other h = h

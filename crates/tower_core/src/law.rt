@@ -1,4 +1,5 @@
-//! What holds of every trail, whoever made it. Each law is the contract of a function that does nothing.
+//! What holds of every trail, whoever made it. Each law is the contract of a function that does
+//! nothing.
 
 ghost use Rattle.std.specs.Prelude.{List, Some, filter, length, slice_index, ℕ, ◌*◌, ◌+◌, ◌<◌, ◌≡◌, ◌≤◌};
 ghost use Rattle.std.specs.List.{fold};
@@ -14,7 +15,7 @@ ghost use Rattle.tower_core.specs.Column.{Column, IsCoherent, IsStepOf, MayStep,
 ghost use Rattle.tower_core.specs.Legal.{IsLegal, file_after, plain_shape};
 ghost use Rattle.tower_core.specs.Messages.{is_message_of, right_after_message};
 ghost use Rattle.tower_core.specs.TreeShape.{IsTree, TreeShape, nodes};
-ghost use Rattle.tower_core.specs.Trail.{IsAllowed, IsCoherentState, IsFramed, IsRun, State, at_of, newest_of, right_of, start, state_after, state_of};
+ghost use Rattle.tower_core.specs.Trail.{IsAllowed, IsCoherentState, IsFramed, IsOldest, IsRun, State, at_of, newest_of, right_of, start, state_after, state_of};
 
 /// The law of one step. From any coherent column each allowed step of the table gives a coherent
 /// column, and so does an event that does not touch it. Nothing is asked of how a column starts.
@@ -23,7 +24,8 @@ pub fn step_keeps_coherence()
         IsTree shape → IsStepOf shape step → IsCoherent shape len col → MayStep shape col step →
         IsCoherent shape (len + 1) (column_after shape len col step) }
     ensures other_event { (shape : TreeShape) (len : ℕ) (col : Column) →
-        IsTree shape → IsCoherent shape len col → IsCoherent shape (len + 1) (column_after shape len col Untouched) }
+        IsTree shape → IsCoherent shape len col →
+        IsCoherent shape (len + 1) (column_after shape len col Untouched) }
 {}
 
 /// The law of frames, over the pages that a leaf holds: no allowed event makes them more than its
@@ -61,9 +63,11 @@ pub fn trail_is_coherent()
     ensures allowed { (shape : TreeShape) (pages : ℕ) (trail : List AnEvent) →
         IsTree shape → IsRun shape pages start trail →
         IsCoherentState shape pages (state_of shape trail) }
-    ensures legal_is_allowed { (shape : TreeShape) (size pages : ℕ) (bytes : List ℕ) (trail : List AnEvent) →
+    ensures legal_is_allowed { (shape : TreeShape) (size pages : ℕ) (bytes : List ℕ)
+        (trail : List AnEvent) →
         IsLegal shape size pages bytes trail → IsRun shape pages start trail }
-    ensures len { (shape : TreeShape) (trail : List AnEvent) → (state_of shape trail).len ≡ length trail }
+    ensures len { (shape : TreeShape) (trail : List AnEvent) →
+        (state_of shape trail).len ≡ length trail }
 {}
 
 /// After a legal trail an access of its node's life that is allowed finds a copy whose place is not
@@ -72,8 +76,17 @@ pub fn access_sees_newest()
     ensures { (shape : TreeShape) (size pages : ℕ) (bytes : List ℕ) (trail : List AnEvent) →
         IsTree shape → IsLegal shape size pages bytes trail →
         (caller number node page : ℕ) (op : AnOp) → page_of_op op ≡ Some page →
-        IsAllowed shape pages (state_of shape trail) (AnEvent.Access caller number node ((state_of shape trail).life node) op) →
+        IsAllowed shape pages (state_of shape trail)
+        (AnEvent.Access caller number node ((state_of shape trail).life node) op) →
         newest_of shape trail page ≤ at_of shape trail node page }
+{}
+
+/// After a trail of allowed events a node has one least recently used page, if it holds any.
+pub fn oldest_page_is_one()
+    ensures { (shape : TreeShape) (pages : ℕ) (trail : List AnEvent) →
+        IsTree shape → IsRun shape pages start trail → (node a b : ℕ) → 0 < node →
+        IsOldest pages (state_of shape trail) node a → IsOldest pages (state_of shape trail) node b →
+        a ≡ b }
 {}
 
 /// A node's right is what the column of rights makes of the node's own messages alone.

@@ -1,7 +1,10 @@
 //! A trail's rights, places, uses and lives, kept as tables.
 
-ghost use Rattle.std.specs.Prelude.{◌≡◌, ◌<◌, ◌≤◌, All, IfOk, vec_len};
+ghost use Rattle.std.specs.Prelude.{◌≡◌, ◌≢◌, ◌<◌, ◌≤◌, ◌+◌, ℕ, All, IfOk, length, slice_index, vec_len};
+ghost use Rattle.std.specs.Int.{from_bool};
 ghost use Rattle.std.proofs.Props.{props};
+ghost use Rattle.tower_core.specs.TreeShape.{nodes, IsUpper};
+ghost use Rattle.tower_core.specs.Trail.{lives_after};
 ghost use Rattle.tower_core.specs.Page.{IsHeldCounted};
 
 use crate::page::Page;
@@ -33,6 +36,7 @@ impl Sheet {
     ghost use Rattle.tower_core.specs.Column.{MayStep, IsStepOf};
     ghost use Rattle.tower_core.specs.Trail.{IsAllowed, IsLine, IsOldest, MayAccess, IsAllSettled, IsLeastRecentlyUsed, IsSubtreeEmpty, HasRoom, HoldsNothing, held_below, moved, of_page, start, state_after, step_of_access, lives_after};
     ghost use Rattle.tower_core.specs.Sheet.{nodes_of, pages_of, seen};
+    ghost use Rattle.tower_core.specs.declared.step.Step.TheVariants.{Grants};
 
     /// The sheet of an empty trail.
     pub fn new(alloc: Global, tree: &Tree, pages: u32) -> Result<Sheet, AllocError>
@@ -220,7 +224,7 @@ impl Sheet {
         requires page_in { ForSome (page_of event.now) (λ page. page < pages_of self.now) }
         ensures { IsTrue result ↔ IsAllowed tree.now (pages_of self.now) (seen self.now) event.now }
     {
-        let node = node_of(event);
+        let node = event.node();
         node != 0 && node < tree.nodes() && self.line_holds(tree, event)
     }
 
@@ -235,27 +239,10 @@ impl Sheet {
             Event::Access { node, life, op, .. } => {
                 self.life(*node) != *life || self.may_access(tree, *node, op)
             }
-            Event::PageIn { node, page, write } => {
-                self.may(
-                    tree,
-                    *page,
-                    Step::Grants {
-                        node: *node,
-                        write: *write,
-                    },
-                ) && self.has_room(tree, *node, *page)
-            }
+            Event::PageIn { node, page, write } => self.may_grant(tree, *node, *page, *write),
             Event::ZeroFill { node, page, write } => {
                 self.right(*node, *page) == Right::Nothing
-                    && self.may(
-                        tree,
-                        *page,
-                        Step::Grants {
-                            node: *node,
-                            write: *write,
-                        },
-                    )
-                    && self.has_room(tree, *node, *page)
+                    && self.may_grant(tree, *node, *page, *write)
             }
             Event::PageOut { node, page } => {
                 tree.frames(*node) != 0
@@ -281,6 +268,17 @@ impl Sheet {
         }
     }
 
+    /// Whether a grant of the page to the node may come next.
+    fn may_grant(&self, tree: &Tree, node: u32, page: u32, write: bool) -> bool
+        requires same_tree { nodes tree.now ≡ nodes_of self.now }
+        requires page_in { page < pages_of self.now }
+        requires upper { IsUpper tree.now node }
+        ensures { IsTrue result ↔ (MayStep tree.now ((seen self.now).column page) (Grants node write)
+            × HasRoom tree.now (pages_of self.now) (seen self.now) node page) }
+    {
+        self.may(tree, page, Step::Grants { node, write }) && self.has_room(tree, node, page)
+    }
+
     /// Whether an access of the node's life may come next.
     fn may_access(&self, tree: &Tree, node: u32, op: &Op) -> bool
         requires same_tree { nodes tree.now ≡ nodes_of self.now }
@@ -303,7 +301,8 @@ impl Sheet {
         requires page_in { page < pages_of self.old }
         requires upper { IsStepOf tree.now step }
         requires room { (seen self.old).len < 4194304 }
-        ensures state { seen self.new ≡ moved tree.now (seen self.old) (seen self.old).life (λ p. of_page p page step) }
+        ensures state { seen self.new ≡
+            moved tree.now (seen self.old) (seen self.old).life (λ p. of_page p page step) }
         ensures nodes { nodes_of self.new ≡ nodes_of self.old }
         ensures pages { pages_of self.new ≡ pages_of self.old }
     {
@@ -320,7 +319,8 @@ impl Sheet {
     /// Enters an event that touches no page and no life.
     fn pass(&mut self, tree: &Tree)
         requires room { (seen self.old).len < 4194304 }
-        ensures state { seen self.new ≡ moved tree.now (seen self.old) (seen self.old).life (λ p. Step.Untouched) }
+        ensures state { seen self.new ≡
+            moved tree.now (seen self.old) (seen self.old).life (λ p. Step.Untouched) }
         ensures nodes { nodes_of self.new ≡ nodes_of self.old }
         ensures pages { pages_of self.new ≡ pages_of self.old }
     {
@@ -333,7 +333,8 @@ impl Sheet {
         requires page_in { ForSome (page_of_op op.now) (λ page. page < pages_of self.old) }
         requires upper { IsUpper tree.now node }
         requires room { (seen self.old).len < 4194304 }
-        ensures state { seen self.new ≡ moved tree.now (seen self.old) (seen self.old).life (λ p. step_of_access p node op.now) }
+        ensures state { seen self.new ≡
+            moved tree.now (seen self.old) (seen self.old).life (λ p. step_of_access p node op.now) }
         ensures nodes { nodes_of self.new ≡ nodes_of self.old }
         ensures pages { pages_of self.new ≡ pages_of self.old }
     {
@@ -365,14 +366,8 @@ impl Sheet {
                 }
             }
             Event::PageIn { node, page, write } | Event::ZeroFill { node, page, write } => {
-                self.step(
-                    tree,
-                    *page,
-                    Step::Grants {
-                        node: *node,
-                        write: *write,
-                    },
-                );
+                let (node, write) = (*node, *write);
+                self.step(tree, *page, Step::Grants { node, write });
             }
             Event::PageOut { node, page } => {
                 self.step(tree, *page, Step::PagesOut { node: *node });
@@ -399,7 +394,8 @@ impl Sheet {
         requires same_tree { nodes tree.now ≡ nodes_of self.old }
         requires upper { IsUpper tree.now top }
         requires room { (seen self.old).len < 4194304 }
-        ensures state { seen self.new ≡ moved tree.now (seen self.old) (lives_after tree.now (seen self.old).life top) (λ p. Step.Untouched) }
+        ensures state { seen self.new ≡
+            moved tree.now (seen self.old) (lives_after tree.now (seen self.old).life top) (λ p. Step.Untouched) }
         ensures nodes { nodes_of self.new ≡ nodes_of self.old }
         ensures pages { pages_of self.new ≡ pages_of self.old }
     {
@@ -407,12 +403,6 @@ impl Sheet {
         self.len += 1;
     }
 }
-
-ghost use Rattle.std.specs.Prelude.{◌+◌, ◌≢◌, length, slice_index, ℕ};
-ghost use Rattle.std.specs.Int.{from_bool};
-ghost use Rattle.tower_core.specs.TreeShape.{nodes, IsUpper};
-ghost use Rattle.tower_core.specs.Trail.{lives_after};
-ghost use Rattle.hist_plain.specs.Event.{node_of};
 
 /// A zero for each node.
 fn zeros(alloc: Global, nodes: usize) -> Result<Vec<u32>, AllocError>
@@ -440,33 +430,13 @@ fn recount(held: &mut Vec<u32>, node: u32, had: bool, has: bool)
     requires low { slice_index held.old.items node ≤ 1024 }
     requires had { from_bool had ≤ slice_index held.old.items node }
     ensures len { vec_len held.new ≡ vec_len held.old }
-    ensures node { slice_index held.new.items node + from_bool had ≡ slice_index held.old.items node + from_bool has }
+    ensures node { slice_index held.new.items node + from_bool had ≡
+        slice_index held.old.items node + from_bool has }
     ensures others { (n : ℕ) → n ≢ node → slice_index held.new.items n ≡ slice_index held.old.items n }
 {
     let count = &mut held[node as usize];
     *count += u32::from(has);
     *count -= u32::from(had);
-}
-
-/// The node that an event names.
-fn node_of(event: &Event) -> u32
-    ensures { result ≡ node_of event.now }
-{
-    match event {
-        Event::Access { node, .. }
-        | Event::PageIn { node, .. }
-        | Event::ZeroFill { node, .. }
-        | Event::PageOut { node, .. }
-        | Event::WriteOut { node, .. }
-        | Event::SyncOut { node, .. }
-        | Event::FlushBack { node, .. }
-        | Event::DenyWrites { node, .. }
-        | Event::WriteBack { node, .. }
-        | Event::DeleteRange { node, .. }
-        | Event::DestroyCache { node, .. }
-        | Event::DonePager { node, .. }
-        | Event::Synced { node, .. } => *node,
-    }
 }
 
 /// Adds one to the life of each node of the subtree.

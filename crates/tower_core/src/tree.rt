@@ -22,7 +22,9 @@ impl Model for Tree {
 
     ghost view = { λ t. record { parents = t.parents.items; frames = t.frames.items } };
 
-    ghost invariant = { λ t. IsTree (record { parents = t.parents.items; frames = t.frames.items }) × (length t.parents.items ≤ 32) };
+    ghost invariant = { λ t.
+        IsTree (record { parents = t.parents.items; frames = t.frames.items })
+        × (length t.parents.items ≤ 32) };
 }
 
 impl Tree {

@@ -23,11 +23,14 @@ pub fn next_drain<R: Rights>(tree: &Tree, rights: &R, node: u32) -> Next
     requires coherent { (page : ℕ) → page < R.page_count rights.now →
         IsCoherent tree.now (R.state rights.now).len ((R.state rights.now).column page) }
     ensures rule { IsDrainAnswer tree.now (R.page_count rights.now) (R.state rights.now) node result }
-    ensures ready { result ≡ Next.Ready ↔ IsSubtreeEmpty tree.now (R.page_count rights.now) (R.state rights.now) node }
-    ensures done { result ≡ Next.Ready ↔ (rights_below tree.now (R.state rights.now) node (R.page_count rights.now) ≡ 0) }
+    ensures ready { result ≡
+        Next.Ready ↔ IsSubtreeEmpty tree.now (R.page_count rights.now) (R.state rights.now) node }
+    ensures done { result ≡ Next.Ready ↔
+        (rights_below tree.now (R.state rights.now) node (R.page_count rights.now) ≡ 0) }
     ensures allowed { IfDo result (IsAllowed tree.now (R.page_count rights.now) (R.state rights.now)) }
     ensures cheaper { IfDo result (λ event.
-        rights_below tree.now (state_after tree.now (R.state rights.now) event) node (R.page_count rights.now) + 1
+        rights_below tree.now (state_after tree.now (R.state rights.now) event)
+        node (R.page_count rights.now) + 1
         ≡ rights_below tree.now (R.state rights.now) node (R.page_count rights.now)) }
 {
     let _nodes = tree.nodes();

@@ -151,7 +151,8 @@ fn count_left<R: Rights>(
     requires same_tree { nodes tree.now ≡ R.node_count rights.now }
     requires path { AreFlags (is_within tree.now node) (nodes tree.now) on.now }
     requires page_in { page < R.page_count rights.now }
-    ensures count { result ≡ count_below (is_left tree.now ((R.state rights.now).column page) node want) (nodes tree.now) }
+    ensures count { result ≡
+        count_below (is_left tree.now ((R.state rights.now).column page) node want) (nodes tree.now) }
     ensures few { result ≤ nodes tree.now }
 {
     let mut left = 0;
@@ -205,7 +206,9 @@ fn victim<R: Rights>(tree: &Tree, rights: &R, node: u32, page: u32) -> Option<u3
     requires same_tree { nodes tree.now ≡ R.node_count rights.now }
     requires upper { IsUpper tree.now node }
     requires page_in { page < R.page_count rights.now }
-    ensures { MatchOption result (is_full tree.now (R.page_count rights.now) (R.state rights.now) node page ≡ false) (IsVictim tree.now (R.page_count rights.now) (R.state rights.now) node page) }
+    ensures { MatchOption result
+        (is_full tree.now (R.page_count rights.now) (R.state rights.now) node page ≡ false)
+        (IsVictim tree.now (R.page_count rights.now) (R.state rights.now) node page) }
 {
     if is_full(tree, rights, node, page) {
         rights.oldest(node)
@@ -263,12 +266,17 @@ pub fn next_for<R: Rights>(tree: &Tree, rights: &R, node: u32, page: u32, want: 
     requires want { want ≢ Right.Nothing }
     requires coherent { IsCoherent tree.now (R.state rights.now).len ((R.state rights.now).column page) }
     requires ground { ((R.state rights.now).column page).right 0 ≡ Right.Write }
-    requires framed { frames_of tree.now node ≢ 0 → held_below (R.state rights.now) node (R.page_count rights.now) ≤ frames_of tree.now node }
+    requires framed { frames_of tree.now node ≢ 0 →
+        held_below (R.state rights.now) node (R.page_count rights.now) ≤ frames_of tree.now node }
     ensures rule { IsAnswer tree.now (R.page_count rights.now) (R.state rights.now) node page want result }
     ensures may { result ≡ Next.Ready ↔ MayAccessFor tree.now ((R.state rights.now).column page) node want }
-    ensures ready { result ≡ Next.Ready ↔ (cost_of tree.now (R.page_count rights.now) (R.state rights.now) node page want ≡ 0) }
+    ensures ready { result ≡ Next.Ready ↔
+        (cost_of tree.now (R.page_count rights.now) (R.state rights.now) node page want ≡ 0) }
     ensures allowed { IfDo result (IsAllowed tree.now (R.page_count rights.now) (R.state rights.now)) }
-    ensures cheaper { IfDo result (λ event. cost_of tree.now (R.page_count rights.now) (state_after tree.now (R.state rights.now) event) node page want + 1 ≡ cost_of tree.now (R.page_count rights.now) (R.state rights.now) node page want) }
+    ensures cheaper { IfDo result (λ event.
+        cost_of tree.now (R.page_count rights.now) (state_after tree.now (R.state rights.now) event)
+        node page want + 1
+        ≡ cost_of tree.now (R.page_count rights.now) (R.state rights.now) node page want) }
 {
     by_rule(tree, rights, node, page, want)
 }
