@@ -140,7 +140,7 @@ MayAccess shape s node (Op.Write page off bytes) = MayStep shape (s.column page)
 MayAccess shape s node (Op.Clear page) = MayStep shape (s.column page) (Writes node)
 MayAccess shape s node Op.Open = Unit {0}
 
--- the column "Allowed where"
+-- THE TABLE OF EVENTS, by event: the column "Allowed where", whole but for the bytes that ZeroFill moves
 abbrev pub IsLine : TreeShape → ℕ → State → Event → Type 0
 -- an access of another life is always allowed
 IsLine shape pages s (Event.Access caller number node life op) = life ≡ s.life node → MayAccess shape s node op
