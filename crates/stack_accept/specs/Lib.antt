@@ -1,0 +1,5 @@
+pub mod Lines
+pub mod Rules
+pub mod Plan
+pub mod Mount
+pub mod Check

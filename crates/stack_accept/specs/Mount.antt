@@ -1,0 +1,122 @@
+-- The tree that an accepted stack makes.
+use Rattle.std.specs.Prelude.{ℕ, zero, suc, ◌+◌, List, [], ◌∷◌, ◌++◌, length, reverse, filter, map, fold, position, slice_get, option_and_then, Bool, true, false, not, ◌&&◌, ◌==◌, if◌then◌else◌, Option, Some, None, unwrap_or}
+use Rattle.std.specs.List.{list_any, find, filter_map}
+use Rattle.std.specs.Str.{bytes_eq}
+use Rattle.stack_text.specs.declared.stack.StackLine.{StackLine}
+use Rattle.stack_text.specs.declared.stack.StackLine.TheVariants.{Page, File, Disk, Mirror, Coherency, Dfs, Vmm}
+use Rattle.stack_accept.specs.declared.mounted.Kind.{Kind}
+use Rattle.stack_accept.specs.declared.mounted.Kind.TheVariants as kinds
+use Rattle.stack_accept.specs.declared.mounted.FileEntry.{FileEntry}
+use Rattle.stack_accept.specs.declared.mounted.NodeEntry.{NodeEntry}
+use Rattle.tower_core.specs.TreeShape.{TreeShape}
+use Rattle.stack_accept.specs.Lines.{name_of, machine_of, stands_on}
+use Rattle.stack_accept.specs.Rules.{is_node}
+use Rattle.stack_accept.specs.Plan.{Plan, plan_back}
+
+-- a mounted stack, seen as its lists
+pub record Mount : Type 0 where
+  pub page_size : ℕ
+  pub files : List FileEntry
+  pub tree : TreeShape
+  pub nodes : List NodeEntry
+  pub ground : Plan
+  pub disks : List (List ℕ)
+  pub machines : List (List ℕ)
+
+-- the place of a name in a list of names
+abbrev pub number_in : List (List ℕ) → List ℕ → ℕ
+number_in names name = unwrap_or (position (λ own. bytes_eq own name) names) 0
+
+abbrev pub page_size_of : List StackLine → ℕ
+page_size_of (Page size ∷ lines) = size
+page_size_of lines = 0
+
+abbrev pub file_of : StackLine → Option FileEntry
+file_of (File name pages) = Some (record { name = name; pages = pages })
+file_of _ = None
+
+abbrev pub disk_of : StackLine → Option (List ℕ)
+disk_of (Disk name machine) = Some name
+disk_of _ = None
+
+-- the names with one more, unless it is there already
+abbrev pub with_machine : List (List ℕ) → Option (List ℕ) → List (List ℕ)
+with_machine names None = names
+with_machine names (Some name) = if list_any (λ own. bytes_eq own name) names then names else names ++ name ∷ []
+
+-- the machines in the order in which their names first occur
+abbrev pub machines_of : List StackLine → List (List ℕ)
+machines_of lines = fold (λ names line. with_machine names (machine_of line)) [] lines
+
+-- The ground is the disk or mirror on which a node stands.
+abbrev pub is_ground : List StackLine → StackLine → Bool
+is_ground lines (Disk name machine) = list_any (λ line. is_node lines line && stands_on name line) lines
+is_ground lines (Mirror name machine left right) = list_any (λ line. is_node lines line && stands_on name line) lines
+is_ground lines _ = false
+
+-- the ground, and then the other nodes in the order of their lines
+abbrev pub node_lines : List StackLine → List StackLine
+node_lines lines = filter (λ line. is_ground lines line) lines ++ filter (λ line. is_node lines line) lines
+
+abbrev pub node_names : List StackLine → List (List ℕ)
+node_names lines = filter_map (λ line. name_of line) (node_lines lines)
+
+-- the node of a layer's line, given the machines and the nodes' names
+abbrev pub node_of : List (List ℕ) → List (List ℕ) → StackLine → Option NodeEntry
+node_of machines names (Page size) = None
+node_of machines names (File name pages) = None
+node_of machines names (Disk name machine) = Some (record { name = name; kind = kinds.Disk; machine = number_in machines machine; below = 0; frames = 0 })
+node_of machines names (Mirror name machine left right) = Some (record { name = name; kind = kinds.Mirror; machine = number_in machines machine; below = 0; frames = 0 })
+node_of machines names (Coherency name machine below) = Some (record { name = name; kind = kinds.Coherency; machine = number_in machines machine; below = number_in names below; frames = 0 })
+node_of machines names (Dfs name machine below) = Some (record { name = name; kind = kinds.Dfs; machine = number_in machines machine; below = number_in names below; frames = 0 })
+node_of machines names (Vmm name machine below frames) = Some (record { name = name; kind = kinds.Vmm; machine = number_in machines machine; below = number_in names below; frames = frames })
+
+abbrev pub nodes_of : List StackLine → List NodeEntry
+nodes_of lines = filter_map (λ line. node_of (machines_of lines) (node_names lines) line) (node_lines lines)
+
+abbrev pub is_dfs_node : Kind → Bool
+is_dfs_node kinds.Dfs = true
+is_dfs_node _ = false
+
+-- local traffic goes round a distributed layer of its own machine
+abbrev pub goes_round : Option NodeEntry → ℕ → Bool
+goes_round None machine = false
+goes_round (Some node) machine = is_dfs_node node.kind && (node.machine == machine)
+
+abbrev pub below_of : Option NodeEntry → ℕ
+below_of None = 0
+below_of (Some node) = node.below
+
+-- where so many steps down from a view lead, for the machine
+abbrev pub via_in : ℕ → List NodeEntry → ℕ → ℕ → ℕ
+via_in zero nodes view machine = view
+via_in (suc steps) nodes view machine = if goes_round (slice_get nodes view) machine then via_in steps nodes (below_of (slice_get nodes view)) machine else view
+
+-- The node that serves a view's pages on a machine: the view, unless it is a distributed layer of this machine; then
+-- the node that serves what it stands on. Each step goes to a lower node.
+abbrev pub via : List NodeEntry → ℕ → ℕ → ℕ
+via nodes view machine = via_in view nodes view machine
+
+-- the parent of a node is the node that serves on its machine what it stands on
+abbrev pub tree_of : List NodeEntry → TreeShape
+tree_of nodes = record { parents = map (λ node. via nodes node.below node.machine) nodes; frames = map (λ node. node.frames) nodes }
+
+abbrev pub name_or_none : Option (List ℕ) → List ℕ
+name_or_none None = []
+name_or_none (Some name) = name
+
+abbrev pub ground_name : List StackLine → List ℕ
+ground_name lines = name_or_none (option_and_then (λ line. name_of line) (find (λ line. is_ground lines line) lines))
+
+-- the mounted stack of the lines of an accepted text
+abbrev pub mounted : List StackLine → Mount
+mounted lines =
+    record {
+      page_size = page_size_of lines;
+      files = filter_map (λ line. file_of line) lines;
+      tree = tree_of (nodes_of lines);
+      nodes = nodes_of lines;
+      ground = plan_back (reverse lines) (ground_name lines);
+      disks = filter_map (λ line. disk_of line) lines;
+      machines = machines_of lines;
+    }

@@ -1,0 +1,6 @@
+//! Stack texts: which file system layers stand on which, a line for each.
+#![tactic(auto)]
+
+mod stack;
+
+pub use stack::{StackLine, StackText};
