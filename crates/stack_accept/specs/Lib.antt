@@ -3,3 +3,4 @@ pub mod Rules
 pub mod Plan
 pub mod Mount
 pub mod Check
+pub mod Unfit

@@ -14,9 +14,12 @@ is_page_first [] line = is_page line
 is_page_first (first ∷ earlier) line = not (is_page line)
 
 -- The name is no file's and no layer's before.
+abbrev pub is_taken : List StackLine → List ℕ → Bool
+is_taken earlier name = list_any (λ line. is_named name line) earlier
+
 abbrev pub is_new_name : List StackLine → Option (List ℕ) → Bool
 is_new_name earlier None = true
-is_new_name earlier (Some name) = not (list_any (λ line. is_named name line) earlier)
+is_new_name earlier (Some name) = not (is_taken earlier name)
 
 -- A mirror's sides are disks, mirrors, or coherency layers that stand on a disk or a mirror.
 abbrev pub may_be_side : List StackLine → List ℕ → Bool

@@ -1,16 +1,17 @@
 //! The rules that a stack text has to keep.
 
-ghost use Rattle.std.specs.Prelude.{◌≡◌, ◌≤◌, ◌<◌, reverse, length, count_by};
+ghost use Rattle.std.specs.Prelude.{◌≡◌, ◌≤◌, ◌<◌, ◌+◌, MatchResult, reverse, length, count_by};
 ghost use Rattle.std.specs.Option.{option_map};
 ghost use Rattle.stack_accept.specs.Lines.{is_upper, is_file, is_disk};
-ghost use Rattle.stack_accept.specs.Rules.{is_page_first, is_new_name, may_be_side, has_fit_sides, is_both_sides, is_shared_layer, is_unused, may_use, is_coherent_first, is_near, reaches, depth_back, depth_of, has_room, is_count, is_page_size, is_within_limits, keeps, has_user, is_node, is_first_node, keeps_at_end, rules_in_order, number_of, broken_by, broken_at_end};
+ghost use Rattle.stack_accept.specs.Rules.{is_page_first, is_new_name, is_taken, may_be_side, has_fit_sides, is_both_sides, is_shared_layer, is_unused, may_use, is_coherent_first, is_near, reaches, depth_back, depth_of, has_room, is_count, is_page_size, is_within_limits, keeps, has_user, is_node, is_first_node, keeps_at_end, rules_in_order, number_of, broken_by, broken_at_end, first_breach, IsAccepted};
+ghost use Rattle.stack_accept.specs.Unfit.{IsUnfit};
 
 use crate::line::{
     is_coherent_storage, is_declared, is_dfs, is_disk, is_file, is_layer_named, is_mirror,
     is_named, is_page, is_side, is_storage, is_storage_name, is_upper, is_used, is_vmm_name, is_word,
     machine, name, stands_on,
 };
-use stack_text::StackLine;
+use stack_text::{MAX_LINES, StackLine};
 
 const MAX_FILES: usize = 16;
 
@@ -67,13 +68,20 @@ fn is_page_first(earlier: &[StackLine], line: &StackLine) -> bool
     is_page(line) == earlier.is_empty()
 }
 
+/// Whether a file or a layer before has the name.
+fn is_taken(earlier: &[StackLine], name: &str) -> bool
+    ensures { result ≡ is_taken earlier.now name.now }
+{
+    earlier.iter().any(|line| is_named(name, line))
+}
+
 /// The name, where there is one, is new.
 fn is_new_name(earlier: &[StackLine], name: Option<&str>) -> bool
     ensures { result ≡ is_new_name earlier.now (option_map (λ n. n.now) name.entry) }
 {
     match name {
         None => true,
-        Some(name) => !earlier.iter().any(|line| is_named(name, line)),
+        Some(name) => !is_taken(earlier, name),
     }
 }
 
@@ -207,5 +215,238 @@ fn is_within_limits(earlier: &[StackLine], line: &StackLine) -> bool
         StackLine::Vmm { below, frames, .. } => {
             has_room(earlier, below.as_str()) && is_count(*frames)
         }
+    }
+}
+
+/// What a layer stands on is an earlier layer.
+fn stands_on_earlier(earlier: &[StackLine], line: &StackLine) -> bool
+    ensures { result ≡ keeps Rule.EarlierLayer earlier.now line.now }
+{
+    match line {
+        StackLine::Mirror { left, right, .. } => {
+            is_declared(earlier, left.as_str()) && is_declared(earlier, right.as_str())
+        }
+        StackLine::Coherency { below, .. } => is_declared(earlier, below.as_str()),
+        StackLine::Dfs { below, .. } => is_declared(earlier, below.as_str()),
+        StackLine::Vmm { below, .. } => is_declared(earlier, below.as_str()),
+        _ => true,
+    }
+}
+
+/// What stands under one layer gets no second one.
+fn is_one_user(earlier: &[StackLine], line: &StackLine) -> bool
+    ensures { result ≡ keeps Rule.OneUser earlier.now line.now }
+{
+    match line {
+        StackLine::Mirror { left, right, .. } => {
+            may_use(earlier, line, left.as_str()) && may_use(earlier, line, right.as_str())
+        }
+        StackLine::Coherency { below, .. } => may_use(earlier, line, below.as_str()),
+        StackLine::Dfs { below, .. } => may_use(earlier, line, below.as_str()),
+        StackLine::Vmm { below, .. } => may_use(earlier, line, below.as_str()),
+        _ => true,
+    }
+}
+
+/// Nothing stands on a memory manager.
+fn is_on_no_manager(earlier: &[StackLine], line: &StackLine) -> bool
+    ensures { result ≡ keeps Rule.ManagerOnTop earlier.now line.now }
+{
+    match line {
+        StackLine::Mirror { left, right, .. } => {
+            !is_vmm_name(earlier, left.as_str()) && !is_vmm_name(earlier, right.as_str())
+        }
+        StackLine::Coherency { below, .. } => !is_vmm_name(earlier, below.as_str()),
+        StackLine::Dfs { below, .. } => !is_vmm_name(earlier, below.as_str()),
+        StackLine::Vmm { below, .. } => !is_vmm_name(earlier, below.as_str()),
+        _ => true,
+    }
+}
+
+/// A layer is on the machine of what it stands on, unless that is a distributed layer.
+fn is_on_same_machine(earlier: &[StackLine], line: &StackLine) -> bool
+    ensures { result ≡ keeps Rule.SameMachine earlier.now line.now }
+{
+    let machine = machine(line);
+    match line {
+        StackLine::Mirror { left, right, .. } => {
+            reaches(earlier, machine, left.as_str()) && reaches(earlier, machine, right.as_str())
+        }
+        StackLine::Coherency { below, .. } => reaches(earlier, machine, below.as_str()),
+        StackLine::Dfs { below, .. } => reaches(earlier, machine, below.as_str()),
+        StackLine::Vmm { below, .. } => reaches(earlier, machine, below.as_str()),
+        _ => true,
+    }
+}
+
+/// A disk or a mirror has a user.
+fn has_user(lines: &[StackLine], line: &StackLine) -> bool
+    ensures { result ≡ has_user lines.now line.now }
+{
+    match line {
+        StackLine::Disk { name, .. } => is_used(lines, name.as_str()),
+        StackLine::Mirror { name, .. } => is_used(lines, name.as_str()),
+        _ => true,
+    }
+}
+
+/// Whether the line is an upper layer that is no mirror's side.
+pub fn is_node(lines: &[StackLine], line: &StackLine) -> bool
+    ensures { result ≡ is_node lines.now line.now }
+{
+    match line {
+        StackLine::Coherency { name, .. } => !is_side(lines, name.as_str()),
+        StackLine::Dfs { name, .. } => !is_side(lines, name.as_str()),
+        StackLine::Vmm { name, .. } => !is_side(lines, name.as_str()),
+        _ => false,
+    }
+}
+
+/// Whether the line is such a layer that stands on a disk or a mirror.
+fn is_first_node(lines: &[StackLine], line: &StackLine) -> bool
+    ensures { result ≡ is_first_node lines.now line.now }
+{
+    is_node(lines, line)
+        && match line {
+            StackLine::Coherency { below, .. } => is_storage_name(lines, below.as_str()),
+            StackLine::Dfs { below, .. } => is_storage_name(lines, below.as_str()),
+            StackLine::Vmm { below, .. } => is_storage_name(lines, below.as_str()),
+            _ => false,
+        }
+}
+
+/// Each disk and each mirror has a user.
+fn has_each_user(lines: &[StackLine]) -> bool
+    ensures { result ≡ keeps_at_end Rule.OneUser lines.now }
+{
+    lines.iter().all(|line| has_user(lines, line))
+}
+
+/// The nodes stand on one disk or mirror, and one of them alone stands on it directly.
+fn has_one_ground(lines: &[StackLine]) -> bool
+    ensures { result ≡ keeps_at_end Rule.OneGround lines.now }
+{
+    lines
+        .iter()
+        .filter(|line| is_first_node(lines, line))
+        .count()
+        == 1
+}
+
+fn has_file(lines: &[StackLine]) -> bool
+    ensures { result ≡ keeps_at_end Rule.Limits lines.now }
+{
+    lines.iter().any(|line| is_file(line))
+}
+
+impl Rule {
+    /// The rules, the lowest first.
+    const ALL: [Rule; 10] = [
+        Rule::PageFirst,
+        Rule::NewName,
+        Rule::EarlierLayer,
+        Rule::MirrorSides,
+        Rule::OneUser,
+        Rule::OneGround,
+        Rule::CoherentFirst,
+        Rule::ManagerOnTop,
+        Rule::SameMachine,
+        Rule::Limits,
+    ];
+
+    /// The rule's printed number, from 1 to 10.
+    pub fn number(self) -> u8
+        ensures { result ≡ number_of self }
+    {
+        match self {
+            Rule::PageFirst => 1,
+            Rule::NewName => 2,
+            Rule::EarlierLayer => 3,
+            Rule::MirrorSides => 4,
+            Rule::OneUser => 5,
+            Rule::OneGround => 6,
+            Rule::CoherentFirst => 7,
+            Rule::ManagerOnTop => 8,
+            Rule::SameMachine => 9,
+            Rule::Limits => 10,
+        }
+    }
+
+    /// Whether a line keeps the rule, given the lines before it.
+    fn is_kept(self, earlier: &[StackLine], line: &StackLine) -> bool
+        ensures { result ≡ keeps self earlier.now line.now }
+    {
+        match self {
+            Rule::PageFirst => is_page_first(earlier, line),
+            Rule::NewName => is_new_name(earlier, name(line)),
+            Rule::EarlierLayer => stands_on_earlier(earlier, line),
+            Rule::MirrorSides => has_fit_sides(earlier, line),
+            Rule::OneUser => is_one_user(earlier, line),
+            Rule::OneGround => true,
+            Rule::CoherentFirst => is_coherent_first(earlier, line),
+            Rule::ManagerOnTop => is_on_no_manager(earlier, line),
+            Rule::SameMachine => is_on_same_machine(earlier, line),
+            Rule::Limits => is_within_limits(earlier, line),
+        }
+    }
+
+    /// Whether the end of the text keeps the rule.
+    fn is_kept_at_end(self, lines: &[StackLine]) -> bool
+        ensures { result ≡ keeps_at_end self lines.now }
+    {
+        match self {
+            Rule::PageFirst => !lines.is_empty(),
+            Rule::OneUser => has_each_user(lines),
+            Rule::OneGround => has_one_ground(lines),
+            Rule::Limits => has_file(lines),
+            _ => true,
+        }
+    }
+}
+
+/// The lowest rule that a line breaks, given the lines before it.
+fn broken_by(earlier: &[StackLine], line: &StackLine) -> Option<Rule>
+    ensures { result ≡ broken_by earlier.now line.now }
+{
+    Rule::ALL
+        .iter()
+        .copied()
+        .find(|rule| !rule.is_kept(earlier, line))
+}
+
+/// The lowest rule that the end of the text breaks.
+fn broken_at_end(lines: &[StackLine]) -> Option<Rule>
+    ensures { result ≡ broken_at_end lines.now }
+{
+    Rule::ALL
+        .iter()
+        .copied()
+        .find(|rule| !rule.is_kept_at_end(lines))
+}
+
+/// A broken rule, and the number of the line after so many.
+fn refusal(rule: Rule, before: usize) -> Unfit
+    requires { before ≤ MAX_LINES }
+    ensures { result ≡ Unfit.Unfit (number_of rule) (before + 1) }
+{
+    Unfit::Unfit {
+        rule: rule.number(),
+        line: before as u32 + 1,
+    }
+}
+
+/// Whether the lines keep every rule; else the first line that breaks one, and the lowest of its.
+pub fn check(lines: &[StackLine]) -> Result<(), Unfit>
+    requires { length lines.now ≤ MAX_LINES }
+    ensures { MatchResult result (λ _. IsAccepted lines.now) (IsUnfit (first_breach lines.now)) }
+{
+    for (index, line) in lines.iter().enumerate() {
+        if let Some(rule) = broken_by(&lines[..index], line) {
+            return Err(refusal(rule, index));
+        }
+    }
+    match broken_at_end(lines) {
+        Some(rule) => Err(refusal(rule, lines.len())),
+        None => Ok(()),
     }
 }

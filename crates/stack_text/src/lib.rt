@@ -3,4 +3,4 @@
 
 mod stack;
 
-pub use stack::{StackLine, StackText};
+pub use stack::{MAX_LINES, StackLine, StackText};

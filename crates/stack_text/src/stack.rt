@@ -2,6 +2,9 @@
 
 use hist_plain::{Items, Text};
 
+/// The most lines that a stack text has.
+pub const MAX_LINES: usize = 128;
+
 /// A stack of file system layers, as its text says it.
 #[derive(Debug, Drop)]
 pub struct StackText {
