@@ -49,9 +49,12 @@ abbrev pub machines_of : List StackLine → List (List ℕ)
 machines_of lines = fold (λ names line. with_machine names (machine_of line)) [] lines
 
 -- The ground is the disk or mirror on which a node stands.
+abbrev pub is_stood_on : List StackLine → List ℕ → Bool
+is_stood_on lines name = list_any (λ line. is_node lines line && stands_on name line) lines
+
 abbrev pub is_ground : List StackLine → StackLine → Bool
-is_ground lines (Disk name machine) = list_any (λ line. is_node lines line && stands_on name line) lines
-is_ground lines (Mirror name machine left right) = list_any (λ line. is_node lines line && stands_on name line) lines
+is_ground lines (Disk name machine) = is_stood_on lines name
+is_ground lines (Mirror name machine left right) = is_stood_on lines name
 is_ground lines _ = false
 
 -- the ground, and then the other nodes in the order of their lines

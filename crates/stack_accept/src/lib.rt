@@ -2,6 +2,7 @@
 #![tactic(auto)]
 
 mod line;
+mod mount;
 mod mounted;
 mod rule;
 

@@ -1,0 +1,237 @@
+//! The tree that the lines of an accepted stack make.
+
+ghost use Rattle.std.specs.Prelude.{◌≡◌, ◌≤◌, ◌<◌, IfOk, IfSome, position, OnOk, map, length, filter, reverse, count_by};
+ghost use Rattle.std.specs.List.{filter_map, list_any};
+ghost use Rattle.std.specs.Option.{option_map};
+ghost use Rattle.std.specs.Str.{bytes_eq};
+ghost use Rattle.stack_accept.specs.Lines.{name_of, machine_of, is_disk};
+ghost use Rattle.stack_accept.specs.Plan.{plan_of, plan_back};
+ghost use Rattle.stack_accept.specs.Mount.{number_in, page_size_of, file_of, disk_of, with_machine, machines_of, is_stood_on, is_ground, node_lines, node_names, node_of, nodes_of, ground_name};
+
+use crate::line::{is_disk, is_layer_named, machine, name, stands_on};
+use crate::mounted::{FileEntry, GroundPlan, Kind, NodeEntry};
+use crate::rule::is_node;
+use hist_plain::Text;
+use stack_text::{MAX_LINES, StackLine};
+use std::alloc::{AllocError, Global};
+use std::boxed::Box;
+
+fn place_in(names: &[Text], name: &str) -> Option<usize>
+    ensures value { result ≡ position (λ own. bytes_eq own name.now) names.now }
+    ensures inside { IfSome result (λ place. place < length names.now) }
+{
+    names.iter().position(|own| own.as_str() == name)
+}
+
+/// The place of a name in a list of names, or 0.
+pub fn number_in(names: &[Text], name: &str) -> u32
+    requires { length names.now ≤ MAX_LINES }
+    ensures { result ≡ number_in names.now name.now }
+{
+    match place_in(names, name) {
+        Some(place) => place as u32,
+        None => 0,
+    }
+}
+
+pub fn page_size_of(lines: &[StackLine]) -> u32
+    ensures { result ≡ page_size_of lines.now }
+{
+    match lines {
+        [StackLine::Page { size }, ..] => *size,
+        _ => 0,
+    }
+}
+
+/// The files, in the order of their lines.
+pub fn files_of(alloc: Global, lines: &[StackLine]) -> Result<Vec<FileEntry>, AllocError>
+    ensures { IfOk result (λ files. files.items ≡ filter_map (λ line. file_of line) lines.now) }
+{
+    let mut files = Vec::new(alloc);
+    for line in lines {
+        if let StackLine::File { name, pages } = line {
+            files.push(FileEntry {
+                name: name.copy()?,
+                pages: *pages,
+            })?;
+        }
+    }
+    Ok(files)
+}
+
+/// The names of the disks, in the order of their lines.
+pub fn disks_of(alloc: Global, lines: &[StackLine]) -> Result<Vec<Text>, AllocError>
+    ensures { IfOk result (λ disks. disks.items ≡ filter_map (λ line. disk_of line) lines.now) }
+{
+    let mut disks = Vec::new(alloc);
+    for line in lines {
+        if let StackLine::Disk { name, .. } = line {
+            disks.push(name.copy()?)?;
+        }
+    }
+    Ok(disks)
+}
+
+fn is_known(names: &[Text], name: &str) -> bool
+    ensures { result ≡ list_any (λ own. bytes_eq own name.now) names.now }
+{
+    names.iter().any(|own| own.as_str() == name)
+}
+
+/// Adds a name, unless it is there already.
+fn add_new(alloc: Global, names: &mut Vec<Text>, name: &str) -> Result<(), AllocError>
+    ensures { OnOk result (names.new.items ≡ with_machine names.old.items (Some name.now)) }
+{
+    if is_known(names, name) {
+        return Ok(());
+    }
+    names.push(Text::of(alloc, name)?)?;
+    Ok(())
+}
+
+/// Adds a line's machine, unless it is there already.
+fn add_machine(alloc: Global, names: &mut Vec<Text>, line: &StackLine) -> Result<(), AllocError>
+    ensures { OnOk result (names.new.items ≡ with_machine names.old.items (machine_of line.now)) }
+{
+    match machine(line) {
+        Some(machine) => add_new(alloc, names, machine),
+        None => Ok(()),
+    }
+}
+
+/// The machines, in the order in which their names first occur.
+pub fn machines_of(alloc: Global, lines: &[StackLine]) -> Result<Vec<Text>, AllocError>
+    ensures { IfOk result (λ machines. machines.items ≡ machines_of lines.now) }
+{
+    let mut machines = Vec::new(alloc);
+    for line in lines {
+        add_machine(alloc, &mut machines, line)?;
+    }
+    Ok(machines)
+}
+
+fn is_stood_on(lines: &[StackLine], name: &str) -> bool
+    ensures { result ≡ is_stood_on lines.now name.now }
+{
+    lines
+        .iter()
+        .any(|line| is_node(lines, line) && stands_on(name, line))
+}
+
+/// Whether the line is the disk or the mirror on which a node stands.
+fn is_ground(lines: &[StackLine], line: &StackLine) -> bool
+    ensures { result ≡ is_ground lines.now line.now }
+{
+    match line {
+        StackLine::Disk { name, .. } => is_stood_on(lines, name.as_str()),
+        StackLine::Mirror { name, .. } => is_stood_on(lines, name.as_str()),
+        _ => false,
+    }
+}
+
+fn ground_lines(alloc: Global, lines: &[StackLine]) -> Result<Vec<&StackLine>, AllocError>
+    ensures { IfOk result (λ nodes. map (λ line. line.now) nodes.items ≡ filter (λ line. is_ground lines.now line) lines.now) }
+{
+    let mut nodes = Vec::new(alloc);
+    for line in lines {
+        if is_ground(lines, line) {
+            nodes.push(line)?;
+        }
+    }
+    Ok(nodes)
+}
+
+/// The lines of the ground and of the other nodes.
+pub fn node_lines(alloc: Global, lines: &[StackLine]) -> Result<Vec<&StackLine>, AllocError>
+    ensures { IfOk result (λ nodes. map (λ line. line.now) nodes.items ≡ node_lines lines.now) }
+{
+    let mut nodes = ground_lines(alloc, lines)?;
+    for line in lines {
+        if is_node(lines, line) {
+            nodes.push(line)?;
+        }
+    }
+    Ok(nodes)
+}
+
+/// The names of the nodes' lines.
+pub fn node_names(alloc: Global, nodes: &[&StackLine]) -> Result<Vec<Text>, AllocError>
+    ensures { IfOk result (λ names. names.items ≡ filter_map (λ line. name_of line.now) nodes.now) }
+{
+    let mut names = Vec::new(alloc);
+    for line in nodes {
+        if let Some(name) = name(line) {
+            names.push(Text::of(alloc, name)?)?;
+        }
+    }
+    Ok(names)
+}
+
+/// The node of a layer's line.
+fn node_of(machines: &[Text], names: &[Text], line: &StackLine) -> Result<Option<NodeEntry>, AllocError>
+    requires machines { length machines.now ≤ MAX_LINES }
+    requires names { length names.now ≤ MAX_LINES }
+    ensures { IfOk result (λ node. node ≡ node_of machines.now names.now line.now) }
+{
+    let (name, kind, machine, below, frames) = match line {
+        StackLine::Page { .. } | StackLine::File { .. } => return Ok(None),
+        StackLine::Disk { name, machine } => (name, Kind::Disk, machine, 0, 0),
+        StackLine::Mirror { name, machine, .. } => (name, Kind::Mirror, machine, 0, 0),
+        StackLine::Coherency { name, machine, below } => {
+            (name, Kind::Coherency, machine, number_in(names, below.as_str()), 0)
+        }
+        StackLine::Dfs { name, machine, below } => {
+            (name, Kind::Dfs, machine, number_in(names, below.as_str()), 0)
+        }
+        StackLine::Vmm { name, machine, below, frames } => {
+            (name, Kind::Vmm, machine, number_in(names, below.as_str()), *frames)
+        }
+    };
+    Ok(Some(NodeEntry {
+        name: name.copy()?,
+        kind,
+        machine: number_in(machines, machine.as_str()),
+        below,
+        frames,
+    }))
+}
+
+/// How many disks the lines have.
+fn count_disks(lines: &[StackLine]) -> usize
+    ensures value { result ≡ count_by (λ line. is_disk line) (reverse lines.now) }
+    ensures few { result ≤ length lines.now }
+{
+    let mut count = 0;
+    for line in lines {
+        if is_disk(line) {
+            count += 1;
+        }
+    }
+    count
+}
+
+/// The plan of the layer of the name.
+pub fn plan(alloc: Global, lines: &[StackLine], name: &str) -> Result<GroundPlan, AllocError>
+    requires { length lines.now ≤ MAX_LINES }
+    ensures { IfOk result (λ p. plan_of p ≡ plan_back (reverse lines.now) name.now) }
+{
+    let [before @ .., line] = lines else {
+        return Ok(GroundPlan::Disk { disk: 0 });
+    };
+    if !is_layer_named(name, line) {
+        return plan(alloc, before, name);
+    }
+    match line {
+        StackLine::Disk { .. } => Ok(GroundPlan::Disk {
+            disk: count_disks(before) as u32,
+        }),
+        StackLine::Mirror { left, right, .. } => Ok(GroundPlan::Mirror {
+            left: Box::new(alloc, plan(alloc, before, left.as_str())?)?,
+            right: Box::new(alloc, plan(alloc, before, right.as_str())?)?,
+        }),
+        StackLine::Coherency { below, .. } => Ok(GroundPlan::Coherency {
+            below: Box::new(alloc, plan(alloc, before, below.as_str())?)?,
+        }),
+        _ => Ok(GroundPlan::Disk { disk: 0 }),
+    }
+}
