@@ -1,12 +1,12 @@
 //! The tree that the lines of an accepted stack make.
 
-ghost use Rattle.std.specs.Prelude.{◌≡◌, ◌≤◌, ◌<◌, IfOk, IfSome, position, OnOk, map, length, filter, reverse, count_by};
+ghost use Rattle.std.specs.Prelude.{◌≡◌, ◌≤◌, ◌<◌, IfOk, IfSome, slice_get, position, OnOk, map, length, filter, reverse, count_by};
 ghost use Rattle.std.specs.List.{filter_map, list_any};
 ghost use Rattle.std.specs.Option.{option_map};
 ghost use Rattle.std.specs.Str.{bytes_eq};
 ghost use Rattle.stack_accept.specs.Lines.{name_of, machine_of, is_disk};
 ghost use Rattle.stack_accept.specs.Plan.{plan_of, plan_back};
-ghost use Rattle.stack_accept.specs.Mount.{number_in, page_size_of, file_of, disk_of, with_machine, machines_of, is_stood_on, is_ground, node_lines, node_names, node_of, nodes_of, ground_name};
+ghost use Rattle.stack_accept.specs.Mount.{number_in, page_size_of, file_of, disk_of, with_machine, machines_of, is_stood_on, is_ground, node_lines, node_names, node_of, nodes_of, goes_round, below_of, via, tree_of, ground_name};
 
 use crate::line::{is_disk, is_layer_named, machine, name, stands_on};
 use crate::mounted::{FileEntry, GroundPlan, Kind, NodeEntry};
@@ -194,6 +194,87 @@ fn node_of(machines: &[Text], names: &[Text], line: &StackLine) -> Result<Option
         below,
         frames,
     }))
+}
+
+/// The nodes of the lines of the ground and of the other nodes.
+pub fn nodes_of(
+    alloc: Global,
+    machines: &[Text],
+    names: &[Text],
+    lines: &[&StackLine],
+) -> Result<Vec<NodeEntry>, AllocError>
+    requires machines { length machines.now ≤ MAX_LINES }
+    requires names { length names.now ≤ MAX_LINES }
+    ensures { IfOk result (λ nodes. nodes.items ≡ filter_map (λ line. node_of machines.now names.now line.now) lines.now) }
+{
+    let mut nodes = Vec::new(alloc);
+    for line in lines {
+        if let Some(node) = node_of(machines, names, line)? {
+            nodes.push(node)?;
+        }
+    }
+    Ok(nodes)
+}
+
+fn node_at(nodes: &[NodeEntry], at: u32) -> Option<&NodeEntry>
+    ensures { option_map (λ n. n.now) result ≡ slice_get nodes.now at }
+{
+    nodes.get(at as usize)
+}
+
+fn goes_round(node: Option<&NodeEntry>, machine: u32) -> bool
+    ensures { result ≡ goes_round (option_map (λ n. n.now) node.entry) machine }
+{
+    match node {
+        None => false,
+        Some(node) => node.kind == Kind::Dfs && node.machine == machine,
+    }
+}
+
+fn below_of(node: Option<&NodeEntry>) -> u32
+    ensures { result ≡ below_of (option_map (λ n. n.now) node.entry) }
+{
+    match node {
+        None => 0,
+        Some(node) => node.below,
+    }
+}
+
+/// The node that serves a view's pages on a machine.
+pub fn via(nodes: &[NodeEntry], view: u32, machine: u32) -> u32
+    ensures { result ≡ via nodes.now view machine }
+{
+    let mut at = view;
+    for _ in 0..view {
+        let node = node_at(nodes, at);
+        if !goes_round(node, machine) {
+            return at;
+        }
+        at = below_of(node);
+    }
+    at
+}
+
+/// The parent of each node.
+pub fn parents_of(alloc: Global, nodes: &[NodeEntry]) -> Result<Vec<u32>, AllocError>
+    ensures { IfOk result (λ parents. parents.items ≡ (tree_of nodes.now).parents) }
+{
+    let mut parents = Vec::new(alloc);
+    for node in nodes {
+        parents.push(via(nodes, node.below, node.machine))?;
+    }
+    Ok(parents)
+}
+
+/// The frames of each node.
+pub fn frames_of(alloc: Global, nodes: &[NodeEntry]) -> Result<Vec<u32>, AllocError>
+    ensures { IfOk result (λ frames. frames.items ≡ (tree_of nodes.now).frames) }
+{
+    let mut frames = Vec::new(alloc);
+    for node in nodes {
+        frames.push(node.frames)?;
+    }
+    Ok(frames)
 }
 
 /// How many disks the lines have.
