@@ -1,5 +1,6 @@
 -- The tree that an accepted stack makes.
-use Rattle.std.specs.Prelude.{ℕ, zero, suc, ◌+◌, List, [], ◌∷◌, ◌++◌, length, reverse, filter, map, fold, position, slice_get, option_and_then, Bool, true, false, not, ◌&&◌, ◌==◌, if◌then◌else◌, Option, Some, None, unwrap_or}
+use Rattle.std.specs.Prelude.{ℕ, zero, suc, List, [], ◌∷◌, ◌++◌, reverse, filter, map, fold, position, slice_get, Bool, true, false, ◌&&◌, ◌==◌, if◌then◌else◌, Option, Some, None, unwrap_or}
+use Rattle.std.specs.Option.{option_map_or, option_to_list}
 use Rattle.std.specs.List.{list_any, find, filter_map}
 use Rattle.std.specs.Str.{bytes_eq}
 use Rattle.stack_text.specs.declared.stack.StackLine.{StackLine}
@@ -9,8 +10,8 @@ use Rattle.stack_accept.specs.declared.mounted.Kind.TheVariants as kinds
 use Rattle.stack_accept.specs.declared.mounted.FileEntry.{FileEntry}
 use Rattle.stack_accept.specs.declared.mounted.NodeEntry.{NodeEntry}
 use Rattle.tower_core.specs.TreeShape.{TreeShape}
-use Rattle.stack_accept.specs.Lines.{name_of, machine_of, stands_on}
-use Rattle.stack_accept.specs.Rules.{is_node}
+use Rattle.stack_accept.specs.Lines.{machine_of, is_named, is_storage}
+use Rattle.stack_accept.specs.Rules.{is_node, is_first_node}
 use Rattle.stack_accept.specs.Plan.{Plan, plan_back}
 
 -- a mounted stack, seen as its lists
@@ -48,34 +49,40 @@ with_machine names (Some name) = if list_any (λ own. bytes_eq own name) names t
 abbrev pub machines_of : List StackLine → List (List ℕ)
 machines_of lines = fold (λ names line. with_machine names (machine_of line)) [] lines
 
--- The ground is the disk or mirror on which a node stands.
-abbrev pub is_stood_on : List StackLine → List ℕ → Bool
-is_stood_on lines name = list_any (λ line. is_node lines line && stands_on name line) lines
+-- what an upper layer stands on
+abbrev pub base_of : StackLine → List ℕ
+base_of (Coherency name machine below) = below
+base_of (Dfs name machine below) = below
+base_of (Vmm name machine below frames) = below
+base_of _ = []
 
-abbrev pub is_ground : List StackLine → StackLine → Bool
-is_ground lines (Disk name machine) = is_stood_on lines name
-is_ground lines (Mirror name machine left right) = is_stood_on lines name
-is_ground lines _ = false
+-- The ground is what the first node stands on.
+abbrev pub ground_name : List StackLine → List ℕ
+ground_name lines = option_map_or (λ line. base_of line) (find (λ line. is_first_node lines line) lines) []
+
+abbrev pub ground_line : List StackLine → Option StackLine
+ground_line lines = find (λ line. is_storage line && is_named (ground_name lines) line) lines
 
 -- the ground, and then the other nodes in the order of their lines
 abbrev pub node_lines : List StackLine → List StackLine
-node_lines lines = filter (λ line. is_ground lines line) lines ++ filter (λ line. is_node lines line) lines
+node_lines lines = option_to_list (ground_line lines) ++ filter (λ line. is_node lines line) lines
 
-abbrev pub node_names : List StackLine → List (List ℕ)
-node_names lines = filter_map (λ line. name_of line) (node_lines lines)
+-- the number of the node of the name
+abbrev pub node_number : List StackLine → List ℕ → ℕ
+node_number nodes name = unwrap_or (position (λ line. is_named name line) nodes) 0
 
--- the node of a layer's line, given the machines and the nodes' names
-abbrev pub node_of : List (List ℕ) → List (List ℕ) → StackLine → Option NodeEntry
-node_of machines names (Page size) = None
-node_of machines names (File name pages) = None
-node_of machines names (Disk name machine) = Some (record { name = name; kind = kinds.Disk; machine = number_in machines machine; below = 0; frames = 0 })
-node_of machines names (Mirror name machine left right) = Some (record { name = name; kind = kinds.Mirror; machine = number_in machines machine; below = 0; frames = 0 })
-node_of machines names (Coherency name machine below) = Some (record { name = name; kind = kinds.Coherency; machine = number_in machines machine; below = number_in names below; frames = 0 })
-node_of machines names (Dfs name machine below) = Some (record { name = name; kind = kinds.Dfs; machine = number_in machines machine; below = number_in names below; frames = 0 })
-node_of machines names (Vmm name machine below frames) = Some (record { name = name; kind = kinds.Vmm; machine = number_in machines machine; below = number_in names below; frames = frames })
+-- the node of a layer's line, given the machines and the nodes' lines
+abbrev pub node_of : List (List ℕ) → List StackLine → StackLine → Option NodeEntry
+node_of machines nodes (Page size) = None
+node_of machines nodes (File name pages) = None
+node_of machines nodes (Disk name machine) = Some (record { name = name; kind = kinds.Disk; machine = number_in machines machine; below = 0; frames = 0 })
+node_of machines nodes (Mirror name machine left right) = Some (record { name = name; kind = kinds.Mirror; machine = number_in machines machine; below = 0; frames = 0 })
+node_of machines nodes (Coherency name machine below) = Some (record { name = name; kind = kinds.Coherency; machine = number_in machines machine; below = node_number nodes below; frames = 0 })
+node_of machines nodes (Dfs name machine below) = Some (record { name = name; kind = kinds.Dfs; machine = number_in machines machine; below = node_number nodes below; frames = 0 })
+node_of machines nodes (Vmm name machine below frames) = Some (record { name = name; kind = kinds.Vmm; machine = number_in machines machine; below = node_number nodes below; frames = frames })
 
 abbrev pub nodes_of : List StackLine → List NodeEntry
-nodes_of lines = filter_map (λ line. node_of (machines_of lines) (node_names lines) line) (node_lines lines)
+nodes_of lines = filter_map (λ line. node_of (machines_of lines) (node_lines lines) line) (node_lines lines)
 
 abbrev pub is_dfs_node : Kind → Bool
 is_dfs_node kinds.Dfs = true
@@ -103,13 +110,6 @@ via nodes view machine = via_in view nodes view machine
 -- the parent of a node is the node that serves on its machine what it stands on
 abbrev pub tree_of : List NodeEntry → TreeShape
 tree_of nodes = record { parents = map (λ node. via nodes node.below node.machine) nodes; frames = map (λ node. node.frames) nodes }
-
-abbrev pub name_or_none : Option (List ℕ) → List ℕ
-name_or_none None = []
-name_or_none (Some name) = name
-
-abbrev pub ground_name : List StackLine → List ℕ
-ground_name lines = name_or_none (option_and_then (λ line. name_of line) (find (λ line. is_ground lines line) lines))
 
 -- the mounted stack of the lines of an accepted text
 abbrev pub mounted : List StackLine → Mount

@@ -1,16 +1,17 @@
 //! The tree that the lines of an accepted stack make.
 
-ghost use Rattle.std.specs.Prelude.{◌≡◌, ◌≤◌, ◌<◌, IfOk, IfSome, slice_get, position, OnOk, map, length, filter, reverse, count_by};
-ghost use Rattle.std.specs.List.{filter_map, list_any};
+ghost use Rattle.std.specs.Prelude.{◌≡◌, ◌+◌, ◌&&◌, Some, ◌≤◌, ◌<◌, IfOk, IfSome, slice_get, position, OnOk, map, length, filter, reverse, count_by};
+ghost use Rattle.std.specs.List.{filter_map, list_any, find};
 ghost use Rattle.std.specs.Option.{option_map};
 ghost use Rattle.std.specs.Str.{bytes_eq};
-ghost use Rattle.stack_accept.specs.Lines.{name_of, machine_of, is_disk};
+ghost use Rattle.stack_accept.specs.Lines.{machine_of, is_disk, is_storage, is_named};
+ghost use Rattle.stack_accept.specs.Rules.{is_node, is_first_node};
 ghost use Rattle.stack_accept.specs.Plan.{plan_of, plan_back};
-ghost use Rattle.stack_accept.specs.Mount.{number_in, page_size_of, file_of, disk_of, with_machine, machines_of, is_stood_on, is_ground, node_lines, node_names, node_of, nodes_of, goes_round, below_of, via, tree_of, ground_name};
+ghost use Rattle.stack_accept.specs.Mount.{number_in, page_size_of, file_of, disk_of, with_machine, machines_of, ground_name, node_lines, node_number, node_of, nodes_of, goes_round, below_of, via, tree_of};
 
-use crate::line::{is_disk, is_layer_named, machine, name, stands_on};
+use crate::line::{is_disk, is_layer_named, is_named, is_storage, machine};
 use crate::mounted::{FileEntry, GroundPlan, Kind, NodeEntry};
-use crate::rule::is_node;
+use crate::rule::{is_first_node, is_node};
 use hist_plain::Text;
 use stack_text::{MAX_LINES, StackLine};
 use std::alloc::{AllocError, Global};
@@ -80,7 +81,8 @@ fn is_known(names: &[Text], name: &str) -> bool
 
 /// Adds a name, unless it is there already.
 fn add_new(alloc: Global, names: &mut Vec<Text>, name: &str) -> Result<(), AllocError>
-    ensures { OnOk result (names.new.items ≡ with_machine names.old.items (Some name.now)) }
+    ensures value { OnOk result (names.new.items ≡ with_machine names.old.items (Some name.now)) }
+    ensures few { OnOk result (length names.new.items ≤ length names.old.items + 1) }
 {
     if is_known(names, name) {
         return Ok(());
@@ -91,7 +93,8 @@ fn add_new(alloc: Global, names: &mut Vec<Text>, name: &str) -> Result<(), Alloc
 
 /// Adds a line's machine, unless it is there already.
 fn add_machine(alloc: Global, names: &mut Vec<Text>, line: &StackLine) -> Result<(), AllocError>
-    ensures { OnOk result (names.new.items ≡ with_machine names.old.items (machine_of line.now)) }
+    ensures value { OnOk result (names.new.items ≡ with_machine names.old.items (machine_of line.now)) }
+    ensures few { OnOk result (length names.new.items ≤ length names.old.items + 1) }
 {
     match machine(line) {
         Some(machine) => add_new(alloc, names, machine),
@@ -101,7 +104,8 @@ fn add_machine(alloc: Global, names: &mut Vec<Text>, line: &StackLine) -> Result
 
 /// The machines, in the order in which their names first occur.
 pub fn machines_of(alloc: Global, lines: &[StackLine]) -> Result<Vec<Text>, AllocError>
-    ensures { IfOk result (λ machines. machines.items ≡ machines_of lines.now) }
+    ensures few { IfOk result (λ machines. length machines.items ≤ length lines.now) }
+    ensures value { IfOk result (λ machines. machines.items ≡ machines_of lines.now) }
 {
     let mut machines = Vec::new(alloc);
     for line in lines {
@@ -110,42 +114,42 @@ pub fn machines_of(alloc: Global, lines: &[StackLine]) -> Result<Vec<Text>, Allo
     Ok(machines)
 }
 
-fn is_stood_on(lines: &[StackLine], name: &str) -> bool
-    ensures { result ≡ is_stood_on lines.now name.now }
+/// The first node: it stands on the ground.
+fn first_node(lines: &[StackLine]) -> Option<&StackLine>
+    ensures { option_map (λ line. line.now) result ≡ find (λ line. is_first_node lines.now line) lines.now }
+{
+    lines.iter().find(|line| is_first_node(lines, line))
+}
+
+/// The name of the ground.
+pub fn ground_name(lines: &[StackLine]) -> &str
+    ensures { result.now ≡ ground_name lines.now }
+{
+    match first_node(lines) {
+        Some(StackLine::Coherency { below, .. }) => below.as_str(),
+        Some(StackLine::Dfs { below, .. }) => below.as_str(),
+        Some(StackLine::Vmm { below, .. }) => below.as_str(),
+        _ => "",
+    }
+}
+
+fn storage_line<'a>(lines: &'a [StackLine], name: &str) -> Option<&'a StackLine>
+    ensures { option_map (λ line. line.now) result ≡ find (λ line. is_storage line && is_named name.now line) lines.now }
 {
     lines
         .iter()
-        .any(|line| is_node(lines, line) && stands_on(name, line))
-}
-
-/// Whether the line is the disk or the mirror on which a node stands.
-fn is_ground(lines: &[StackLine], line: &StackLine) -> bool
-    ensures { result ≡ is_ground lines.now line.now }
-{
-    match line {
-        StackLine::Disk { name, .. } => is_stood_on(lines, name.as_str()),
-        StackLine::Mirror { name, .. } => is_stood_on(lines, name.as_str()),
-        _ => false,
-    }
-}
-
-fn ground_lines(alloc: Global, lines: &[StackLine]) -> Result<Vec<&StackLine>, AllocError>
-    ensures { IfOk result (λ nodes. map (λ line. line.now) nodes.items ≡ filter (λ line. is_ground lines.now line) lines.now) }
-{
-    let mut nodes = Vec::new(alloc);
-    for line in lines {
-        if is_ground(lines, line) {
-            nodes.push(line)?;
-        }
-    }
-    Ok(nodes)
+        .find(|line| is_storage(line) && is_named(name, line))
 }
 
 /// The lines of the ground and of the other nodes.
 pub fn node_lines(alloc: Global, lines: &[StackLine]) -> Result<Vec<&StackLine>, AllocError>
-    ensures { IfOk result (λ nodes. map (λ line. line.now) nodes.items ≡ node_lines lines.now) }
+    ensures value { IfOk result (λ nodes. map (λ line. line.now) nodes.items ≡ node_lines lines.now) }
+    ensures few { IfOk result (λ nodes. length nodes.items ≤ length lines.now + 1) }
 {
-    let mut nodes = ground_lines(alloc, lines)?;
+    let mut nodes = Vec::new(alloc);
+    if let Some(ground) = storage_line(lines, ground_name(lines)) {
+        nodes.push(ground)?;
+    }
     for line in lines {
         if is_node(lines, line) {
             nodes.push(line)?;
@@ -154,37 +158,42 @@ pub fn node_lines(alloc: Global, lines: &[StackLine]) -> Result<Vec<&StackLine>,
     Ok(nodes)
 }
 
-/// The names of the nodes' lines.
-pub fn node_names(alloc: Global, nodes: &[&StackLine]) -> Result<Vec<Text>, AllocError>
-    ensures { IfOk result (λ names. names.items ≡ filter_map (λ line. name_of line.now) nodes.now) }
+fn place_of(nodes: &[&StackLine], name: &str) -> Option<usize>
+    ensures value { result ≡ position (λ line. is_named name.now line.now) nodes.now }
+    ensures inside { IfSome result (λ place. place < length nodes.now) }
 {
-    let mut names = Vec::new(alloc);
-    for line in nodes {
-        if let Some(name) = name(line) {
-            names.push(Text::of(alloc, name)?)?;
-        }
+    nodes.iter().position(|line| is_named(name, line))
+}
+
+/// The number of the node of the name, or 0.
+fn node_number(nodes: &[&StackLine], name: &str) -> u32
+    requires { length nodes.now ≤ MAX_LINES + 1 }
+    ensures { result ≡ node_number (map (λ line. line.now) nodes.now) name.now }
+{
+    match place_of(nodes, name) {
+        Some(place) => place as u32,
+        None => 0,
     }
-    Ok(names)
 }
 
 /// The node of a layer's line.
-fn node_of(machines: &[Text], names: &[Text], line: &StackLine) -> Result<Option<NodeEntry>, AllocError>
+fn node_of(machines: &[Text], nodes: &[&StackLine], line: &StackLine) -> Result<Option<NodeEntry>, AllocError>
     requires machines { length machines.now ≤ MAX_LINES }
-    requires names { length names.now ≤ MAX_LINES }
-    ensures { IfOk result (λ node. node ≡ node_of machines.now names.now line.now) }
+    requires nodes { length nodes.now ≤ MAX_LINES + 1 }
+    ensures { IfOk result (λ node. node ≡ node_of machines.now (map (λ line. line.now) nodes.now) line.now) }
 {
     let (name, kind, machine, below, frames) = match line {
         StackLine::Page { .. } | StackLine::File { .. } => return Ok(None),
         StackLine::Disk { name, machine } => (name, Kind::Disk, machine, 0, 0),
         StackLine::Mirror { name, machine, .. } => (name, Kind::Mirror, machine, 0, 0),
         StackLine::Coherency { name, machine, below } => {
-            (name, Kind::Coherency, machine, number_in(names, below.as_str()), 0)
+            (name, Kind::Coherency, machine, node_number(nodes, below.as_str()), 0)
         }
         StackLine::Dfs { name, machine, below } => {
-            (name, Kind::Dfs, machine, number_in(names, below.as_str()), 0)
+            (name, Kind::Dfs, machine, node_number(nodes, below.as_str()), 0)
         }
         StackLine::Vmm { name, machine, below, frames } => {
-            (name, Kind::Vmm, machine, number_in(names, below.as_str()), *frames)
+            (name, Kind::Vmm, machine, node_number(nodes, below.as_str()), *frames)
         }
     };
     Ok(Some(NodeEntry {
@@ -196,20 +205,19 @@ fn node_of(machines: &[Text], names: &[Text], line: &StackLine) -> Result<Option
     }))
 }
 
-/// The nodes of the lines of the ground and of the other nodes.
+/// The nodes, from the machines and the nodes' lines.
 pub fn nodes_of(
     alloc: Global,
     machines: &[Text],
-    names: &[Text],
     lines: &[&StackLine],
 ) -> Result<Vec<NodeEntry>, AllocError>
     requires machines { length machines.now ≤ MAX_LINES }
-    requires names { length names.now ≤ MAX_LINES }
-    ensures { IfOk result (λ nodes. nodes.items ≡ filter_map (λ line. node_of machines.now names.now line.now) lines.now) }
+    requires lines { length lines.now ≤ MAX_LINES + 1 }
+    ensures { IfOk result (λ nodes. nodes.items ≡ filter_map (λ line. node_of machines.now (map (λ line. line.now) lines.now) line) (map (λ line. line.now) lines.now)) }
 {
     let mut nodes = Vec::new(alloc);
     for line in lines {
-        if let Some(node) = node_of(machines, names, line)? {
+        if let Some(node) = node_of(machines, lines, line)? {
             nodes.push(node)?;
         }
     }

@@ -303,7 +303,7 @@ pub fn is_node(lines: &[StackLine], line: &StackLine) -> bool
 }
 
 /// Whether the line is such a layer that stands on a disk or a mirror.
-fn is_first_node(lines: &[StackLine], line: &StackLine) -> bool
+pub fn is_first_node(lines: &[StackLine], line: &StackLine) -> bool
     ensures { result ≡ is_first_node lines.now line.now }
 {
     is_node(lines, line)
