@@ -1,2 +1,5 @@
 pub mod Lists
+pub mod TreeLaws
+pub mod Kept
+pub mod NodeLaws
 mod Rows

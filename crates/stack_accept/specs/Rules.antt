@@ -179,3 +179,8 @@ first_breach lines = breach_after [] lines
 -- the stack can be mounted
 abbrev pub IsAccepted : List StackLine → Type 0
 IsAccepted lines = first_breach lines ≡ None
+
+-- The same, rule by rule: each line that follows the earlier ones keeps every rule, and so does the end of the text.
+abbrev pub KeepsRules : List StackLine → List StackLine → Type 0
+KeepsRules earlier [] = (rule : Rule) → keeps_at_end rule earlier ≡ true
+KeepsRules earlier (line ∷ lines) = ((rule : Rule) → keeps rule earlier line ≡ true) × KeepsRules (earlier ++ line ∷ []) lines
