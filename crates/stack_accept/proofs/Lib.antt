@@ -2,4 +2,5 @@ pub mod Lists
 pub mod TreeLaws
 pub mod Kept
 pub mod NodeLaws
+pub mod MountLaws
 mod Rows
