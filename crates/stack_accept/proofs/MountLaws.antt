@@ -9,7 +9,7 @@ use Rattle.stack_text.specs.declared.stack.StackLine.{StackLine}
 use Rattle.stack_text.specs.declared.stack.StackLine.TheVariants.{Page, File, Disk, Mirror, Coherency, Dfs, Vmm}
 use Rattle.tower_core.specs.TreeShape.{IsTree}
 use Rattle.stack_accept.specs.declared.rule.Rule.TheVariants.{OneGround, Limits}
-use Rattle.stack_accept.specs.declared.mounted.NodeEntry.{NodeEntry}
+use Rattle.stack_accept.specs.declared.entries.NodeEntry.{NodeEntry}
 use Rattle.stack_accept.specs.Lines.{is_layer, is_storage, is_upper, is_named, is_storage_name}
 use Rattle.stack_accept.specs.Rules.{keeps, is_node, is_first_node, has_room, is_count, depth_of, IsAccepted, KeepsRules}
 use Rattle.stack_accept.specs.Mount.{base_of, ground_name, ground_line, node_lines, node_of, nodes_of, machines_of, tree_of}

@@ -9,7 +9,7 @@ use Rattle.std.proofs.lemmas.List.{append-nil, append_assoc, length-append}
 use Rattle.stack_text.specs.declared.stack.StackLine.{StackLine}
 use Rattle.stack_text.specs.declared.stack.StackLine.TheVariants.{Page, File, Disk, Mirror, Coherency, Dfs, Vmm}
 use Rattle.stack_accept.specs.declared.rule.Rule.TheVariants.{NewName, EarlierLayer, ManagerOnTop}
-use Rattle.stack_accept.specs.declared.mounted.NodeEntry.{NodeEntry}
+use Rattle.stack_accept.specs.declared.entries.NodeEntry.{NodeEntry}
 use Rattle.stack_accept.specs.Lines.{is_vmm, is_layer, is_storage, is_upper, name_of, is_word, is_named, is_layer_named, is_declared, is_vmm_name}
 use Rattle.stack_accept.specs.Rules.{is_taken, is_new_name, keeps, is_node, KeepsRules}
 use Rattle.stack_accept.specs.Mount.{node_number, node_of}

@@ -4,7 +4,7 @@ use Rattle.std.specs.Prelude.{slice_get, slice_index}
 use Rattle.std.proofs.lemmas.Bool.{cases_Bool}
 use Rattle.std.proofs.lemmas.List.{length-map}
 use Rattle.tower_core.specs.TreeShape.{TreeShape, IsTree, IsUpper, IsChild, parent, frames_of, nodes}
-use Rattle.stack_accept.specs.declared.mounted.NodeEntry.{NodeEntry}
+use Rattle.stack_accept.specs.declared.entries.NodeEntry.{NodeEntry}
 use Rattle.stack_accept.specs.Mount.{via, via_in, goes_round, below_of, tree_of}
 
 abbrev on_node : (NodeEntry → ℕ) → Option NodeEntry → ℕ

@@ -5,10 +5,10 @@ use Rattle.std.specs.List.{list_any, find, filter_map}
 use Rattle.std.specs.Str.{bytes_eq}
 use Rattle.stack_text.specs.declared.stack.StackLine.{StackLine}
 use Rattle.stack_text.specs.declared.stack.StackLine.TheVariants.{Page, File, Disk, Mirror, Coherency, Dfs, Vmm}
-use Rattle.stack_accept.specs.declared.mounted.Kind.{Kind}
-use Rattle.stack_accept.specs.declared.mounted.Kind.TheVariants as kinds
-use Rattle.stack_accept.specs.declared.mounted.FileEntry.{FileEntry}
-use Rattle.stack_accept.specs.declared.mounted.NodeEntry.{NodeEntry}
+use Rattle.stack_accept.specs.declared.entries.Kind.{Kind}
+use Rattle.stack_accept.specs.declared.entries.Kind.TheVariants as kinds
+use Rattle.stack_accept.specs.declared.entries.FileEntry.{FileEntry}
+use Rattle.stack_accept.specs.declared.entries.NodeEntry.{NodeEntry}
 use Rattle.tower_core.specs.TreeShape.{TreeShape}
 use Rattle.stack_accept.specs.Lines.{machine_of, is_named, is_storage}
 use Rattle.stack_accept.specs.Rules.{is_node, is_first_node}

@@ -10,7 +10,7 @@ ghost use Rattle.stack_accept.specs.Plan.{plan_of, plan_back};
 ghost use Rattle.stack_accept.specs.Mount.{number_in, page_size_of, file_of, disk_of, with_machine, machines_of, ground_name, node_lines, node_number, node_of, nodes_of, goes_round, below_of, via, tree_of};
 
 use crate::line::{is_disk, is_layer_named, is_named, is_storage, machine};
-use crate::mounted::{FileEntry, GroundPlan, Kind, NodeEntry};
+use crate::entries::{FileEntry, GroundPlan, Kind, NodeEntry};
 use crate::rule::{is_first_node, is_node};
 use hist_plain::Text;
 use stack_text::{MAX_LINES, StackLine};

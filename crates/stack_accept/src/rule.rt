@@ -12,6 +12,7 @@ use crate::line::{
     machine, name, stands_on,
 };
 use stack_text::{MAX_LINES, StackLine};
+use std::alloc::AllocError;
 
 const MAX_FILES: usize = 16;
 
@@ -59,6 +60,16 @@ pub enum Unfit {
     },
     /// Memory ran out.
     Memory,
+}
+
+impl From<AllocError> for Unfit {
+    ghost use Rattle.stack_accept.specs.declared.rule.Unfit.TheVariants.{Memory};
+
+    ghost from_gives = { λ _ e. e ≡ Memory };
+
+    fn from(_: AllocError) -> Unfit {
+        Unfit::Memory
+    }
 }
 
 /// The page line is first and alone.
