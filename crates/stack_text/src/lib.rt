@@ -1,6 +1,9 @@
 //! Stack texts: which file system layers stand on which, a line for each.
 #![tactic(auto)]
 
+mod read;
 mod stack;
+mod why;
 
 pub use stack::{MAX_LINES, StackLine, StackText};
+pub use why::{Refused, StackWhy};
