@@ -1,5 +1,5 @@
 -- Reading a stack text: its lines in order, each by itself, up to the first that is none.
-use Rattle.std.specs.Prelude.{◌≡◌, ℕ, suc, ◌+◌, List, [], ◌∷◌, codes, Bool, if◌then◌else◌, nat_lt, Option, Some, None, Result, Ok, Err}
+use Rattle.std.specs.Prelude.{◌≡◌, ℕ, ◌+◌, List, [], ◌∷◌, ◌++◌, length, codes, Bool, if◌then◌else◌, nat_lt, Option, Some, None, Result, Ok, Err}
 use Rattle.std.specs.Str.{bytes_eq}
 use Rattle.text_words.specs.declared.lines.LineWhy.{LineWhy}
 use Rattle.text_words.specs.Lines.{Row, rows_of, words_at}
@@ -113,6 +113,10 @@ unfoldable pub line_at : ℕ → Row → Result StackLine StackWhy
 line_at number row = do
   words ← as_stack_why (words_at row)
   if nat_lt 128 number then Err why.Long else words_line words
+
+-- the lines with the next one, which is read from the row
+abbrev pub AddsLine : List StackLine → List StackLine → Row → Type 0
+AddsLine old new row = (line : StackLine) × (line_at (length old + 1) row ≡ Ok line) × (new ≡ old ++ line ∷ [])
 
 abbrev pub in_line : {X : Type 0} → ℕ → Result X StackWhy → Result X Refused
 in_line number (Ok x) = Ok x

@@ -47,3 +47,13 @@ Tells why line read = read ≡ Err (record { line = line; why = why })
 
 abbrev pub IsRefused : {Y : Type 0} → Result Y Refused → Refused → Type 0
 IsRefused read refused = Tells refused.why refused.line read
+
+-- What was read is the value, unless memory ran out.
+abbrev pub Reads : {X : Type 0} → Result X Refused → X → Type 0
+Reads (Ok x) wanted = x ≡ wanted
+Reads (Err refused) wanted = refused.why ≡ Memory
+
+-- the line that a refusal names
+abbrev pub refused_line : StackWhy → ℕ → ℕ
+refused_line Memory line = 0
+refused_line why line = line

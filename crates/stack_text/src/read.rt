@@ -1,10 +1,10 @@
 //! Reading a stack text.
 
-ghost use Rattle.std.specs.Prelude.{◌≡◌, ◌∷◌, ◌<◌, ◌≤◌, ◌+◌, ◌^◌, [], map, length, Ok, IfOk, IfErr, MatchResult};
+ghost use Rattle.std.specs.Prelude.{◌≡◌, ◌∷◌, ◌<◌, ◌≤◌, ◌+◌, ◌^◌, [], map, length, Ok, IfOk, OnOk, IfErr, MatchResult};
 ghost use Rattle.text_words.specs.Lines.{row_of, rows_of, words_at};
 ghost use Rattle.stack_text.specs.Grammar.{IsStack, spelling};
-ghost use Rattle.stack_text.specs.Why.{Gives, IsRefused, Tells};
-ghost use Rattle.stack_text.specs.Reading.{name_at, number_at, page_at, file_at, disk_at, mirror_at, coherency_at, dfs_at, vmm_at, with_four, words_line, line_at, in_line, lines_at, stack_at};
+ghost use Rattle.stack_text.specs.Why.{Fails, Gives, IsRefused, refused_line, Reads};
+ghost use Rattle.stack_text.specs.Reading.{name_at, number_at, page_at, file_at, disk_at, mirror_at, coherency_at, dfs_at, vmm_at, with_four, words_line, line_at, AddsLine, stack_at};
 ghost use Rattle.stack_text.specs.declared.stack.StackText.{StackText};
 
 use crate::stack::{MAX_LINES, StackLine, StackText};
@@ -214,4 +214,60 @@ fn read_line(alloc: Global, number: usize, line: Line<'_>) -> Result<StackLine, 
         return Err(StackWhy::Long);
     }
     line_of_words(alloc, &words)
+}
+
+fn refusal(number: usize, why: StackWhy) -> Refused
+    requires { number ≤ MAX_LINES + 1 }
+    ensures { result ≡ record { line = refused_line why number; why = why } }
+{
+    let line = match why {
+        StackWhy::Memory => 0,
+        _ => number as u32,
+    };
+    Refused { line, why }
+}
+
+/// Adds the next line.
+fn add_line(alloc: Global, lines: &mut Vec<StackLine>, line: Line<'_>) -> Result<(), StackWhy>
+    ensures ok { OnOk result (AddsLine lines.old.items lines.new.items (row_of line.entry)) }
+    ensures err { IfErr result (λ why. Fails why (line_at (length lines.old.items + 1) (row_of line.entry))) }
+{
+    let line = read_line(alloc, lines.len() + 1, line)?;
+    lines.push(line)?;
+    Ok(())
+}
+
+/// The lines of a text, up to the first that is none.
+fn read_lines(alloc: Global, text: &[u8]) -> Result<Vec<StackLine>, Refused>
+    ensures { MatchResult result (λ lines. stack_at text.now ≡ Ok lines.items) (IsRefused (stack_at text.now)) }
+{
+    let mut lines = Vec::new(alloc);
+    let mut rest = text;
+    while !rest.is_empty() {
+        let (line, after) = split_line(rest);
+        let number = lines.len() + 1;
+        if let Err(why) = add_line(alloc, &mut lines, line) {
+            return Err(refusal(number, why));
+        }
+        rest = after;
+    }
+    Ok(lines)
+}
+
+/// The stack that a text spells. Refused is exactly a text that spells none, by its first line
+/// that is none and the first reason, and the rest for want of memory.
+pub fn parse_stack(alloc: Global, text: &[u8]) -> Result<StackText, Refused>
+    // What is read is spelled so.
+    ensures found { IfOk result (λ stack. IsStack stack × (text.now ≡ spelling stack)) }
+    // What is spelled so is read, unless memory runs out.
+    ensures only { (stack : StackText) → IsStack stack → text.now ≡ spelling stack → Reads result stack }
+    // The first line that is none, and the first reason.
+    ensures refused { IfErr result (IsRefused (stack_at text.now)) }
+{
+    match read_lines(alloc, text) {
+        Ok(lines) => Ok(StackText {
+            lines: Items::from_vec(lines),
+        }),
+        Err(refused) => Err(refused),
+    }
 }
