@@ -1,17 +1,16 @@
 -- What is read is spelled so, and what is spelled so is read.
-use Rattle.std.proofs.Common.{◌≡◌, ℕ, suc, ◌+◌, ◌^◌, ◌<◌, ◌≤◌, List, [], ◌∷◌, ◌++◌, length, map, codes, Bool, true, false, ◌&&◌, not, cond, ltb, Option, Some, None, Result, Ok, Err, IsTrue, refl, sym, ap, subst, ◌∙◌, inl, inr, arith}
-use Rattle.std.specs.Prelude.{◌⊎◌}
+use Rattle.std.proofs.Common.{◌≡◌, ℕ, ◌+◌, ◌<◌, ◌≤◌, List, [], ◌∷◌, ◌++◌, length, map, codes, Bool, true, false, cond, ltb, Option, Some, None, Result, Ok, Err, refl, sym, ap, subst, ◌∙◌, arith}
 use Rattle.std.specs.Fmt.{decimal}
 use Rattle.std.specs.Char.{is_ascii_digit}
-use Rattle.std.specs.List.{AllByRecursion, flat_map, list_all, join_with_byte}
+use Rattle.std.specs.List.{AllByRecursion, flat_map}
 use Rattle.std.specs.Str.{bytes_eq}
-use Rattle.std.proofs.lemmas.Bool.{and_parts, and_from, ltb-true, ltb-false, lt-ltb, le-ltb}
+use Rattle.std.proofs.lemmas.Bool.{and_from, ltb-false, lt-ltb, le-ltb}
 use Rattle.std.proofs.lemmas.Bool.Decides.{nat_tests}
 use Rattle.std.proofs.lemmas.Slice.Eq.{bytes_eq-Decides}
 use Rattle.text_words.specs.declared.lines.LineWhy.{LineWhy}
 use Rattle.text_words.specs.Lines.{Row, row_bytes, rows_of, words_at, has_bytes, is_word_byte, IsWord, AreWords, line_of, text_of}
-use Rattle.text_words.specs.Words.{is_name, is_name_char, is_letter, IsName}
-use Rattle.text_words.specs.Numbers.{is_decimal, number_of}
+use Rattle.text_words.specs.Words.{is_name, is_name_char, IsName}
+use Rattle.text_words.specs.Numbers.{number_of}
 use Rattle.text_words.proofs.Bytes.{list_all-weaker, name_chars}
 use Rattle.text_words.proofs.LineLaws.{words_row, words_are, words_again, rows_joined, rows_again}
 use Rattle.text_words.proofs.NumberLaws.{number_is, number_again, decimal_again, decimal_parts}
@@ -22,7 +21,7 @@ use Rattle.stack_text.specs.declared.why.StackWhy.TheVariants as why
 use Rattle.stack_text.specs.declared.why.Refused.{Refused}
 use Rattle.stack_text.specs.declared.stack.StackText.{StackText}
 use Rattle.stack_text.specs.Grammar.{line_words, IsStackLine, IsStack, spelling}
-use Rattle.stack_text.specs.Why.{why_of, Tells}
+use Rattle.stack_text.specs.Why.{Tells}
 use Rattle.stack_text.specs.Reading.{◌>>=◌, name_at, number_at, page_at, file_at, disk_at, mirror_at, coherency_at, dfs_at, vmm_at, with_one, with_two, with_three, with_four, words_line, as_stack_why, line_at, in_line, lines_at, stack_at}
 
 -- the value of a step that did not fail
@@ -113,7 +112,7 @@ mirror_is name machine left right line e =
     let c = name_is left one.0 one.1 in
     let d = name_is right other.0 other.1 in
     subst (IsLine (codes "mirror" ∷ name ∷ machine ∷ left ∷ right ∷ [])) (ok_is (Mirror own.0 at.0 one.0 other.0) line other.2)
-      ((a.0, b.0, c.0, d.0), four_words (codes "mirror") name own.0 machine at.0 left one.0 right other.0 a.1 b.1 c.1 d.1)
+    ((a.0, b.0, c.0, d.0), four_words (codes "mirror") name own.0 machine at.0 left one.0 right other.0 a.1 b.1 c.1 d.1)
 
 coherency_is : (name machine below : List ℕ) (line : StackLine) → coherency_at name machine below ≡ Ok line → IsLine (codes "coherency" ∷ name ∷ machine ∷ below ∷ []) line
 unfolding coherency_at
@@ -125,7 +124,7 @@ coherency_is name machine below line e =
     let b = name_is machine at.0 at.1 in
     let c = name_is below base.0 base.1 in
     subst (IsLine (codes "coherency" ∷ name ∷ machine ∷ below ∷ [])) (ok_is (Coherency own.0 at.0 base.0) line base.2)
-      ((a.0, b.0, c.0), three_words (codes "coherency") name own.0 machine at.0 below base.0 a.1 b.1 c.1)
+    ((a.0, b.0, c.0), three_words (codes "coherency") name own.0 machine at.0 below base.0 a.1 b.1 c.1)
 
 dfs_is : (name machine below : List ℕ) (line : StackLine) → dfs_at name machine below ≡ Ok line → IsLine (codes "dfs" ∷ name ∷ machine ∷ below ∷ []) line
 unfolding dfs_at
@@ -137,7 +136,7 @@ dfs_is name machine below line e =
     let b = name_is machine at.0 at.1 in
     let c = name_is below base.0 base.1 in
     subst (IsLine (codes "dfs" ∷ name ∷ machine ∷ below ∷ [])) (ok_is (Dfs own.0 at.0 base.0) line base.2)
-      ((a.0, b.0, c.0), three_words (codes "dfs") name own.0 machine at.0 below base.0 a.1 b.1 c.1)
+    ((a.0, b.0, c.0), three_words (codes "dfs") name own.0 machine at.0 below base.0 a.1 b.1 c.1)
 
 vmm_is : (name machine below frames : List ℕ) (line : StackLine) → vmm_at name machine below frames ≡ Ok line → IsLine (codes "vmm" ∷ name ∷ machine ∷ below ∷ frames ∷ []) line
 unfolding vmm_at
@@ -151,7 +150,7 @@ vmm_is name machine below frames line e =
     let c = name_is below base.0 base.1 in
     let d = number_at_is frames n.0 n.1 in
     subst (IsLine (codes "vmm" ∷ name ∷ machine ∷ below ∷ frames ∷ [])) (ok_is (Vmm own.0 at.0 base.0 n.0) line n.2)
-      ((a.0, b.0, c.0, d.0), four_words (codes "vmm") name own.0 machine at.0 below base.0 frames (decimal n.0) a.1 b.1 c.1 d.1)
+    ((a.0, b.0, c.0, d.0), four_words (codes "vmm") name own.0 machine at.0 below base.0 frames (decimal n.0) a.1 b.1 c.1 d.1)
 
 -- so many words were there
 one_is : (v : List ℕ) (read : List ℕ → Result StackLine StackWhy) → ((a : List ℕ) (line : StackLine) → read a ≡ Ok line → IsLine (v ∷ a ∷ []) line)
@@ -197,13 +196,13 @@ unfolding words_line
 words_line_is [] line e = absurd cc
 words_line_is (verb ∷ words) line e =
     verb_is verb (codes "page") words (with_one page_at words) _ line (one_is (codes "page") page_at page_is words line)
-      (verb_is verb (codes "file") words (with_two file_at words) _ line (two_is (codes "file") file_at file_is words line)
-        (verb_is verb (codes "disk") words (with_two disk_at words) _ line (two_is (codes "disk") disk_at disk_is words line)
-          (verb_is verb (codes "mirror") words (with_four mirror_at words) _ line (four_is (codes "mirror") mirror_at mirror_is words line)
-            (verb_is verb (codes "coherency") words (with_three coherency_at words) _ line (three_is (codes "coherency") coherency_at coherency_is words line)
-              (verb_is verb (codes "dfs") words (with_three dfs_at words) _ line (three_is (codes "dfs") dfs_at dfs_is words line)
-                (verb_is verb (codes "vmm") words (with_four vmm_at words) _ line (four_is (codes "vmm") vmm_at vmm_is words line)
-                  (λ none. absurd cc))))))) e
+    (verb_is verb (codes "file") words (with_two file_at words) _ line (two_is (codes "file") file_at file_is words line)
+    (verb_is verb (codes "disk") words (with_two disk_at words) _ line (two_is (codes "disk") disk_at disk_is words line)
+    (verb_is verb (codes "mirror") words (with_four mirror_at words) _ line (four_is (codes "mirror") mirror_at mirror_is words line)
+    (verb_is verb (codes "coherency") words (with_three coherency_at words) _ line (three_is (codes "coherency") coherency_at coherency_is words line)
+    (verb_is verb (codes "dfs") words (with_three dfs_at words) _ line (three_is (codes "dfs") dfs_at dfs_is words line)
+    (verb_is verb (codes "vmm") words (with_four vmm_at words) _ line (four_is (codes "vmm") vmm_at vmm_is words line)
+    (λ none. absurd cc))))))) e
 
 -- what is written as a line is read
 page_again : (size : ℕ) → IsStackLine (Page size) → words_line (line_words (Page size)) ≡ Ok (Page size)
@@ -345,11 +344,11 @@ lines_at_are number (row ∷ rows) lines few e =
     let rest = lines_at_are (number + 1) rows more.0 (omega (arith, here.few)) more.1 in
     let left = rest.few in
     subst (AreRead number (row ∷ rows)) (done_is (line.0 ∷ more.0) lines more.2)
-      (record {
-        fit = (here.fit, rest.fit);
-        bytes = ap (λ (bs : List ℕ). bs ++ flat_map row_bytes rows) here.bytes ∙ ap (λ (bs : List ℕ). line_of (line_words line.0) ++ bs) rest.bytes;
-        few = omega (arith, left);
-      })
+    (record {
+      fit = (here.fit, rest.fit);
+      bytes = ap (λ (bs : List ℕ). bs ++ flat_map row_bytes rows) here.bytes ∙ ap (λ (bs : List ℕ). line_of (line_words line.0) ++ bs) rest.bytes;
+      few = omega (arith, left);
+    })
 
 pub lines_at_again : (number : ℕ) (lines : List StackLine) → AllByRecursion IsStackLine lines → number + length lines ≤ 129 → lines_at number (map words_row (map (λ line. line_words line) lines)) ≡ Ok lines
 lines_at_again number [] h few = refl

@@ -1,5 +1,5 @@
 -- Reading line by line.
-use Rattle.std.proofs.Common.{◌≡◌, ℕ, ◌+◌, ◌≤◌, List, [], ◌∷◌, ◌++◌, length, Result, Ok, Err, refl, sym, ap, subst, ◌∙◌, append_assoc, length-append, arith}
+use Rattle.std.proofs.Common.{◌≡◌, ◌+◌, ◌≤◌, List, [], ◌∷◌, ◌++◌, length, Result, Ok, Err, refl, sym, ap, subst, ◌∙◌, append_assoc, length-append, arith}
 use Rattle.text_words.specs.Lines.{Row}
 use Rattle.stack_text.specs.declared.stack.StackLine.{StackLine}
 use Rattle.stack_text.specs.declared.why.Refused.{Refused}
@@ -30,9 +30,9 @@ one_more whole front next row rows left line goes split is pushed =
     let low = few.few in
     let longer = length-append front (line ∷ []) in
     let read : whole ≡ onto (front ++ line ∷ []) (lines_at (length front + 1 + 1) rows) =
-      goes.read ∙ ap (λ rs. onto front (lines_at (length front + 1) rs)) split
-      ∙ ap (onto front) (bind_again (in_line (length front + 1) (line_at (length front + 1) row)) (λ l. lines_at (length front + 1 + 1) rows >>= λ lines. all_of (l ∷ lines)) line (ap (in_line (length front + 1)) is))
-      ∙ onto_cons front line (lines_at (length front + 1 + 1) rows) in
+    goes.read ∙ ap (λ rs. onto front (lines_at (length front + 1) rs)) split
+    ∙ ap (onto front) (bind_again (in_line (length front + 1) (line_at (length front + 1) row)) (λ l. lines_at (length front + 1 + 1) rows >>= λ lines. all_of (l ∷ lines)) line (ap (in_line (length front + 1)) is))
+    ∙ onto_cons front line (lines_at (length front + 1 + 1) rows) in
     let place : length front + 1 + 1 ≡ length (front ++ line ∷ []) + 1 = omega (arith, longer) in
     subst (λ ls. GoesOn whole ls rows) (sym pushed)
-      (record { read = read ∙ ap (λ n. onto (front ++ line ∷ []) (lines_at n rows)) place; few = omega (arith, longer, low) })
+    (record { read = read ∙ ap (λ n. onto (front ++ line ∷ []) (lines_at n rows)) place; few = omega (arith, longer, low) })

@@ -1,5 +1,5 @@
 -- Reading a stack text: its lines in order, each by itself, up to the first that is none.
-use Rattle.std.specs.Prelude.{◌≡◌, ℕ, ◌+◌, List, [], ◌∷◌, ◌++◌, length, codes, Bool, if◌then◌else◌, nat_lt, Option, Some, None, Result, Ok, Err}
+use Rattle.std.specs.Prelude.{◌≡◌, ℕ, ◌+◌, List, [], ◌∷◌, ◌++◌, length, codes, if◌then◌else◌, nat_lt, Option, Some, None, Result, Ok, Err}
 use Rattle.std.specs.Str.{bytes_eq}
 use Rattle.text_words.specs.declared.lines.LineWhy.{LineWhy}
 use Rattle.text_words.specs.Lines.{Row, rows_of, words_at}

@@ -1,6 +1,5 @@
 use Rattle.std.proofs.Common.{◌≡◌, List, sym, subst, ap, ◌∙◌}
 use Rattle.stack_text.specs.declared.stack.StackLine.{StackLine}
-use Rattle.stack_text.specs.declared.stack.StackText.{StackText}
 use Rattle.stack_text.specs.Grammar.{IsStack, spelling}
 use Rattle.stack_text.proofs.Laws.{stack_at_is, stack_at_again, refused_memory, lines_same}
 use Rattle.stack_text.proofs.read.parse_stack.Goals as goal
