@@ -3,4 +3,5 @@ pub mod TreeLaws
 pub mod Kept
 pub mod NodeLaws
 pub mod MountLaws
+pub mod SoundLaws
 mod Rows

@@ -13,7 +13,7 @@ use Rattle.stack_accept.specs.declared.entries.NodeEntry.{NodeEntry}
 use Rattle.stack_accept.specs.Lines.{is_layer, is_storage, is_upper, is_named, is_storage_name}
 use Rattle.stack_accept.specs.Rules.{keeps, is_node, is_first_node, has_room, is_count, depth_of, IsAccepted, KeepsRules}
 use Rattle.stack_accept.specs.Mount.{base_of, ground_name, ground_line, node_lines, node_of, nodes_of, machines_of, tree_of}
-use Rattle.stack_accept.proofs.Lists.{find_some, count_by_none, count_by_push, count_by_weaker}
+use Rattle.stack_accept.proofs.Lists.{find_some, list_any_weaker, count_by_none, count_by_push, count_by_weaker}
 use Rattle.stack_accept.proofs.Kept.{kept_after, kept_at_end}
 use Rattle.stack_accept.proofs.TreeLaws.{EachPlaced, ArePlaced, placed_tree}
 use Rattle.stack_accept.proofs.NodeLaws.{line_frames, leafless_first, placed_after}
@@ -47,6 +47,12 @@ ground_found lines keeps =
     let there : is_storage_name lines (ground_name lines) ≡ true = ap (λ n. is_storage_name lines n) name ∙ first_base lines first.0 first.2 in
     let found = find_some (λ line. is_storage line && is_named (ground_name lines) line) lines there in
     (found.0, found.1, (and_parts (is_storage found.0) (is_named (ground_name lines) found.0) found.2).0)
+
+-- so there is a disk or a mirror
+pub ground_storage : (lines : List StackLine) → KeepsRules [] lines → list_any (λ line. is_storage line) lines ≡ true
+ground_storage lines keeps =
+    let first = first_node lines keeps in
+    list_any_weaker (λ line. is_storage line && is_named (base_of first.0) line) (λ line. is_storage line) (λ line is. (and_parts (is_storage line) (is_named (base_of first.0) line) is).0) lines (first_base lines first.0 first.2)
 
 -- the ground's node stands on nothing, and has no frames
 record IsBareNode (machines : List (List ℕ)) (nodes : List StackLine) (line : StackLine) : Type 0 where
@@ -145,23 +151,24 @@ mounted_tree lines accepted =
     let has = has_nodes lines (kept lines accepted) in
     subst (λ ns. IsTree (tree_of ns)) (sym has.all) (placed_tree has.ground has.rest has.placed)
 
--- at most 31 upper layers
-upper_step : (n : ℕ) (line : StackLine) (earlier : List StackLine) → count_by (λ l. is_upper l) earlier ≡ n → keeps Limits earlier line ≡ true → n ≤ 31 → n + cond (is_upper line) 1 0 ≤ 31
-upper_step n (Page size) earlier is e few = omega arith
-upper_step n (File name pages) earlier is e few = omega arith
-upper_step n (Disk name machine) earlier is e few = omega arith
-upper_step n (Mirror name machine left right) earlier is e few = omega arith
-upper_step n (Coherency name machine below) earlier is e few = let low = ltb-true _ 31 (and_parts (ltb (count_by (λ l. is_upper l) earlier) 31) _ e).0 in omega (arith, low, is)
-upper_step n (Dfs name machine below) earlier is e few = let low = ltb-true _ 31 (and_parts (ltb (count_by (λ l. is_upper l) earlier) 31) _ e).0 in omega (arith, low, is)
-upper_step n (Vmm name machine below frames) earlier is e few =
-    let low = ltb-true _ 31 (and_parts (ltb (count_by (λ l. is_upper l) earlier) 31) _ (and_parts (has_room earlier below) (is_count frames) e).0).0 in omega (arith, low, is)
+-- what the limits keep low at each line is low at the end
+pub few_by : (p : StackLine → Bool) (most : ℕ) → ((earlier : List StackLine) (line : StackLine) → keeps Limits earlier line ≡ true → count_by p earlier ≤ most → count_by p earlier + cond (p line) 1 0 ≤ most)
+    → (earlier lines : List StackLine) → KeepsRules earlier lines → count_by p earlier ≤ most → count_by p (earlier ++ lines) ≤ most
+few_by p most step earlier [] keeps few = subst (λ ls. count_by p ls ≤ most) (sym (append-nil earlier)) few
+few_by p most step earlier (line ∷ lines) keeps few =
+    let next : count_by p (earlier ++ line ∷ []) ≤ most = subst (λ n. n ≤ most) (sym (count_by_push p earlier line)) (step earlier line (keeps.0 Limits) few) in
+    subst (λ ls. count_by p ls ≤ most) (append_assoc earlier (line ∷ []) lines) (few_by p most step (earlier ++ line ∷ []) lines keeps.1 next)
 
-upper_few : (earlier lines : List StackLine) → KeepsRules earlier lines → count_by (λ l. is_upper l) earlier ≤ 31 → count_by (λ l. is_upper l) (earlier ++ lines) ≤ 31
-upper_few earlier [] keeps few = subst (λ ls. count_by (λ l. is_upper l) ls ≤ 31) (sym (append-nil earlier)) few
-upper_few earlier (line ∷ lines) keeps few =
-    let more = count_by_push (λ l. is_upper l) earlier line in
-    let next : count_by (λ l. is_upper l) (earlier ++ line ∷ []) ≤ 31 = subst (λ n. n ≤ 31) (sym more) (upper_step (count_by (λ l. is_upper l) earlier) line earlier refl (keeps.0 Limits) few) in
-    subst (λ ls. count_by (λ l. is_upper l) ls ≤ 31) (append_assoc earlier (line ∷ []) lines) (upper_few (earlier ++ line ∷ []) lines keeps.1 next)
+-- at most 31 upper layers
+upper_step : (earlier : List StackLine) (line : StackLine) → keeps Limits earlier line ≡ true → count_by (λ l. is_upper l) earlier ≤ 31 → count_by (λ l. is_upper l) earlier + cond (is_upper line) 1 0 ≤ 31
+upper_step earlier (Page size) e few = omega arith
+upper_step earlier (File name pages) e few = omega arith
+upper_step earlier (Disk name machine) e few = omega arith
+upper_step earlier (Mirror name machine left right) e few = omega arith
+upper_step earlier (Coherency name machine below) e few = let low = ltb-true _ 31 (and_parts (ltb (count_by (λ l. is_upper l) earlier) 31) _ e).0 in omega (arith, low)
+upper_step earlier (Dfs name machine below) e few = let low = ltb-true _ 31 (and_parts (ltb (count_by (λ l. is_upper l) earlier) 31) _ e).0 in omega (arith, low)
+upper_step earlier (Vmm name machine below frames) e few =
+    let low = ltb-true _ 31 (and_parts (ltb (count_by (λ l. is_upper l) earlier) 31) _ (and_parts (has_room earlier below) (is_count frames) e).0).0 in omega (arith, low)
 
 pub few_nodes : (lines : List StackLine) → KeepsRules [] lines → length (nodes_of lines) ≤ 32
 few_nodes lines keeps =
@@ -174,7 +181,7 @@ few_nodes lines keeps =
       ∙ length-map others (λ line. line_frames line) in
     let counted = length-filter (λ l. is_node lines l) lines in
     let fewer = count_by_weaker (λ l. is_node lines l) (λ l. is_upper l) (λ line is. node_upper lines line is) lines in
-    let few = upper_few [] lines keeps (omega arith) in
+    let few = few_by (λ l. is_upper l) 31 upper_step [] lines keeps (omega arith) in
     let all = ap length has.all in
     omega (arith, same, counted, fewer, few, all)
 

@@ -2,5 +2,6 @@ pub mod Lines
 pub mod Rules
 pub mod Plan
 pub mod Mount
-pub mod Check
+pub mod Sound
 pub mod Unfit
+pub mod Check
