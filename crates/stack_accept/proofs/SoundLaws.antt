@@ -1,5 +1,5 @@
 -- An accepted text makes a sound mount.
-use Rattle.std.proofs.Common.{◌≡◌, ℕ, zero, suc, ◌+◌, ◌^◌, ◌<◌, ◌≤◌, List, [], ◌∷◌, ◌++◌, length, map, count_by, get_or, Bool, true, false, not, ◌&&◌, ◌||◌, cond, eqb, ltb, leb, Option, Some, None, refl, sym, ap, subst, ◌∙◌, inl, inr, arith, lit≤}
+use Rattle.std.proofs.Common.{◌≡◌, ℕ, zero, suc, ◌+◌, ◌^◌, ◌<◌, ◌≤◌, List, [], ◌∷◌, ◌++◌, length, map, reverse, count_by, get_or, Bool, true, false, not, ◌&&◌, ◌||◌, cond, eqb, ltb, leb, Option, Some, None, refl, sym, ap, subst, ◌∙◌, inl, inr, arith, lit≤}
 use Rattle.std.specs.Prelude.{position, unwrap_or, ◌⊎◌}
 use Rattle.std.specs.List.{AllByRecursion, list_any, filter, filter_map, cons_option, position_or_len, fold}
 use Rattle.std.specs.Str.{bytes_eq}
@@ -13,7 +13,9 @@ use Rattle.stack_accept.specs.declared.entries.FileEntry.{FileEntry}
 use Rattle.stack_accept.specs.declared.entries.NodeEntry.{NodeEntry}
 use Rattle.stack_accept.specs.Lines.{is_page, is_file, is_disk, is_storage, machine_of}
 use Rattle.stack_accept.specs.Rules.{keeps, is_node, is_count, is_page_size, has_room, IsAccepted, KeepsRules}
-use Rattle.stack_accept.specs.Mount.{Mount, mounted, number_in, page_size_of, file_of, disk_of, with_machine, machines_of, ground_line, node_lines, node_of, nodes_of}
+use Rattle.stack_accept.specs.Mount.{Mount, mounted, number_in, page_size_of, file_of, disk_of, with_machine, machines_of, ground_name, node_lines, node_of, nodes_of, tree_of}
+use Rattle.stack_accept.specs.Plan.{Plan, plan_back}
+use Rattle.tower_core.specs.TreeShape.{TreeShape}
 use Rattle.stack_accept.specs.Sound.{IsInLimits, IsStorageKind, IsLayerKind, IsGroundNode, IsLayerNode, IsMount}
 use Rattle.stack_accept.proofs.Lists.{count_by_cons, count_by_push, count_by_none}
 use Rattle.stack_accept.proofs.Kept.{kept_at_end}
@@ -259,3 +261,22 @@ mounted_is lines accepted =
       layer_node = λ node d above inside. subst (λ ns. IsLayerNode machines (get_or ns node d)) (sym has.all) (layer_at machines has.ground has.rest layers node d above (subst (λ ns. node < length ns) has.all inside));
       ordered = λ node d above inside. subst (λ ns. (get_or ns node d).below < node) (sym has.all) (below_at has.ground has.rest has.placed node d above (subst (λ ns. node < length ns) has.all inside));
     }
+
+mount_of : ℕ → List FileEntry → TreeShape → List NodeEntry → Plan → List (List ℕ) → List (List ℕ) → Mount
+mount_of page_size files tree nodes ground disks machines = record { page_size = page_size; files = files; tree = tree; nodes = nodes; ground = ground; disks = disks; machines = machines }
+
+same_mount : (p p' : ℕ) (f f' : List FileEntry) (t t' : TreeShape) (n n' : List NodeEntry) (g g' : Plan) (d d' m m' : List (List ℕ)) → p ≡ p' → f ≡ f' → t ≡ t' → n ≡ n' → g ≡ g' → d ≡ d' → m ≡ m'
+    → mount_of p f t n g d m ≡ mount_of p' f' t' n' g' d' m'
+same_mount p p' f f' t t' n n' g g' d d' m m' a b c e h i j = cc
+
+made_of : (m : Mount) → mount_of m.page_size m.files m.tree m.nodes m.ground m.disks m.machines ≡ m
+unfolding mount_of
+made_of m = refl
+
+-- the same, of what has the parts of the mounted stack
+pub sound_parts : (lines : List StackLine) (m : Mount) → m.page_size ≡ page_size_of lines → m.files ≡ filter_map (λ line. file_of line) lines → m.tree ≡ tree_of (nodes_of lines) → m.nodes ≡ nodes_of lines
+    → m.ground ≡ plan_back (reverse lines) (ground_name lines) → m.disks ≡ filter_map (λ line. disk_of line) lines → m.machines ≡ machines_of lines → IsAccepted lines → IsMount m
+sound_parts lines m page_size files tree nodes ground disks machines accepted =
+    let made = mounted lines in
+    let same : m ≡ made = sym (made_of m) ∙ same_mount m.page_size made.page_size m.files made.files m.tree made.tree m.nodes made.nodes m.ground made.ground m.disks made.disks m.machines made.machines page_size files tree nodes ground disks machines ∙ made_of made in
+    subst IsMount (sym same) (mounted_is lines accepted)

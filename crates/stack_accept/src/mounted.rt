@@ -3,6 +3,7 @@
 ghost use Rattle.std.specs.Prelude.{◌≡◌, ◌≤◌, IfOk, IfErr, length};
 ghost use Rattle.stack_accept.specs.Plan.{plan_of};
 ghost use Rattle.stack_accept.specs.Rules.{first_breach, IsAccepted};
+ghost use Rattle.stack_accept.specs.Sound.{IsMount};
 ghost use Rattle.stack_accept.specs.Unfit.{IsUnfit};
 ghost use Rattle.tower_core.specs.TreeShape.{IsTree};
 ghost use Rattle.stack_accept.specs.Mount.{mounted, machines_of, nodes_of, tree_of, via};
@@ -35,60 +36,70 @@ impl Model for Mounted {
     ghost use Rattle.std.specs.Coded.{codes};
     ghost use Rattle.stack_accept.specs.Mount.{Mount};
     ghost use Rattle.stack_accept.specs.Plan.{plan_of, plan_code};
+    ghost use Rattle.stack_accept.specs.Sound.{IsMount};
 
     ghost Value = { Mount };
 
     ghost coded = { Prim.hlevel (codes, plan_code) };
 
     ghost view = { λ m. record { page_size = m.page_size; files = m.files.items; tree = m.tree; nodes = m.nodes.items; ground = plan_of m.ground; disks = m.disks.items; machines = m.machines.items } };
+
+    ghost invariant = { λ m. IsMount (record { page_size = m.page_size; files = m.files.items; tree = m.tree; nodes = m.nodes.items; ground = plan_of m.ground; disks = m.disks.items; machines = m.machines.items }) };
 }
 
 impl Mounted {
     /// The size of a page, in bytes: a power of two from 64 to 4,096.
     pub fn page_size(&self) -> u32
-        ensures { result ≡ self.now.page_size }
+        ensures value { result ≡ self.now.page_size }
+        ensures sound { IsMount self.now }
     {
         self.page_size
     }
 
     /// The files, in the order of the text: 1 to 16.
     pub fn files(&self) -> &[FileEntry]
-        ensures { result.now ≡ self.now.files }
+        ensures value { result.now ≡ self.now.files }
+        ensures sound { IsMount self.now }
     {
         &self.files
     }
 
     /// The tree of the nodes.
     pub fn tree(&self) -> &Tree
-        ensures { result.now ≡ self.now.tree }
+        ensures value { result.now ≡ self.now.tree }
+        ensures sound { IsMount self.now }
     {
         &self.tree
     }
 
     /// The nodes: the ground, and then the other layers in the order of the text.
     pub fn nodes(&self) -> &[NodeEntry]
-        ensures { result.now ≡ self.now.nodes }
+        ensures value { result.now ≡ self.now.nodes }
+        ensures sound { IsMount self.now }
     {
         &self.nodes
     }
 
     /// What the ground is made of.
     pub fn ground(&self) -> &GroundPlan
-        ensures { plan_of result.now ≡ self.now.ground }
+        ensures value { plan_of result.now ≡ self.now.ground }
+        ensures sound { IsMount self.now }
     {
         &self.ground
     }
 
     /// The names of the disks, by their numbers: 1 to 4.
     pub fn disks(&self) -> &[Text]
-        ensures { result.now ≡ self.now.disks }
+        ensures value { result.now ≡ self.now.disks }
+        ensures sound { IsMount self.now }
     {
         &self.disks
     }
 
     /// The names of the machines, by their numbers.
     pub fn machines(&self) -> &[Text]
-        ensures { result.now ≡ self.now.machines }
+        ensures value { result.now ≡ self.now.machines }
+        ensures sound { IsMount self.now }
     {
         &self.machines
     }
@@ -96,7 +107,8 @@ impl Mounted {
     /// The node that serves a view's pages on a machine: the view, unless it is a distributed layer
     /// of this machine; then the node that serves what it stands on.
     pub fn via(&self, view: u32, machine: u32) -> u32
-        ensures { result ≡ via self.now.nodes view machine }
+        ensures value { result ≡ via self.now.nodes view machine }
+        ensures sound { IsMount self.now }
     {
         via(&self.nodes, view, machine)
     }
