@@ -1,0 +1,45 @@
+-- How a run ended, by its answers.
+use Rattle.std.specs.Prelude.{List, not, ◌||◌, Bool, true, false, if◌then◌else◌, [], ◌∷◌}
+use Rattle.std.specs.List.{list_any, list_all}
+use Rattle.script_text.specs.declared.script.Said.{Said}
+use Rattle.script_text.specs.declared.script.Reply.{Reply}
+use Rattle.script_text.specs.declared.script.Reply.TheVariants as replies
+use Rattle.run_defs.specs.declared.object.LostStore.{LostStore}
+use Rattle.spr_report.specs.declared.status.Status.{Status}
+use Rattle.spr_report.specs.declared.status.Status.TheVariants.{Good, Faulted, BayFault, Memory}
+
+abbrev pub is_memory : Reply → Bool
+is_memory replies.Memory = true
+is_memory reply = false
+
+-- the answers of a store's failure and of a full trail
+abbrev pub is_fault : Reply → Bool
+is_fault (replies.Store disk count) = true
+is_fault replies.TrailFull = true
+is_fault reply = false
+
+abbrev pub is_done : Reply → Bool
+is_done replies.Done = true
+is_done reply = false
+
+abbrev pub lacks_memory : List Said → Bool
+lacks_memory said = list_any (λ s. is_memory s.reply) said
+
+abbrev pub has_fault : List Said → Bool
+has_fault said = list_any (λ s. is_fault s.reply) said
+
+-- the store of the file, if it was lost
+abbrev pub losses : Bool → List LostStore
+losses gone = if gone then record { file = 0; disk = 0 } ∷ [] else []
+
+-- want of memory, in a client's answers or the closing ones, comes first; then a store that was lost; then an answer of a
+-- store's failure or a closing sync that is not done
+abbrev pub status_by : Bool → Bool → Bool → Bool → Bool → Status
+status_by lacks memory gone fault done =
+    if lacks || memory then Memory
+    else if gone then BayFault
+    else if fault || not done then Faulted
+    else Good
+
+abbrev pub status_of : List (List Said) → List Reply → Bool → Status
+status_of said closing gone = status_by (list_any lacks_memory said) (list_any is_memory closing) gone (list_any has_fault said) (list_all is_done closing)

@@ -1,0 +1,15 @@
+//! The program: what a command does over the outside, what it writes, and its status.
+#![tactic(auto)]
+
+mod ended;
+mod finish;
+mod first;
+mod play;
+mod refusal;
+mod store;
+mod texts;
+mod top;
+
+pub use refusal::Refusal;
+pub use store::{End, Stop};
+pub use top::spring;
