@@ -13,3 +13,6 @@ mod top;
 pub use refusal::Refusal;
 pub use store::{End, Stop};
 pub use top::spring;
+
+#[cfg(test)]
+mod tests;

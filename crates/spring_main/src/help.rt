@@ -1,0 +1,30 @@
+//! What `--help`, `-h` and `--version` print.
+
+use hist_plain::Text;
+
+/// What the program does, its commands, and an example.
+pub const HELP: &str = "spring: a stack of coherent file system layers, as the file services of Spring had them.
+
+usage: spring run IDL STACK SCRIPT
+
+  run IDL STACK SCRIPT   mounts the stack, runs the script over it, syncs each file, and writes each
+                         client's answers and each file's one history
+  --help, -h             writes this
+  --version              writes the version
+
+IDL, STACK and SCRIPT are names of files. The store of disk D for file F is D.F.img in the current folder.
+
+example: spring run examples/first/first.idl examples/first/first.stack examples/first/first.script";
+
+/// The program's name and version.
+pub const VERSION: &str = "spring 0.1.0";
+
+/// Whether the only word asks for help.
+pub fn asks_help(words: &[Text]) -> bool {
+    matches!(words, [word] if word.as_str() == "--help" || word.as_str() == "-h")
+}
+
+/// Whether the only word asks for the version.
+pub fn asks_version(words: &[Text]) -> bool {
+    matches!(words, [word] if word.as_str() == "--version")
+}

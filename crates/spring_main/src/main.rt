@@ -1,0 +1,66 @@
+//! The command `spring`: the program over the host's files and the standard output.
+#![tactic(auto)]
+
+mod help;
+
+use crate::help::{HELP, VERSION, asks_help, asks_version};
+use hist_plain::Text;
+use spr_io::{HostBay, HostShelf, OpenGate, StdSink};
+use spr_run::spring;
+use std::alloc::{AllocError, Global};
+use std::process::ExitCode;
+use std::rt::Runtime;
+use std::sync::Wait;
+use std::thread::Threads;
+use std::{env, io};
+
+/// The status of want of memory.
+const NO_MEMORY: u8 = 8;
+
+/// The arguments after the program's name.
+fn words(alloc: Global, args: env::Args<Global>) -> Result<Vec<Text>, AllocError> {
+    let mut words = Vec::new(alloc);
+    for arg in args.skip(1) {
+        words.push(Text::of(alloc, arg.as_str())?)?;
+    }
+    Ok(words)
+}
+
+/// Runs a command of these words, and answers its status.
+fn run<R: Runtime + Threads + Wait + Sync>(
+    rt: &R,
+    alloc: Global,
+    words: &[Text],
+) -> io::Result<u8>
+where
+    R::File: Send,
+{
+    let mut shelf = HostShelf::new(rt.clone()?);
+    let mut bay = HostBay::new(rt.clone()?, alloc);
+    let mut sink = StdSink::new(rt.clone()?);
+    let status = spring(
+        rt, alloc, words, &mut shelf, &mut bay, &mut sink, &OpenGate,
+    );
+    Ok(status.number())
+}
+
+fn main(rt: HostRuntime) -> ExitCode {
+    let Ok(args) = env::args(&rt) else {
+        return ExitCode::from(NO_MEMORY);
+    };
+    let Ok(words) = words(rt.alloc(), args) else {
+        return ExitCode::from(NO_MEMORY);
+    };
+    if asks_help(&words) {
+        let _ = println!(rt; "{HELP}");
+        return ExitCode::from(0);
+    }
+    if asks_version(&words) {
+        let _ = println!(rt; "{VERSION}");
+        return ExitCode::from(0);
+    }
+    match run(&rt, rt.alloc(), &words) {
+        Ok(status) => ExitCode::from(status),
+        Err(_) => ExitCode::from(NO_MEMORY),
+    }
+}
