@@ -11,6 +11,7 @@ use Rattle.script_text.specs.declared.script.Reply.TheVariants as replies
 use Rattle.run_defs.specs.declared.log.History.{History}
 use Rattle.run_defs.specs.declared.object.OpenObject.{OpenObject}
 use Rattle.run_defs.specs.declared.setting.Setting.{Setting}
+use Rattle.run_defs.specs.declared.setting.FileEntry.{FileEntry}
 use Rattle.run_defs.specs.Setting.{shape_of}
 use Rattle.run_defs.specs.Log.{trail_of, file_of, history_at, IsFull}
 use Rattle.run_defs.specs.Kept.{ArePages}
@@ -78,3 +79,11 @@ pub record EndsSynced (caller : ℕ) (trail : List Event) : Type 0 where
 pub record IsClosed (caller : ℕ) (t : TowerSeen) : Type 0 where
   pub ends : EndsSynced caller (trail_of t.log.history)
   pub kept : IfSome t.content (λ c. ArePages t.log.shape.page_size (file_of t.log.shape t.log.history).bytes c.kept)
+
+-- the closing syncs were made, file by file, and answered so; nobody else did anything
+pub record FilesClosed (setting : Setting) (mount : ℕ) (files : List FileEntry) (said : List Reply) (before after : List TowerSeen) : Type 0 where
+  pub made : List Made
+  pub did : Did (shape_of setting) mount (histories before) (histories after) made
+  pub closes : Closes (IsFull (histories after)) mount 0 files made said
+  pub others : (other : ℕ) → other ≢ mount → Did (shape_of setting) other (histories before) (histories after) []
+  pub closed : (file : ℕ) (t : TowerSeen) → slice_get said file ≡ Some replies.Done → slice_get after file ≡ Some t → IsClosed mount t

@@ -2,8 +2,11 @@
 #![tactic(auto)]
 
 mod client;
+mod closing;
 mod line;
 mod phase;
 mod towers;
 
 pub use client::{Client, perform};
+pub use closing::close_files;
+pub use phase::run_phases;

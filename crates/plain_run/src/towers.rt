@@ -1,12 +1,13 @@
 //! Calls at one of the files.
 
-ghost use Rattle.std.specs.Prelude.{◌≡◌, ℕ, ◌<◌, length, slice_get, Some, IsTrue, []};
+ghost use Rattle.std.specs.Prelude.{◌≡◌, ◌≢◌, ℕ, ◌<◌, length, slice_get, Some, IsTrue, OnOk, []};
 ghost use Rattle.hist_plain.specs.Event.{fits_page};
 ghost use Rattle.hist_plain.specs.Plain.{asked_by};
 ghost use Rattle.run_defs.specs.Plan.{asking, access, sync};
 ghost use Rattle.run_defs.specs.Calls.{CalledAt};
 ghost use Rattle.plain_tower.specs.Tower.{TowerSeen};
 ghost use Rattle.plain_run.specs.Towers.{frames, histories};
+ghost use Rattle.plain_run.specs.Phases.{IsClosed};
 
 use hist_plain::{Keep, Op};
 use plain_tower::Tower;
@@ -43,6 +44,8 @@ pub fn sync_at<S: Store>(
     requires file { file < length towers.old }
     requires call { (t : TowerSeen) → slice_get towers.old file ≡ Some t → (caller < t.log.callers) × (node < length t.log.shape.parents) }
     ensures called { (t : TowerSeen) → slice_get towers.old file ≡ Some t → CalledAt t.log.shape caller (asking file (sync node keep)) (histories towers.old) (histories towers.new) [] result }
+    ensures closed { OnOk result ((t : TowerSeen) → slice_get towers.new file ≡ Some t → IsClosed caller t) }
+    ensures others { (j : ℕ) → j ≢ file → slice_get towers.new j ≡ slice_get towers.old j }
     ensures same { frames towers.new ≡ frames towers.old }
 {
     towers[file as usize].sync(caller, node, keep)

@@ -1,1 +1,6 @@
 pub mod Sound
+pub mod Found
+pub mod Named
+pub mod Keyed
+pub mod Slots
+pub mod Entries

@@ -1,17 +1,16 @@
 -- Blocks that are sound stay so.
-use Rattle.std.proofs.Common.{◌≡◌, ◌≢◌, ◌<◌, ◌≤◌, ◌+◌, ◌^◌, ◌++◌, ◌∷◌, [], ℕ, zero, suc, List, Bool, true, false, not, length, map, take, drop, replicate, get_or, set, All, nat_lt, ltb, cond, refl, sym, ap, subst, ◌∙◌, ◌||◌, ◌&&◌, inl, inr, arith, rules, length-append, append-nil, add-one, if◌then◌else◌}
-use Rattle.std.proofs.lemmas.Bool.{ltb-true, ltb-false}
+use Rattle.std.proofs.Common.{◌≡◌, ◌<◌, ◌≤◌, ◌+◌, ◌^◌, ◌++◌, ◌∷◌, [], ℕ, zero, suc, List, Bool, true, false, not, length, map, take, drop, replicate, get_or, set, All, nat_lt, cond, refl, sym, ap, ◌∙◌, ◌||◌, ◌&&◌, inl, inr, arith, length-append, append-nil, add-one}
+use Rattle.std.proofs.lemmas.Bool.{ltb-false}
 use Rattle.std.proofs.lemmas.List.{length-set, length-map, length-replicate, get_or-set_same, get_or-set_other, get_or-map, get_or-replicate, take_more, take_more_set, drop-set-lt, take-append-drop, with_items_is}
 use Rattle.std.specs.Vec.{with_items}
 use Rattle.std.specs.Global.{Vec}
 use Rattle.std.proofs.Math.ListN.{drop_of_length-le}
-use Rattle.std.proofs.lemmas.List.Elements.{All-map, All-set, All-replicate, All-nil, All-append, All-push, All-weaker, All-head, All-tail}
+use Rattle.std.proofs.lemmas.List.Elements.{All-map, All-set, All-replicate, All-nil, All-push, All-head, All-tail}
 use Rattle.std.proofs.lemmas.Bool.Decides.{eqb_tells}
 use Rattle.std.proofs.lemmas.List.Folds.{list_any-append}
 use Rattle.std.proofs.lemmas.Bool.{eq-eqb}
 use Rattle.std.proofs.Math.Seq.{map-set_same, drop-cons}
-use Rattle.std.proofs.lemmas.Grind.{common_steps}
-use Rattle.spr_io.specs.Content.{Content, HasShape}
+use Rattle.spr_io.specs.Content.{HasShape}
 use Rattle.spr_io.specs.Blocks.{StoredBlock, kept_block, written_block, zero_block, content_of, is_listed, listed_after, ListsDirty, IsSound}
 
 -- what sound blocks hold has their shape
@@ -73,13 +72,13 @@ passed p q e h = rw e at h
 still_listed : (blocks : List StoredBlock) (at : ℕ) (left : List ℕ) (block : StoredBlock) → at < length blocks → ListsDirty blocks (at ∷ left) → ListsDirty (set blocks at (kept_block block)) left
 still_listed blocks at left block lt lists k d small dirty =
     elim (eqb_tells at k) [
-      inl h ↦ absurd (let e : get_or (set blocks at (kept_block block)) k d ≡ kept_block block = rw (← h.1) (get_or-set_same blocks at (kept_block block) d lt) in let f : false ≡ true = sym (ap (λ (b : StoredBlock). b.dirty) e) ∙ dirty in cc)
-    | inr h ↦
-        let other : k ≡ at → ⊥ = λ (e : k ≡ at). h.1 (sym e) in
-        let e : get_or (set blocks at (kept_block block)) k d ≡ get_or blocks k d = get_or-set_other blocks at k (kept_block block) d other in
-        let was : (get_or blocks k d).dirty ≡ true = sym (ap (λ (b : StoredBlock). b.dirty) e) ∙ dirty in
-        let within : k < length blocks = rw length-set at small in
-        passed _ _ h.0 (lists k d within was)
+      | inl h ↦ absurd (let e : get_or (set blocks at (kept_block block)) k d ≡ kept_block block = rw (← h.1) (get_or-set_same blocks at (kept_block block) d lt) in let f : false ≡ true = sym (ap (λ (b : StoredBlock). b.dirty) e) ∙ dirty in cc)
+      | inr h ↦
+          let other : k ≡ at → ⊥ = λ (e : k ≡ at). h.1 (sym e) in
+          let e : get_or (set blocks at (kept_block block)) k d ≡ get_or blocks k d = get_or-set_other blocks at k (kept_block block) d other in
+          let was : (get_or blocks k d).dirty ≡ true = sym (ap (λ (b : StoredBlock). b.dirty) e) ∙ dirty in
+          let within : k < length blocks = rw length-set at small in
+          passed _ _ h.0 (lists k d within was)
     ]
 
 pub keeping_step : (before blocks : List StoredBlock) (at : ℕ) (left : List ℕ) (block : StoredBlock) → at < length blocks → block ≡ get_or blocks at block → Keeping before blocks (at ∷ left) → Keeping before (set blocks at (kept_block block)) left
@@ -122,13 +121,13 @@ lists_written : (blocks : List StoredBlock) (at : ℕ) (bytes : List ℕ) (block
 lists_written blocks at bytes block listed lt is lists longer short k d small dirty =
     let few : length listed < length blocks = omega arith in
     elim (eqb_tells at k) [
-      inl h ↦ rw (← h.1) (listed_now listed at (length blocks) block.dirty short (λ was _. lists few at block lt (rw (← is) was)))
-    | inr h ↦
-        let other : k ≡ at → ⊥ = λ (e : k ≡ at). h.1 (sym e) in
-        let e : get_or (set blocks at (written_block bytes block)) k d ≡ get_or blocks k d = get_or-set_other blocks at k (written_block bytes block) d other in
-        let was : (get_or blocks k d).dirty ≡ true = sym (ap (λ (b : StoredBlock). b.dirty) e) ∙ dirty in
-        let within : k < length blocks = rw length-set at small in
-        listed_before listed at k (length blocks) block.dirty (lists few k d within was)
+      | inl h ↦ rw (← h.1) (listed_now listed at (length blocks) block.dirty short (λ was _. lists few at block lt (rw (← is) was)))
+      | inr h ↦
+          let other : k ≡ at → ⊥ = λ (e : k ≡ at). h.1 (sym e) in
+          let e : get_or (set blocks at (written_block bytes block)) k d ≡ get_or blocks k d = get_or-set_other blocks at k (written_block bytes block) d other in
+          let was : (get_or blocks k d).dirty ≡ true = sym (ap (λ (b : StoredBlock). b.dirty) e) ∙ dirty in
+          let within : k < length blocks = rw length-set at small in
+          listed_before listed at k (length blocks) block.dirty (lists few k d within was)
     ]
 
 longer : (listed : List ℕ) (block number : ℕ) (was : Bool) → length listed ≤ length (listed_after number was block listed)

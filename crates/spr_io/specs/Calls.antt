@@ -1,5 +1,5 @@
 -- Calls of one kind, some of which are to fail.
-use Rattle.std.specs.Prelude.{ℕ, ◌+◌, ◌-◌, ◌^◌, ◌==◌, ◌&&◌, List, Bool, min, nat_lt}
+use Rattle.std.specs.Prelude.{ℕ, ◌+◌, ◌-◌, ◌^◌, ◌==◌, ◌&&◌, List, Bool, min, nat_lt, if◌then◌else◌}
 use Rattle.std.specs.List.{list_any}
 
 -- the ordinals of the calls that are to fail, counted from 1, and how many calls were made
@@ -26,6 +26,10 @@ no_calls failing = record { failing = failing; made = 0 }
 -- whether the next call of a store fails: one that is to fail does, unless the count of faults stands at its end
 abbrev pub fails : Calls → ℕ → Bool
 fails calls count = is_next_to_fail calls && nat_lt count (2 ^ 64 - 1)
+
+-- a store's count of faults after the next call
+abbrev pub count_after : Calls → ℕ → ℕ
+count_after calls count = if fails calls count then count + 1 else count
 
 -- a count of faults after one more, which stands still at its type's end
 abbrev pub one_fault : ℕ → ℕ

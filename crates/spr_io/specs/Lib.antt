@@ -5,3 +5,6 @@ pub mod Texts
 pub mod Calls
 pub mod Blocks
 pub mod Memory
+pub mod MemoryTexts
+pub mod MemoryBay
+pub mod Host

@@ -1,8 +1,10 @@
 //! A store in memory.
 
-ghost use Rattle.std.specs.Prelude.{◌≡◌, ◌+◌, ◌<◌, ◌^◌, ◌↔◌, IsTrue, IfOk, length, slice_get, Some, true, false};
-ghost use Rattle.spr_io.specs.Calls.{fails, one_more, no_calls};
-ghost use Rattle.spr_io.specs.Content.{zeros};
+ghost use Rattle.std.specs.Prelude.{◌≡◌, ◌<◌, IsTrue, IfOk, OnOk, OnErr, IsErr, is_err, length, slice_get, Some};
+ghost use Rattle.spr_io.specs.Causes.{Counts};
+ghost use Rattle.spr_io.specs.Calls.{fails, one_more, count_after};
+ghost use Rattle.spr_io.specs.Content.{HasShape, KeepsShape};
+ghost use Rattle.spr_io.specs.Memory.{new_store, after_read, after_write, after_flush, fits_shape};
 
 use crate::blocks::Blocks;
 use crate::ordinals::Calls;
@@ -42,7 +44,8 @@ impl MemStore {
         writes: &[u64],
         flushes: &[u64],
     ) -> Result<MemStore, AllocError>
-        ensures { IfOk result (λ store. store ≡ record { size = size; content = zeros size blocks; reads = no_calls reads.now; writes = no_calls writes.now; flushes = no_calls flushes.now; count = 0 }) }
+        ensures new { IfOk result (λ store. store ≡ new_store size blocks reads.now writes.now flushes.now) }
+        ensures shape { IfOk result (λ store. HasShape store.size (length store.content.blocks) store.content) }
     {
         Ok(MemStore {
             held: Blocks::new(alloc, size, blocks)?,
@@ -55,7 +58,8 @@ impl MemStore {
 
     /// Whether it has this size and number of blocks.
     pub fn has_shape(&self, size: u32, blocks: u32) -> bool
-        ensures { IsTrue result ↔ ((self.now.size ≡ size) × (length self.now.content.blocks ≡ blocks)) }
+        ensures answer { result ≡ fits_shape size blocks self.now }
+        ensures shape { HasShape self.now.size (length self.now.content.blocks) self.now.content }
     {
         self.held.size() == size && self.held.number() == blocks
     }
@@ -81,9 +85,8 @@ impl MemStore {
 fn refuses(calls: &mut Calls, count: &mut u64) -> bool
     ensures answer { result ≡ fails calls.old count.old }
     ensures calls { calls.new ≡ one_more calls.old }
-    ensures failed { result ≡ true → count.new ≡ count.old + 1 }
-    ensures passed { result ≡ false → count.new ≡ count.old }
-    ensures fits { count.new < 2 ^ 64 }
+    ensures count { count.new ≡ count_after calls.old count.old }
+    ensures counts { Counts count.old count.new (IsTrue result) }
 {
     let before = *count;
     let fails = calls.next_fails() && before < u64::MAX;
@@ -102,7 +105,16 @@ impl Store for MemStore {
 
     ghost faults = { λ s. s.count };
 
-    fn read(&mut self, block: u32, out: &mut [u8]) -> Result<(), Failed> {
+    fn read(&mut self, block: u32, out: &mut [u8]) -> Result<(), Failed>
+        requires block { block < length self.old.content.blocks }
+        requires size { length out.old ≡ self.old.size }
+        ensures answer { is_err result ≡ fails self.old.reads self.old.count }
+        ensures after { self.new ≡ after_read self.old }
+        ensures bytes { OnOk result (slice_get self.old.content.blocks block ≡ Some out.new) }
+        ensures out { OnErr result (out.new ≡ out.old) }
+        ensures shape { KeepsShape self.old.size (length self.old.content.blocks) self.new.size (length self.new.content.blocks) (Some self.new.content) }
+        ensures cause { Counts self.old.count self.new.count (IsErr result) }
+    {
         if refuses(&mut self.reads, &mut self.count) {
             return Err(Failed);
         }
@@ -110,7 +122,14 @@ impl Store for MemStore {
         Ok(())
     }
 
-    fn write(&mut self, block: u32, bytes: &[u8]) -> Result<(), Failed> {
+    fn write(&mut self, block: u32, bytes: &[u8]) -> Result<(), Failed>
+        requires block { block < length self.old.content.blocks }
+        requires size { length bytes.now ≡ self.old.size }
+        ensures answer { is_err result ≡ fails self.old.writes self.old.count }
+        ensures after { self.new ≡ after_write block bytes.now self.old }
+        ensures shape { KeepsShape self.old.size (length self.old.content.blocks) self.new.size (length self.new.content.blocks) (Some self.new.content) }
+        ensures cause { Counts self.old.count self.new.count (IsErr result) }
+    {
         if refuses(&mut self.writes, &mut self.count) {
             return Err(Failed);
         }
@@ -118,7 +137,12 @@ impl Store for MemStore {
         Ok(())
     }
 
-    fn flush(&mut self) -> Result<(), Failed> {
+    fn flush(&mut self) -> Result<(), Failed>
+        ensures answer { is_err result ≡ fails self.old.flushes self.old.count }
+        ensures after { self.new ≡ after_flush self.old }
+        ensures shape { KeepsShape self.old.size (length self.old.content.blocks) self.new.size (length self.new.content.blocks) (Some self.new.content) }
+        ensures cause { Counts self.old.count self.new.count (IsErr result) }
+    {
         if refuses(&mut self.flushes, &mut self.count) {
             return Err(Failed);
         }

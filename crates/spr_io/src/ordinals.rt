@@ -1,6 +1,7 @@
 //! Calls of one kind, some of which are to fail.
 
-ghost use Rattle.std.specs.Prelude.{◌≡◌, IfOk};
+ghost use Rattle.std.specs.Prelude.{◌≡◌, ◌≤◌, IfOk};
+ghost use Rattle.spr_io.specs.Causes.{Rose};
 ghost use Rattle.spr_io.specs.Calls.{is_next_to_fail, one_more, no_calls, one_fault};
 
 use std::alloc::{AllocError, Global};
@@ -44,7 +45,9 @@ impl Calls {
 
 /// Counts a fault.
 pub fn count_fault(count: &mut u64)
-    ensures { count.new ≡ one_fault count.old }
+    ensures count { count.new ≡ one_fault count.old }
+    ensures later { count.old ≤ count.new }
+    ensures rose { Rose count.old count.new }
 {
     *count = count.saturating_add(1);
 }

@@ -1,8 +1,10 @@
-use Rattle.std.proofs.Common.{◌≡◌, ◌<◌, [], length, ap, sym}
+use Rattle.std.proofs.Common.{◌≡◌, ◌<◌, [], length, get_or, ap, sym}
 use Rattle.run_defs.specs.Plan.{sync}
 use Rattle.plain_tower.specs.Tower.{TowerSeen}
 use Rattle.plain_run.specs.Towers.{frame_of}
 use Rattle.plain_run.proofs.TowerLaws.{called-at, read-tower, frames-set}
+use Rattle.plain_run.proofs.PhaseLaws.{slice_get-set_other}
+use Rattle.plain_run.proofs.ClosingLaws.{closed-result}
 use Rattle.plain_run.proofs.towers.sync_at.Goals as goal
 
 pub sync-requires-clause-caller : goal.sync-requires-clause-caller
@@ -19,3 +21,10 @@ returns-clause-called g c = λ t there.
 
 pub returns-clause-same : goal.returns-clause-same
 returns-clause-same g c = frames-set c.args.towers.now c.args.file c.index-towers-file.result c.sync.new.self (ap frame_of c.sync.ensures.same)
+
+pub returns-clause-closed : goal.returns-clause-closed
+returns-clause-closed g c =
+    closed-result c.args.caller c.args.node c.args.keep (get_or c.args.towers.now c.args.file c.index-towers-file.result) c.sync.new.self c.sync.result c.args.towers.now c.args.file c.sync.ensures.called c.sync.ensures.kept c.requires.file
+
+pub returns-clause-others : goal.returns-clause-others
+returns-clause-others g c = λ j ne. slice_get-set_other c.args.towers.now c.args.file j c.sync.new.self ne

@@ -1,5 +1,4 @@
-use Rattle.std.proofs.Common.{◌≡◌}
-use Rattle.spr_io.proofs.Sound.{KeptSoFar, kept_next, kept_sizes, kept_all}
+use Rattle.spr_io.proofs.Sound.{kept_next, kept_sizes, kept_all}
 use Rattle.spr_io.proofs.blocks.keep_all.Goals as goal
 
 pub keep-requires : goal.keep-requires

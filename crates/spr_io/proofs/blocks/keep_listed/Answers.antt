@@ -1,8 +1,7 @@
-use Rattle.std.proofs.Common.{◌≡◌, ◌+◌, ◌<◌, ◌∷◌, suc, ℕ, List, length, drop, get_or, sym, subst, ◌∙◌, ap, add-one, arith}
+use Rattle.std.proofs.Common.{◌≡◌, ◌+◌, ◌<◌, ◌∷◌, ℕ, List, length, drop, get_or, subst, add-one, arith}
 use Rattle.std.proofs.Math.Seq.{drop-cons}
 use Rattle.std.proofs.Math.ListN.{drop_of_length-le}
 use Rattle.std.proofs.lemmas.List.Elements.{All-get_or}
-use Rattle.spr_io.specs.Blocks.{kept_block}
 use Rattle.spr_io.proofs.Sound.{Keeping, keeping_step, keeping_done}
 use Rattle.spr_io.proofs.blocks.keep_listed.Goals as goal
 

@@ -1,4 +1,4 @@
-use Rattle.std.proofs.Common.{◌≡◌, ◌≤◌, [], List, ℕ, length, map, refl}
+use Rattle.std.proofs.Common.{◌≤◌, [], length, map, refl}
 use Rattle.std.proofs.lemmas.List.{length-map}
 use Rattle.std.specs.Vec.{vec_capacity}
 use Rattle.spr_io.specs.Blocks.{StoredBlock, kept_block, IsSound}

@@ -1,5 +1,5 @@
-use Rattle.std.proofs.Common.{◌≡◌, ◌<◌, ◌^◌, [], List, ℕ, replicate, length, map, ap, refl, arith}
-use Rattle.spr_io.specs.Blocks.{StoredBlock, zero_block, IsSound}
+use Rattle.std.proofs.Common.{◌<◌, ◌^◌, replicate, refl, arith}
+use Rattle.spr_io.specs.Blocks.{StoredBlock, zero_block}
 use Rattle.spr_io.proofs.Sound.{sound_zeros, has_shape, map_zeros}
 use Rattle.spr_io.proofs.blocks.Blocks.new.Goals as goal
 

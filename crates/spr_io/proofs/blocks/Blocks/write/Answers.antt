@@ -1,8 +1,8 @@
-use Rattle.std.proofs.Common.{◌≡◌, ◌<◌, ◌≤◌, [], List, ℕ, Bool, length, map, set, refl, sym, ap, ◌∙◌, arith}
+use Rattle.std.proofs.Common.{◌≡◌, ◌<◌, ◌≤◌, length, refl, sym, ap, ◌∙◌, arith}
 use Rattle.std.proofs.lemmas.List.{length-map, length-set, map-set}
 use Rattle.std.proofs.Math.Seq.{map-set_same}
 use Rattle.std.specs.Vec.{vec_capacity}
-use Rattle.spr_io.specs.Blocks.{Held, StoredBlock, written_block, listed_after, IsSound}
+use Rattle.spr_io.specs.Blocks.{Held, StoredBlock, written_block}
 use Rattle.spr_io.proofs.Sound.{sound_written, has_shape}
 use Rattle.spr_io.proofs.blocks.Blocks.write.Goals as goal
 

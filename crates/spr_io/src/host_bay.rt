@@ -1,0 +1,244 @@
+//! A bay of stores in the host's files.
+
+ghost use Rattle.std.specs.Prelude.{◌≡◌, ◌++◌, ◌∷◌, [], IfOk, OnSome, IfSome, IfNone, position, true, false, Some, None};
+ghost use Rattle.spr_io.specs.Berth.{taken, given, lost, SameBerths, SameElsewhere};
+ghost use Rattle.spr_io.specs.Host.{is_entry, berth_in};
+
+use crate::host::HostStore;
+use crate::ordinals::count_fault;
+use crate::outside::{Bay, BayErr, Failed, Store};
+use std::alloc::{AllocError, Global};
+use std::fs::{OpenFile, OpenOptions};
+use std::io;
+use std::io::ErrorKind;
+use std::marker::Model;
+use std::rt::Files;
+
+/// The name of a store that was taken, whether it is out, and its count of faults.
+#[derive(Debug, Drop)]
+struct Entry {
+    disk: String,
+    file: String,
+    out: bool,
+    /// The count of faults when the store was taken or given back last.
+    count: u64,
+}
+
+impl Model for Entry {
+    ghost use Rattle.std.specs.Prelude.{string_bytes};
+    ghost use Rattle.spr_io.specs.Host as host;
+
+    ghost Value = { host.Entry };
+
+    ghost view = { λ e. record { disk = string_bytes e.disk; file = string_bytes e.file; out = e.out; count = e.count } };
+}
+
+impl Entry {
+    /// The entry of a store that was never taken.
+    fn new(alloc: Global, disk: &str, file: &str) -> Result<Entry, AllocError>
+        ensures { IfOk result (λ entry. entry ≡ record { disk = disk.now; file = file.now; out = false; count = 0 }) }
+    {
+        Ok(Entry {
+            disk: String::from_str(alloc, disk)?,
+            file: String::from_str(alloc, file)?,
+            out: false,
+            count: 0,
+        })
+    }
+
+    fn is_of(&self, disk: &str, file: &str) -> bool
+        ensures { result ≡ is_entry disk.now file.now self.now }
+    {
+        self.disk.as_str() == disk && self.file.as_str() == file
+    }
+
+    /// Opens the store's host file, where the store is not out.
+    fn take<R: Files>(
+        &mut self,
+        rt: &R,
+        path: &str,
+        size: u32,
+        blocks: u32,
+    ) -> Option<HostStore<R::File>>
+        ensures some { IfSome result (λ store. (self.old.out ≡ false) × (store ≡ record { size = size; blocks = blocks; count = self.old.count }) × (self.new ≡ record self.old { out = true })) }
+        ensures none { IfNone result (self.new ≡ self.old) }
+    {
+        if self.out {
+            return None;
+        }
+        match open_image(rt, path, u64::from(size) * u64::from(blocks)) {
+            Ok(file) => {
+                self.out = true;
+                Some(HostStore::new(file, size, blocks, self.count))
+            }
+            Err(_) => None,
+        }
+    }
+
+    /// Notes that the store is back, with its count of faults, where it was out.
+    fn give(&mut self, count: u64) -> bool
+        ensures answer { result ≡ self.old.out }
+        ensures given { self.old.out ≡ true → self.new ≡ record self.old { out = false; count = count } }
+        ensures same { self.old.out ≡ false → self.new ≡ self.old }
+    {
+        if !self.out {
+            return false;
+        }
+        self.out = false;
+        self.count = count;
+        true
+    }
+}
+
+/// Opens a host file of so many bytes; one that is missing or empty is made of zeros.
+fn open_image<R: Files>(rt: &R, path: &str, len: u64) -> io::Result<R::File> {
+    let mut how = OpenOptions::new();
+    how.read(true);
+    how.write(true);
+    how.create(true);
+    let file = how.open(rt, path)?;
+    let found = file.metadata()?.len();
+    if found == 0 {
+        file.set_len(len)?;
+    } else if found != len {
+        return Err(io::Error::from(ErrorKind::InvalidData));
+    }
+    Ok(file)
+}
+
+/// Where the entry of a disk and a file stands.
+fn place_of(entries: &[Entry], disk: &str, file: &str) -> Option<usize>
+    ensures { result ≡ position (is_entry disk.now file.now) entries.now }
+{
+    entries.iter().position(|e| e.is_of(disk, file))
+}
+
+/// Adds an entry of a disk and a file, where there is none.
+fn enter(alloc: Global, entries: &mut Vec<Entry>, disk: &str, file: &str) -> Result<(), AllocError>
+    ensures { SameBerths (berth_in entries.old.items) (berth_in entries.new.items) }
+{
+    if place_of(entries, disk, file).is_none() {
+        entries.push(Entry::new(alloc, disk, file)?)?;
+    }
+    Ok(())
+}
+
+/// Takes the store of an entry, where it is not out and its host file can be opened.
+fn take<R: Files>(
+    rt: &R,
+    entries: &mut [Entry],
+    disk: &str,
+    file: &str,
+    path: &str,
+    size: u32,
+    blocks: u32,
+) -> Option<HostStore<R::File>>
+    ensures store { IfSome result (λ store. store ≡ record { size = size; blocks = blocks; count = (berth_in entries.old disk.now file.now).faults }) }
+    ensures was_in { OnSome result ((berth_in entries.old disk.now file.now).out ≡ false) }
+    ensures taken { OnSome result (berth_in entries.new disk.now file.now ≡ taken (berth_in entries.old disk.now file.now)) }
+    ensures others { OnSome result (SameElsewhere disk.now file.now (berth_in entries.old) (berth_in entries.new)) }
+    ensures none { IfNone result (SameBerths (berth_in entries.old) (berth_in entries.new)) }
+{
+    match place_of(entries, disk, file) {
+        Some(at) => match entries[at].take(rt, path, size, blocks) {
+            Some(store) => Some(store),
+            None => None,
+        },
+        None => None,
+    }
+}
+
+/// Notes that the store of an entry is back, where it was out.
+fn give(entries: &mut [Entry], disk: &str, file: &str, count: u64) -> bool
+    ensures answer { result ≡ (berth_in entries.old disk.now file.now).out }
+    ensures given { result ≡ true → berth_in entries.new disk.now file.now ≡ given None count (berth_in entries.old disk.now file.now) }
+    ensures lost { result ≡ false → berth_in entries.new disk.now file.now ≡ lost count (berth_in entries.old disk.now file.now) }
+    ensures others { SameElsewhere disk.now file.now (berth_in entries.old) (berth_in entries.new) }
+{
+    match place_of(entries, disk, file) {
+        Some(at) => entries[at].give(count),
+        None => false,
+    }
+}
+
+/// Stores in the host's files: disk `d` of file `f` is the file `d.f.img` of the current folder.
+///
+/// A file of another length than its store's is a fault; one that is missing or empty starts as zeros.
+#[derive(Drop)]
+pub struct HostBay<R> {
+    rt: R,
+    alloc: Global,
+    entries: Vec<Entry>,
+    faults: u64,
+}
+
+impl<R> Model for HostBay<R> {
+    ghost use Rattle.spr_io.specs.Host.{HostEntries};
+
+    ghost Value = { HostEntries };
+
+    ghost view = { λ b. record { entries = b.entries.items; faults = b.faults } };
+}
+
+impl<R: Files + Drop> HostBay<R> {
+    /// The files that a runtime reaches; no store of them was taken.
+    pub fn new(rt: R, alloc: Global) -> HostBay<R>
+        ensures { result ≡ record { entries = []; faults = 0 } }
+    {
+        HostBay {
+            rt,
+            alloc,
+            entries: Vec::new(alloc),
+            faults: 0,
+        }
+    }
+}
+
+impl<R: Files + Drop> Bay for HostBay<R>
+where
+    R::File: Send,
+{
+    type Store = HostStore<R::File>;
+
+    ghost berth = { λ b disk file. berth_in b.entries disk file };
+
+    ghost faults = { λ b. b.faults };
+
+    fn take(
+        &mut self,
+        disk: &str,
+        file: &str,
+        size: u32,
+        blocks: u32,
+    ) -> Result<HostStore<R::File>, BayErr> {
+        if enter(self.alloc, &mut self.entries, disk, file).is_err() {
+            return Err(BayErr::Memory);
+        }
+        let Ok(path) = format!(in self.alloc; "{disk}.{file}.img") else {
+            return Err(BayErr::Memory);
+        };
+        match take(
+            &self.rt,
+            &mut self.entries,
+            disk,
+            file,
+            path.as_str(),
+            size,
+            blocks,
+        ) {
+            Some(store) => Ok(store),
+            None => {
+                count_fault(&mut self.faults);
+                Err(BayErr::Failed)
+            }
+        }
+    }
+
+    fn give(&mut self, disk: &str, file: &str, store: HostStore<R::File>) -> Result<(), Failed> {
+        if give(&mut self.entries, disk, file, store.count()) {
+            return Ok(());
+        }
+        count_fault(&mut self.faults);
+        Err(Failed)
+    }
+}
