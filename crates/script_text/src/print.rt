@@ -1,13 +1,15 @@
 //! Writing a script.
 
-ghost use Rattle.std.specs.Prelude.{◌≡◌, ◌++◌, ◌∷◌, [], ◌<◌, ◌≤◌, length, map, codes, IfOk, OnOk, Bool};
+ghost use Rattle.std.specs.Prelude.{◌≡◌, ◌++◌, ◌∷◌, [], map, IfOk, OnOk};
 ghost use Rattle.std.specs.List.{flat_map};
+ghost use Rattle.std.specs.Fmt.{decimal};
 ghost use Rattle.text_words.specs.Lines.{line_of, spaced, text_of};
-ghost use Rattle.script_text.specs.Grammar.{IsScript, spelling, call_words, client_words, client_name, call_line_words, phase_lines, sub_word, mode_word, root_or_path};
+ghost use Rattle.text_words.specs.Words.{path_word};
+ghost use Rattle.script_text.specs.Grammar.{spelling, verb_word, call_words, client_words, client_name, call_line_words, phase_lines, sub_word, mode_word, root_or_path};
 
 use crate::script::{Call, CallLine, ClientLine, Script, Sub};
 use crate::verb::Verb;
-use hist_plain::{Bytes, Items, Path};
+use hist_plain::{Bytes, Items, Path, Text};
 use std::alloc::{AllocError, Global};
 use text_words::{put, put_hex, put_line, put_number, put_path, put_word};
 
@@ -41,60 +43,102 @@ fn put_mode(out: &mut Vec<u8>, write: bool) -> Result<(), AllocError>
     }
 }
 
+fn put_names(out: &mut Vec<u8>, verb: Verb, names: &[&Text]) -> Result<(), AllocError>
+    ensures { OnOk result (out.new.items ≡ out.old.items ++ spaced (verb_word verb ∷ map (λ name. name.now) names.now)) }
+{
+    put_word(out, verb.word())?;
+    for name in names {
+        put_word(out, name.as_str().as_bytes())?;
+    }
+    Ok(())
+}
+
+fn put_numbers(out: &mut Vec<u8>, numbers: &[u32]) -> Result<(), AllocError>
+    ensures { OnOk result (out.new.items ≡ out.old.items ++ spaced (map decimal numbers.now)) }
+{
+    for number in numbers {
+        put_number(out, u64::from(*number))?;
+    }
+    Ok(())
+}
+
+fn put_bind(
+    out: &mut Vec<u8>,
+    path: &Path,
+    sub: Sub,
+    view: &Text,
+    file: &Text,
+) -> Result<(), AllocError>
+    ensures { OnOk result (out.new.items ≡ out.old.items ++ spaced (verb_word Verb.Bind ∷ path_word path.now ∷ sub_word sub ∷ view.now ∷ file.now ∷ [])) }
+{
+    put_word(out, Verb::Bind.word())?;
+    put_path(out, path)?;
+    put_word(out, sub_word(sub))?;
+    put_word(out, view.as_str().as_bytes())?;
+    put_word(out, file.as_str().as_bytes())
+}
+
+fn put_map(
+    out: &mut Vec<u8>,
+    region: &Text,
+    object: &Text,
+    address: u64,
+    pages: u32,
+    write: bool,
+) -> Result<(), AllocError>
+    ensures { OnOk result (out.new.items ≡ out.old.items ++ spaced (verb_word Verb.Map ∷ region.now ∷ object.now ∷ decimal address ∷ decimal pages ∷ mode_word write ∷ [])) }
+{
+    put_names(out, Verb::Map, &[region, object])?;
+    put_number(out, address)?;
+    put_number(out, u64::from(pages))?;
+    put_mode(out, write)
+}
+
+fn put_with_path(out: &mut Vec<u8>, verb: Verb, path: &Path) -> Result<(), AllocError>
+    ensures { OnOk result (out.new.items ≡ out.old.items ++ spaced (verb_word verb ∷ path_word path.now ∷ [])) }
+{
+    put_word(out, verb.word())?;
+    put_path(out, path)
+}
+
+fn put_with_address(out: &mut Vec<u8>, verb: Verb, address: u64) -> Result<(), AllocError>
+    ensures { OnOk result (out.new.items ≡ out.old.items ++ spaced (verb_word verb ∷ decimal address ∷ [])) }
+{
+    put_word(out, verb.word())?;
+    put_number(out, address)
+}
+
 /// Appends the words of a call, each with a space before it.
 fn put_call(alloc: Global, out: &mut Vec<u8>, call: &Call) -> Result<(), AllocError>
     ensures { OnOk result (out.new.items ≡ out.old.items ++ spaced (call_words call.now)) }
 {
     match call {
-        Call::Context { path } => {
-            put_word(out, Verb::Context.word())?;
-            put_path(out, path)
-        }
+        Call::Context { path } => put_with_path(out, Verb::Context, path),
         Call::Bind {
             path,
             sub,
             view,
             file,
-        } => {
-            put_word(out, Verb::Bind.word())?;
-            put_path(out, path)?;
-            put_word(out, sub_word(*sub))?;
-            put_word(out, view.as_str().as_bytes())?;
-            put_word(out, file.as_str().as_bytes())
-        }
-        Call::Unbind { path } => {
-            put_word(out, Verb::Unbind.word())?;
-            put_path(out, path)
-        }
+        } => put_bind(out, path, *sub, view, file),
+        Call::Unbind { path } => put_with_path(out, Verb::Unbind, path),
         Call::List { path } => {
             put_word(out, Verb::List.word())?;
             put_root_or_path(out, path)
         }
         Call::Open { object, path } => {
-            put_word(out, Verb::Open.word())?;
-            put_word(out, object.as_str().as_bytes())?;
+            put_names(out, Verb::Open, &[object])?;
             put_path(out, path)
         }
-        Call::Copy { object, other } => {
-            put_word(out, Verb::Copy.word())?;
-            put_word(out, object.as_str().as_bytes())?;
-            put_word(out, other.as_str().as_bytes())
-        }
-        Call::Drop { object } => {
-            put_word(out, Verb::Drop.word())?;
-            put_word(out, object.as_str().as_bytes())
-        }
+        Call::Copy { object, other } => put_names(out, Verb::Copy, &[object, other]),
+        Call::Drop { object } => put_names(out, Verb::Drop, &[object]),
         Call::Read {
             object,
             page,
             off,
             len,
         } => {
-            put_word(out, Verb::Read.word())?;
-            put_word(out, object.as_str().as_bytes())?;
-            put_number(out, u64::from(*page))?;
-            put_number(out, u64::from(*off))?;
-            put_number(out, u64::from(*len))
+            put_names(out, Verb::Read, &[object])?;
+            put_numbers(out, &[*page, *off, *len])
         }
         Call::Write {
             object,
@@ -102,63 +146,34 @@ fn put_call(alloc: Global, out: &mut Vec<u8>, call: &Call) -> Result<(), AllocEr
             off,
             bytes,
         } => {
-            put_word(out, Verb::Write.word())?;
-            put_word(out, object.as_str().as_bytes())?;
-            put_number(out, u64::from(*page))?;
-            put_number(out, u64::from(*off))?;
+            put_names(out, Verb::Write, &[object])?;
+            put_numbers(out, &[*page, *off])?;
             put_hex(alloc, out, bytes.as_slice())
         }
         Call::Clear { object, page } => {
-            put_word(out, Verb::Clear.word())?;
-            put_word(out, object.as_str().as_bytes())?;
-            put_number(out, u64::from(*page))
+            put_names(out, Verb::Clear, &[object])?;
+            put_numbers(out, &[*page])
         }
-        Call::Sync { object } => {
-            put_word(out, Verb::Sync.word())?;
-            put_word(out, object.as_str().as_bytes())
-        }
-        Call::Clean { object } => {
-            put_word(out, Verb::Clean.word())?;
-            put_word(out, object.as_str().as_bytes())
-        }
+        Call::Sync { object } => put_names(out, Verb::Sync, &[object]),
+        Call::Clean { object } => put_names(out, Verb::Clean, &[object]),
         Call::Map {
             region,
             object,
             address,
             pages,
             write,
-        } => {
-            put_word(out, Verb::Map.word())?;
-            put_word(out, region.as_str().as_bytes())?;
-            put_word(out, object.as_str().as_bytes())?;
-            put_number(out, *address)?;
-            put_number(out, u64::from(*pages))?;
-            put_mode(out, *write)
-        }
-        Call::Unmap { region } => {
-            put_word(out, Verb::Unmap.word())?;
-            put_word(out, region.as_str().as_bytes())
-        }
+        } => { put_map(out, region, object, *address, *pages, *write) }
+        Call::Unmap { region } => put_names(out, Verb::Unmap, &[region]),
         Call::Load { address, len } => {
-            put_word(out, Verb::Load.word())?;
-            put_number(out, *address)?;
-            put_number(out, u64::from(*len))
+            put_with_address(out, Verb::Load, *address)?;
+            put_numbers(out, &[*len])
         }
         Call::Store { address, bytes } => {
-            put_word(out, Verb::Store.word())?;
-            put_number(out, *address)?;
+            put_with_address(out, Verb::Store, *address)?;
             put_hex(alloc, out, bytes.as_slice())
         }
-        Call::Revoke { layer, file } => {
-            put_word(out, Verb::Revoke.word())?;
-            put_word(out, layer.as_str().as_bytes())?;
-            put_word(out, file.as_str().as_bytes())
-        }
-        Call::Release { layer, file } => {
-            put_word(out, Verb::Release.word())?;
-            put_word(out, layer.as_str().as_bytes())?;
-            put_word(out, file.as_str().as_bytes())
-        }
+        Call::Revoke { layer, file } => put_names(out, Verb::Revoke, &[layer, file]),
+        Call::Release { layer, file } => put_names(out, Verb::Release, &[layer, file]),
     }
 }
 
