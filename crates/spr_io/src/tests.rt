@@ -20,7 +20,11 @@ fn store_in_memory(rt: HostRuntime) -> Result<(), Fail> {
     assert_eq!(rt; store.write(0, b"abcd"), Ok(()));
     assert_eq!(rt; store.block(0), b"abcd".as_slice());
     assert_eq!(rt; store.kept(0), NOTHING.as_slice());
-    assert_eq!(rt; store.write(1, b"efgh"), Err(Failed), "the second write is to fail");
+    assert_eq!(rt;
+        store.write(1, b"efgh"),
+        Err(Failed),
+        "the second write is to fail"
+    );
     assert_eq!(rt; store.block(1), NOTHING.as_slice());
     assert_eq!(rt; store.flush(), Err(Failed), "the first flush is to fail");
     assert_eq!(rt; store.kept(0), NOTHING.as_slice());
@@ -28,7 +32,11 @@ fn store_in_memory(rt: HostRuntime) -> Result<(), Fail> {
     assert_eq!(rt; store.kept(0), b"abcd".as_slice());
     assert_eq!(rt; store.read(0, &mut out), Ok(()));
     assert_eq!(rt; out.as_slice(), b"abcd".as_slice());
-    assert_eq!(rt; store.read(0, &mut out), Err(Failed), "the second read is to fail");
+    assert_eq!(rt;
+        store.read(0, &mut out),
+        Err(Failed),
+        "the second read is to fail"
+    );
     assert_eq!(rt; store.count(), 3);
     Ok(())
 }
@@ -61,7 +69,11 @@ fn shelf_in_memory(rt: HostRuntime) -> Result<(), Fail> {
     ];
     let mut out = Vec::new(rt.alloc());
     for (name, limit, want, text) in rows {
-        assert_eq!(rt; shelf.read(name, limit, &mut out), want, "at {name} {limit}");
+        assert_eq!(rt;
+            shelf.read(name, limit, &mut out),
+            want,
+            "at {name} {limit}"
+        );
         assert_eq!(rt; out.as_slice(), text, "at {name} {limit}");
     }
     Ok(())
@@ -89,11 +101,23 @@ fn bay_in_memory(rt: HostRuntime) -> Result<(), Fail> {
     let mut bay = MemBay::new(rt.alloc(), &[4], &[3])?;
     let mut store = bay.take("d", "f", 4, 2)?;
     assert!(rt; bay.look("d", "f").is_none(), "it is out");
-    assert_eq!(rt; bay.take("d", "f", 4, 2).err(), Some(BayErr::Failed), "it is out");
+    assert_eq!(rt;
+        bay.take("d", "f", 4, 2).err(),
+        Some(BayErr::Failed),
+        "it is out"
+    );
     assert_eq!(rt; store.write(1, b"abcd"), Ok(()));
     assert_eq!(rt; bay.give("d", "f", store), Ok(()));
-    assert_eq!(rt; bay.take("d", "f", 4, 3).err(), Some(BayErr::Failed), "it has two blocks");
-    assert_eq!(rt; bay.take("d", "f", 4, 2).err(), Some(BayErr::Failed), "the fourth take is to fail");
+    assert_eq!(rt;
+        bay.take("d", "f", 4, 3).err(),
+        Some(BayErr::Failed),
+        "it has two blocks"
+    );
+    assert_eq!(rt;
+        bay.take("d", "f", 4, 2).err(),
+        Some(BayErr::Failed),
+        "the fourth take is to fail"
+    );
     let Some(seen) = bay.look("d", "f") else {
         return Err(Fail::from("the store is gone"));
     };
@@ -103,7 +127,11 @@ fn bay_in_memory(rt: HostRuntime) -> Result<(), Fail> {
     let other = MemStore::new(rt.alloc(), 4, 2, &[], &[], &[])?;
     assert_eq!(rt; bay.give("e", "f", other), Err(Failed), "it was not taken");
     let store = bay.take("d", "f", 4, 2)?;
-    assert_eq!(rt; bay.give("d", "f", store), Err(Failed), "the third give is to fail");
+    assert_eq!(rt;
+        bay.give("d", "f", store),
+        Err(Failed),
+        "the third give is to fail"
+    );
     assert!(rt; bay.look("d", "f").is_none(), "it is lost");
     let new = MemStore::new(rt.alloc(), 4, 1, &[], &[], &[])?;
     assert!(rt; bay.put(rt.alloc(), "d", "f", new).is_ok());
@@ -123,12 +151,24 @@ fn host_bay(rt: HostRuntime) -> Result<(), Fail> {
     assert_eq!(rt; out.as_slice(), NOTHING.as_slice());
     assert_eq!(rt; store.write(1, b"abcd"), Ok(()));
     assert_eq!(rt; store.flush(), Ok(()));
-    assert_eq!(rt; bay.take("spr_io_bay", "f", 4, 2).err(), Some(BayErr::Failed), "it is out");
+    assert_eq!(rt;
+        bay.take("spr_io_bay", "f", 4, 2).err(),
+        Some(BayErr::Failed),
+        "it is out"
+    );
     assert_eq!(rt; bay.give("spr_io_bay", "f", store), Ok(()));
-    assert_eq!(rt; bay.take("spr_io_bay", "f", 4, 3).err(), Some(BayErr::Failed), "it has two blocks");
+    assert_eq!(rt;
+        bay.take("spr_io_bay", "f", 4, 3).err(),
+        Some(BayErr::Failed),
+        "it has two blocks"
+    );
     assert_eq!(rt; fs::read(&rt, path)?.as_slice(), b"\0\0\0\0abcd".as_slice());
     let store = bay.take("spr_io_bay", "f", 4, 2)?;
-    assert_eq!(rt; bay.give("spr_io_bay", "g", store), Err(Failed), "it was not taken");
+    assert_eq!(rt;
+        bay.give("spr_io_bay", "g", store),
+        Err(Failed),
+        "it was not taken"
+    );
     fs::remove_file(&rt, path)?;
     Ok(())
 }
@@ -140,7 +180,11 @@ fn host_store_at_the_end_of_its_count(rt: HostRuntime) -> Result<(), Fail> {
     for (count, want, after) in [(0u64, Err(Failed), 1u64), (u64::MAX, Ok(()), u64::MAX)] {
         let file = fs::open(&rt, path)?;
         let mut store = HostStore::new(file, 4, 1, count);
-        assert_eq!(rt; store.write(0, b"efgh"), want, "the file is not open for writing");
+        assert_eq!(rt;
+            store.write(0, b"efgh"),
+            want,
+            "the file is not open for writing"
+        );
         assert_eq!(rt; store.count(), after);
     }
     fs::remove_file(&rt, path)?;
@@ -157,7 +201,11 @@ fn host_shelf(rt: HostRuntime) -> Result<(), Fail> {
     assert_eq!(rt; out.as_slice(), b"text".as_slice());
     assert_eq!(rt; shelf.read(path, 3, &mut out), Err(ShelfErr::Failed));
     fs::remove_file(&rt, path)?;
-    assert_eq!(rt; shelf.read(path, 4, &mut out), Err(ShelfErr::Failed), "it is missing");
+    assert_eq!(rt;
+        shelf.read(path, 4, &mut out),
+        Err(ShelfErr::Failed),
+        "it is missing"
+    );
     Ok(())
 }
 
