@@ -5,8 +5,10 @@ mod entries;
 mod line;
 mod mount;
 mod mounted;
+mod report;
 mod rule;
 
 pub use entries::{FileEntry, GroundPlan, Kind, NodeEntry};
 pub use mounted::{Mounted, accept};
+pub use report::put_check;
 pub use rule::{Rule, Unfit};
