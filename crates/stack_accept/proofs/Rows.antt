@@ -3,7 +3,7 @@ use Rattle.std.proofs.Common.{◌≡◌, ℕ, List, [], ◌∷◌, ◌++◌, cod
 use Rattle.stack_text.specs.declared.stack.StackLine.{StackLine}
 use Rattle.stack_text.specs.declared.stack.StackLine.TheVariants.{Page, File, Disk, Mirror, Coherency, Dfs, Vmm}
 use Rattle.stack_accept.specs.Rules.{Breach, first_breach}
-use Rattle.stack_accept.specs.Plan.{OnDisk, OnMirror, OnCoherency}
+use Rattle.stack_accept.specs.Plan.{OnDisk, OnMirror}
 use Rattle.stack_accept.specs.Mount.{mounted}
 use Rattle.std.specs.Fmt.{digits}
 use Rattle.stack_accept.specs.Check.{check_text}

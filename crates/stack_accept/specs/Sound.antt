@@ -5,7 +5,6 @@ use Rattle.hist_plain.specs.Plain.{IsPageSize}
 use Rattle.tower_core.specs.TreeShape.{IsTree}
 use Rattle.stack_accept.specs.declared.entries.Kind.{Kind}
 use Rattle.stack_accept.specs.declared.entries.Kind.TheVariants.{Disk, Mirror, Coherency, Dfs, Vmm}
-use Rattle.stack_accept.specs.declared.entries.FileEntry.{FileEntry}
 use Rattle.stack_accept.specs.declared.entries.NodeEntry.{NodeEntry}
 use Rattle.stack_accept.specs.Mount.{Mount, tree_of}
 

@@ -12,3 +12,6 @@ pub use entries::{FileEntry, GroundPlan, Kind, NodeEntry};
 pub use mounted::{Mounted, accept};
 pub use report::put_check;
 pub use rule::{Rule, Unfit};
+
+#[cfg(test)]
+mod tests;

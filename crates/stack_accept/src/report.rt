@@ -57,7 +57,10 @@ fn put_node(
     put(out, buffer.format(number).as_bytes())?;
     put_word(out, node.name.as_str().as_bytes())?;
     put_word(out, node.kind.word().as_bytes())?;
-    put_word(out, machine_name(mounted.machines(), node.machine).as_bytes())
+    put_word(
+        out,
+        machine_name(mounted.machines(), node.machine).as_bytes(),
+    )
 }
 
 /// Appends a node's line. The ground, which is node 0, has no parent.

@@ -8,8 +8,8 @@ ghost use Rattle.stack_accept.specs.Unfit.{IsUnfit};
 
 use crate::line::{
     is_coherent_storage, is_declared, is_dfs, is_disk, is_file, is_layer_named, is_mirror,
-    is_named, is_page, is_side, is_storage, is_storage_name, is_upper, is_used, is_vmm_name, is_word,
-    machine, name, stands_on,
+    is_named, is_page, is_side, is_storage, is_storage_name, is_upper, is_used, is_vmm_name,
+    is_word, machine, name, stands_on,
 };
 use stack_text::{MAX_LINES, StackLine};
 use std::alloc::AllocError;
@@ -166,9 +166,7 @@ fn is_near(machine_sought: Option<&str>, line: &StackLine) -> bool
 fn reaches(earlier: &[StackLine], machine: Option<&str>, base: &str) -> bool
     ensures { result ≡ reaches earlier.now (option_map (λ n. n.now) machine.entry) base.now }
 {
-    earlier
-        .iter()
-        .any(|line| is_layer_named(base, line) && is_near(machine, line))
+    earlier.iter().any(|line| is_layer_named(base, line) && is_near(machine, line))
 }
 
 /// How many upper layers there are from the layer of the name down to a disk or a mirror.
