@@ -4,4 +4,6 @@ pub mod Kept
 pub mod NodeLaws
 pub mod MountLaws
 pub mod SoundLaws
+pub mod BackLaws
+pub mod DiskLaws
 mod Rows

@@ -19,7 +19,7 @@ pub word_is : (own : Option (List ℕ)) (word : List ℕ) → is_word own word �
 word_is None word e = absurd (false≢true e)
 word_is (Some own) word e = ap (λ (w : List ℕ). Some w) ((bytes_eq-Decides own word).0 e)
 
-new_none : (earlier : List StackLine) (name : Option (List ℕ)) (word : List ℕ) → is_new_name earlier name ≡ true → is_taken earlier word ≡ true → is_word name word ≡ false
+pub new_none : (earlier : List StackLine) (name : Option (List ℕ)) (word : List ℕ) → is_new_name earlier name ≡ true → is_taken earlier word ≡ true → is_word name word ≡ false
 new_none earlier name word new taken =
     false_from_ne_true _ (λ same.
     let is = word_is name word same in

@@ -50,6 +50,11 @@ disks_in (OnDisk disk) = disk ∷ []
 disks_in (OnMirror left right) = disks_in left ++ disks_in right
 disks_in (OnCoherency below) = disks_in below
 
+-- the numbers below n, the greatest first
+abbrev pub numbers_below : ℕ → List ℕ
+numbers_below zero = []
+numbers_below (suc n) = n ∷ numbers_below n
+
 -- the plan of a layer, given the plan of each earlier one and the lines before it
 abbrev pub plan_on : List StackLine → StackLine → (List ℕ → Plan) → Plan
 plan_on earlier (lines.Disk name machine) plan = OnDisk (count_by (λ line. is_disk line) earlier)
