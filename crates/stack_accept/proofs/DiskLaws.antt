@@ -23,24 +23,24 @@ use Rattle.stack_accept.proofs.MountLaws.{kept, first_node, ground_storage}
 use Rattle.stack_accept.proofs.BackLaws.{KeepsBack, keeps_back, any_reverse, tail_back, new_back, declared_back, taken_more, old_storage, storage_more, plan_same, old_plan, bytes_same, bytes_turn, all_reverse}
 
 -- a part of storage: a disk, a mirror, or a coherency layer on one
-abbrev is_part : List StackLine → StackLine → Bool
+abbrev pub is_part : List StackLine → StackLine → Bool
 is_part back line = is_storage line || is_coherent_storage back line
 
-abbrev part_named : List StackLine → List ℕ → Bool
+abbrev pub part_named : List StackLine → List ℕ → Bool
 part_named [] name = false
 part_named (line ∷ back) name = (is_part back line && is_named name line) || part_named back name
 
 -- the line puts the part of the name into its own
-abbrev takes : List StackLine → StackLine → List ℕ → Bool
+abbrev pub takes : List StackLine → StackLine → List ℕ → Bool
 takes back (Mirror own machine left right) name = bytes_eq left name || bytes_eq right name
 takes back (Coherency own machine below) name = is_storage_name back below && bytes_eq below name
 takes back _ name = false
 
-abbrev is_put : List StackLine → List ℕ → Bool
+abbrev pub is_put : List StackLine → List ℕ → Bool
 is_put [] name = false
 is_put (line ∷ back) name = takes back line name || is_put back name
 
-abbrev own_name : StackLine → List ℕ
+abbrev pub own_name : StackLine → List ℕ
 own_name (Page size) = []
 own_name (File name pages) = name
 own_name (Disk name machine) = name
@@ -50,29 +50,29 @@ own_name (Dfs name machine below) = name
 own_name (Vmm name machine below frames) = name
 
 -- the names of the parts that stand in no other
-abbrev left_by : List StackLine → StackLine → List (List ℕ) → List (List ℕ)
+abbrev pub left_by : List StackLine → StackLine → List (List ℕ) → List (List ℕ)
 left_by back line names = filter (λ name. not (takes back line name)) names
 
-abbrev parts : List StackLine → List (List ℕ)
+abbrev pub parts : List StackLine → List (List ℕ)
 parts [] = []
 parts (line ∷ back) = cond (is_part back line) (own_name line ∷ left_by back line (parts back)) (parts back)
 
 -- lists of names
 
-abbrev has : List (List ℕ) → List ℕ → Bool
+abbrev pub has : List (List ℕ) → List ℕ → Bool
 has names name = list_any (λ own. bytes_eq own name) names
 
-abbrev AreDistinct : List (List ℕ) → Type 0
+abbrev pub AreDistinct : List (List ℕ) → Type 0
 AreDistinct [] = Unit {0}
 AreDistinct (name ∷ names) = (has names name ≡ false) × AreDistinct names
 
-distinct_filter : (keep : List ℕ → Bool) (names : List (List ℕ)) → AreDistinct names → AreDistinct (filter keep names)
+pub distinct_filter : (keep : List ℕ → Bool) (names : List (List ℕ)) → AreDistinct names → AreDistinct (filter keep names)
 distinct_filter keep [] h = tt
 distinct_filter keep (name ∷ names) h =
     cond_both (keep name) (name ∷ filter keep names) (filter keep names) AreDistinct
       (λ _. (list_any_filter (λ own. bytes_eq own name) keep names h.0, distinct_filter keep names h.1)) (λ _. distinct_filter keep names h.1)
 
-has_filter : (keep : List ℕ → Bool) (names : List (List ℕ)) (name : List ℕ) → has names name ≡ true → keep name ≡ true → has (filter keep names) name ≡ true
+pub has_filter : (keep : List ℕ → Bool) (names : List (List ℕ)) (name : List ℕ) → has names name ≡ true → keep name ≡ true → has (filter keep names) name ≡ true
 has_filter keep [] name e k = absurd (false≢true e)
 has_filter keep (own ∷ names) name e k =
     elim (or_cases (bytes_eq own name) (has names name) e) [
@@ -84,25 +84,25 @@ has_filter keep (own ∷ names) name e k =
           cond_both (keep own) (own ∷ filter keep names) (filter keep names) (λ ns. has ns name ≡ true) (λ _. or_right (bytes_eq own name) (has (filter keep names) name) rest) (λ _. rest)
     ]
 
-all_filter : (P : List ℕ → Type 0) (keep : List ℕ → Bool) (names : List (List ℕ)) → AllByRecursion P names → AllByRecursion (λ name. P name × (keep name ≡ true)) (filter keep names)
+pub all_filter : (P : List ℕ → Type 0) (keep : List ℕ → Bool) (names : List (List ℕ)) → AllByRecursion P names → AllByRecursion (λ name. P name × (keep name ≡ true)) (filter keep names)
 all_filter P keep [] h = tt
 all_filter P keep (name ∷ names) h =
     let rest = all_filter P keep names h.1 in
     cond_both (keep name) (name ∷ filter keep names) (filter keep names) (AllByRecursion (λ n. P n × (keep n ≡ true))) (λ k. ((h.0, k), rest)) (λ _. rest)
 
-all_weaker : {X : Type 0} (P Q : X → Type 0) → ((x : X) → P x → Q x) → (xs : List X) → AllByRecursion P xs → AllByRecursion Q xs
+pub all_weaker : {X : Type 0} (P Q : X → Type 0) → ((x : X) → P x → Q x) → (xs : List X) → AllByRecursion P xs → AllByRecursion Q xs
 all_weaker P Q f [] h = tt
 all_weaker P Q f (x ∷ xs) h = (f x h.0, all_weaker P Q f xs h.1)
 
-filter_same : (p q : List ℕ → Bool) → ((name : List ℕ) → p name ≡ q name) → (names : List (List ℕ)) → filter p names ≡ filter q names
+pub filter_same : (p q : List ℕ → Bool) → ((name : List ℕ) → p name ≡ q name) → (names : List (List ℕ)) → filter p names ≡ filter q names
 filter_same p q e [] = refl
 filter_same p q e (name ∷ names) = ap (λ t. cond t (name ∷ filter p names) (filter p names)) (e name) ∙ ap (λ ns. cond (q name) (name ∷ ns) ns) (filter_same p q e names)
 
-filter_all : (p : List ℕ → Bool) → ((name : List ℕ) → p name ≡ true) → (names : List (List ℕ)) → filter p names ≡ names
+pub filter_all : (p : List ℕ → Bool) → ((name : List ℕ) → p name ≡ true) → (names : List (List ℕ)) → filter p names ≡ names
 filter_all p e [] = refl
 filter_all p e (name ∷ names) = cond-true (p name) (name ∷ filter p names) (filter p names) (e name) ∙ ap (λ ns. name ∷ ns) (filter_all p e names)
 
-filter_both : (p q : List ℕ → Bool) (names : List (List ℕ)) → filter (λ name. not (p name || q name)) names ≡ filter (λ name. not (p name)) (filter (λ name. not (q name)) names)
+pub filter_both : (p q : List ℕ → Bool) (names : List (List ℕ)) → filter (λ name. not (p name || q name)) names ≡ filter (λ name. not (p name)) (filter (λ name. not (q name)) names)
 filter_both p q [] = refl
 filter_both p q (name ∷ names) = cases (p name) (q name) refl refl (filter_both p q names) where
   cases : (a b : Bool) → p name ≡ a → q name ≡ b → filter (λ n. not (p n || q n)) names ≡ filter (λ n. not (p n)) (filter (λ n. not (q n)) names) → filter (λ n. not (p n || q n)) (name ∷ names) ≡ filter (λ n. not (p n)) (filter (λ n. not (q n)) (name ∷ names))
@@ -128,7 +128,7 @@ swap_front a b c =
     subst (λ xs. IsPermutation xs (b ++ (a ++ c))) (append_assoc a b c)
       (subst (λ ys. IsPermutation ((a ++ b) ++ c) ys) (append_assoc b a c) (IsPermutation-append_left c (a ++ b) (b ++ a) (IsPermutation-append_comm a b)))
 
-abbrev without : List ℕ → List (List ℕ) → List (List ℕ)
+abbrev pub without : List ℕ → List (List ℕ) → List (List ℕ)
 without name names = filter (λ own. not (bytes_eq name own)) names
 
 without_none : (name : List ℕ) (names : List (List ℕ)) → has names name ≡ false → without name names ≡ names
@@ -137,7 +137,7 @@ without_none name (own ∷ names) e =
     let apart = or_parts (bytes_eq own name) (has names name) e in
     cond-true (not (bytes_eq name own)) (own ∷ without name names) (without name names) (not_from_false (bytes_eq name own) (bytes_turn own name apart.0)) ∙ ap (λ ns. own ∷ ns) (without_none name names apart.1)
 
-take_out : (g : List ℕ → List ℕ) (names : List (List ℕ)) (name : List ℕ) → AreDistinct names → has names name ≡ true → IsPermutation (flat_map g names) (g name ++ flat_map g (without name names))
+pub take_out : (g : List ℕ → List ℕ) (names : List (List ℕ)) (name : List ℕ) → AreDistinct names → has names name ≡ true → IsPermutation (flat_map g names) (g name ++ flat_map g (without name names))
 take_out g [] name d e = absurd (false≢true e)
 take_out g (own ∷ names) name d e =
     elim (cases_Bool (bytes_eq own name)) [
@@ -160,7 +160,7 @@ take_out g (own ∷ names) name d e =
 
 -- what a line takes is declared behind it, and used
 
-takes_declared : (back : List StackLine) (line : StackLine) (name : List ℕ) → keeps EarlierLayer (reverse back) line ≡ true → takes back line name ≡ true → is_taken back name ≡ true
+pub takes_declared : (back : List StackLine) (line : StackLine) (name : List ℕ) → keeps EarlierLayer (reverse back) line ≡ true → takes back line name ≡ true → is_taken back name ≡ true
 takes_declared back (Page size) name e t = absurd (false≢true t)
 takes_declared back (File own pages) name e t = absurd (false≢true t)
 takes_declared back (Disk own machine) name e t = absurd (false≢true t)
@@ -175,7 +175,7 @@ takes_declared back (Coherency own machine below) name e t =
 takes_declared back (Dfs own machine below) name e t = absurd (false≢true t)
 takes_declared back (Vmm own machine below frames) name e t = absurd (false≢true t)
 
-put_declared : (back : List StackLine) (name : List ℕ) → KeepsBack back → is_put back name ≡ true → is_taken back name ≡ true
+pub put_declared : (back : List StackLine) (name : List ℕ) → KeepsBack back → is_put back name ≡ true → is_taken back name ≡ true
 put_declared [] name keeps e = absurd (false≢true e)
 put_declared (line ∷ back) name keeps e =
     elim (or_cases (takes back line name) (is_put back name) e) [
@@ -183,7 +183,7 @@ put_declared (line ∷ back) name keeps e =
       | inr later ↦ or_right (is_named name line) (is_taken back name) (put_declared back name keeps.1 later)
     ]
 
-takes_used : (back : List StackLine) (line : StackLine) (name : List ℕ) → takes back line name ≡ true → stands_on name line ≡ true
+pub takes_used : (back : List StackLine) (line : StackLine) (name : List ℕ) → takes back line name ≡ true → stands_on name line ≡ true
 takes_used back (Page size) name t = absurd (false≢true t)
 takes_used back (File own pages) name t = absurd (false≢true t)
 takes_used back (Disk own machine) name t = absurd (false≢true t)
@@ -192,7 +192,7 @@ takes_used back (Coherency own machine below) name t = (and_parts (is_storage_na
 takes_used back (Dfs own machine below) name t = absurd (false≢true t)
 takes_used back (Vmm own machine below frames) name t = absurd (false≢true t)
 
-put_used : (back : List StackLine) (name : List ℕ) → is_put back name ≡ true → is_used back name ≡ true
+pub put_used : (back : List StackLine) (name : List ℕ) → is_put back name ≡ true → is_used back name ≡ true
 put_used [] name e = absurd (false≢true e)
 put_used (line ∷ back) name e =
     elim (or_cases (takes back line name) (is_put back name) e) [
@@ -200,12 +200,12 @@ put_used (line ∷ back) name e =
       | inr later ↦ or_right (stands_on name line) (is_used back name) (put_used back name later)
     ]
 
-unused_unput : (back : List StackLine) (name : List ℕ) → is_used (reverse back) name ≡ false → is_put back name ≡ false
+pub unused_unput : (back : List StackLine) (name : List ℕ) → is_used (reverse back) name ≡ false → is_put back name ≡ false
 unused_unput back name e = false_from_ne_true (is_put back name) (λ put. both_ways (is_used back name) (sym (any_reverse (λ line. stands_on name line) back) ∙ e) (put_used back name put))
 
 -- a storage of the name is a part of it; so is what may be a mirror's side
 
-storage_part : (back : List StackLine) (name : List ℕ) → is_storage_name back name ≡ true → part_named back name ≡ true
+pub storage_part : (back : List StackLine) (name : List ℕ) → is_storage_name back name ≡ true → part_named back name ≡ true
 storage_part [] name e = e
 storage_part (line ∷ back) name e =
     elim (or_cases (is_storage line && is_named name line) (is_storage_name back name) e) [
@@ -229,7 +229,7 @@ coherent_older newer back (Coherency name machine below) keeps e =
 coherent_older newer back (Dfs name machine below) keeps e = e
 coherent_older newer back (Vmm name machine below frames) keeps e = e
 
-side_part : (newer back : List StackLine) (name : List ℕ) → KeepsBack (newer ++ back) → list_any (λ line. (is_storage line || is_coherent_storage (newer ++ back) line) && is_named name line) back ≡ true → part_named back name ≡ true
+pub side_part : (newer back : List StackLine) (name : List ℕ) → KeepsBack (newer ++ back) → list_any (λ line. (is_storage line || is_coherent_storage (newer ++ back) line) && is_named name line) back ≡ true → part_named back name ≡ true
 side_part newer [] name keeps e = e
 side_part newer (line ∷ back) name keeps e =
     let regrouped : newer ++ line ∷ back ≡ (newer ++ line ∷ []) ++ back = sym (append_assoc newer (line ∷ []) back) in

@@ -6,4 +6,5 @@ pub mod MountLaws
 pub mod SoundLaws
 pub mod BackLaws
 pub mod DiskLaws
+pub mod GroundLaws
 mod Rows

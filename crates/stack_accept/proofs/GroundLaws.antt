@@ -1,0 +1,303 @@
+-- The parts that are left have each disk so far once, and at the end the first node is the only one left.
+use Rattle.std.proofs.Common.{◌≡◌, ℕ, zero, suc, ◌+◌, ◌<◌, ◌≤◌, List, [], ◌∷◌, ◌++◌, length, reverse, count_by, Bool, true, false, not, ◌&&◌, ◌||◌, cond, eqb, Option, Some, None, refl, sym, ap, subst, ◌∙◌, inl, inr, arith, append_assoc}
+use Rattle.std.specs.List.{list_any, list_all, filter, flat_map, find, AllByRecursion}
+use Rattle.std.specs.List.Sorted.{IsPermutation}
+use Rattle.std.specs.Str.{bytes_eq}
+use Rattle.std.proofs.lemmas.Slice.Eq.{bytes_eq-Decides}
+use Rattle.std.proofs.lemmas.Bool.{cases_Bool, or_cases, or_parts, or_from, or_left, or_right, and_parts, and_from, and_left, and_right, both_ways, false≢true, true≢false, not-true, not-false, not_from_true, not_from_false, false_from_ne_true, cond-false, cond-true, cond_both, eqb-true}
+use Rattle.std.proofs.lemmas.List.{append-nil, reverse-append}
+use Rattle.std.proofs.lemmas.List.Sorted.{IsPermutation-refl, IsPermutation-sym, IsPermutation-cons, IsPermutation-trans, IsPermutation-append_left, IsPermutation-append_right, IsPermutation-append_comm}
+use Rattle.stack_text.specs.declared.stack.StackLine.{StackLine}
+use Rattle.stack_text.specs.declared.stack.StackLine.TheVariants.{Page, File, Disk, Mirror, Coherency, Dfs, Vmm}
+use Rattle.stack_accept.specs.declared.rule.Rule.{Rule}
+use Rattle.stack_accept.specs.declared.rule.Rule.TheVariants.{NewName, EarlierLayer, MirrorSides, OneUser, OneGround, CoherentFirst}
+use Rattle.stack_accept.specs.Lines.{is_disk, is_mirror, is_storage, is_layer, name_of, is_word, is_named, is_layer_named, stands_on, is_declared, is_storage_name, is_used, is_side, is_coherent_storage}
+use Rattle.stack_accept.specs.Rules.{keeps, is_taken, may_be_side, may_use, is_unused, is_shared_layer, is_both_sides, has_user, is_node, is_first_node, IsAccepted, KeepsRules}
+use Rattle.stack_accept.specs.Plan.{Plan, OnDisk, OnMirror, OnCoherency, disks_in, plan_back, plan_on, numbers_below}
+use Rattle.stack_accept.specs.Mount.{base_of, ground_name}
+use Rattle.stack_accept.proofs.Lists.{count_by_cons, count_by_none, count_by_reverse, list_any_filter, list_any_weaker}
+use Rattle.stack_accept.proofs.Kept.{kept_at_end}
+use Rattle.stack_accept.proofs.NodeLaws.{word_is, new_none}
+use Rattle.stack_accept.proofs.MountLaws.{kept, first_node, ground_storage}
+use Rattle.stack_accept.proofs.BackLaws.{KeepsBack, keeps_back, any_reverse, tail_back, new_back, declared_back, taken_more, old_storage, storage_more, plan_same, old_plan, bytes_same, bytes_turn, all_reverse}
+use Rattle.stack_accept.proofs.DiskLaws.{is_part, part_named, takes, is_put, own_name, left_by, parts, has, AreDistinct, without, distinct_filter, has_filter, all_filter, all_weaker, filter_same, filter_all, filter_both, take_out, takes_declared, put_declared, unused_unput, storage_part, side_part}
+
+-- the disks of the layer of a name
+abbrev pub disks_named : List StackLine → List ℕ → List ℕ
+disks_named back name = disks_in (plan_back back name)
+
+abbrev IsOpen : List StackLine → List ℕ → Type 0
+IsOpen back name = (part_named back name ≡ true) × (is_put back name ≡ false)
+
+pub record AreOpen (back : List StackLine) : Type 0 where
+  pub distinct : AreDistinct (parts back)
+  pub open_each : AllByRecursion (λ name. (part_named back name ≡ true) × (is_put back name ≡ false)) (parts back)
+  pub members : (name : List ℕ) → part_named back name ≡ true → is_put back name ≡ false → has (parts back) name ≡ true
+  pub disks : IsPermutation (flat_map (λ name. disks_named back name) (parts back)) (numbers_below (count_by (λ line. is_disk line) back))
+
+part_taken : (back : List StackLine) (name : List ℕ) → part_named back name ≡ true → is_taken back name ≡ true
+part_taken [] name e = e
+part_taken (line ∷ back) name e =
+    elim (or_cases (is_part back line && is_named name line) (part_named back name) e) [
+      | inl here ↦ or_left (is_named name line) (is_taken back name) (and_parts (is_part back line) (is_named name line) here).1
+      | inr later ↦ or_right (is_named name line) (is_taken back name) (part_taken back name later)
+    ]
+
+-- a part declares its own name
+part_name : (back : List StackLine) (line : StackLine) → is_part back line ≡ true → name_of line ≡ Some (own_name line)
+part_name back (Page size) e = absurd (false≢true e)
+part_name back (File name pages) e = absurd (false≢true e)
+part_name back (Disk name machine) e = refl
+part_name back (Mirror name machine left right) e = refl
+part_name back (Coherency name machine below) e = refl
+part_name back (Dfs name machine below) e = absurd (false≢true e)
+part_name back (Vmm name machine below frames) e = absurd (false≢true e)
+
+no_take : (back : List StackLine) (line : StackLine) (name : List ℕ) → is_part back line ≡ false → takes back line name ≡ false
+no_take back (Page size) name e = refl
+no_take back (File own pages) name e = refl
+no_take back (Disk own machine) name e = refl
+no_take back (Mirror own machine left right) name e = absurd (true≢false e)
+no_take back (Coherency own machine below) name e = and_left (is_storage_name back below) (bytes_eq below name) e
+no_take back (Dfs own machine below) name e = refl
+no_take back (Vmm own machine below frames) name e = refl
+
+no_disk : (back : List StackLine) (line : StackLine) → is_part back line ≡ false → is_disk line ≡ false
+no_disk back (Page size) e = refl
+no_disk back (File own pages) e = refl
+no_disk back (Disk own machine) e = absurd (true≢false e)
+no_disk back (Mirror own machine left right) e = refl
+no_disk back (Coherency own machine below) e = refl
+no_disk back (Dfs own machine below) e = refl
+no_disk back (Vmm own machine below frames) e = refl
+
+-- what is left behind keeps its plan
+same_disks : (line : StackLine) (back : List StackLine) (names : List (List ℕ)) → keeps NewName (reverse back) line ≡ true → AllByRecursion (λ name. is_taken back name ≡ true) names
+    → flat_map (λ name. disks_named (line ∷ back) name) names ≡ flat_map (λ name. disks_named back name) names
+same_disks line back [] new h = refl
+same_disks line back (name ∷ names) new h =
+    ap (λ ds. ds ++ flat_map (λ n. disks_named (line ∷ back) n) names) (ap disks_in (plan_same line back name (new_back line back name new h.0)))
+    ∙ ap (λ ds. disks_named back name ++ ds) (same_disks line back names new h.1)
+
+each_taken : (back : List StackLine) (names : List (List ℕ)) → AllByRecursion (IsOpen back) names → AllByRecursion (λ name. is_taken back name ≡ true) names
+each_taken back names h = all_weaker (IsOpen back) (λ name. is_taken back name ≡ true) (λ name open_name. part_taken back name open_name.0) names h
+
+-- a new name is not among those behind
+not_behind : (back : List StackLine) (own : List ℕ) (names : List (List ℕ)) → is_taken back own ≡ false → AllByRecursion (λ name. is_taken back name ≡ true) names → has names own ≡ false
+not_behind back own [] free h = refl
+not_behind back own (name ∷ names) free h =
+    or_from (bytes_eq name own) (has names own)
+      (false_from_ne_true (bytes_eq name own) (λ same. both_ways (is_taken back own) free (ap (λ n. is_taken back n) (sym ((bytes_eq-Decides name own).0 same)) ∙ h.0)))
+      (not_behind back own names free h.1)
+
+own_free : (back : List StackLine) (line : StackLine) → keeps NewName (reverse back) line ≡ true → is_part back line ≡ true → is_taken back (own_name line) ≡ false
+own_free back line new part =
+    false_from_ne_true (is_taken back (own_name line)) (λ taken.
+      let other = new_back line back (own_name line) new taken in
+      both_ways (is_named (own_name line) line) other (ap (λ o. is_word o (own_name line)) (part_name back line part) ∙ bytes_same (own_name line)))
+
+-- what a mirror's side or a coherency layer takes is a part that is left
+
+taken_open : (back : List StackLine) (name : List ℕ) → AreOpen back → part_named back name ≡ true → is_used (reverse back) name ≡ false → has (parts back) name ≡ true
+taken_open back name open_parts part unused = open_parts.members name part (unused_unput back name unused)
+
+mirror_unused : (back : List StackLine) (own machine left right base : List ℕ) → may_use (reverse back) (Mirror own machine left right) base ≡ true → (is_used (reverse back) base ≡ false) × (is_both_sides base (Mirror own machine left right) ≡ false)
+mirror_unused back own machine left right base e =
+    elim (or_cases (is_unused (reverse back) (Mirror own machine left right) base) (is_shared_layer (reverse back) (Mirror own machine left right) base) e) [
+      | inl unused ↦
+          let both = and_parts (not (is_used (reverse back) base)) (not (is_both_sides base (Mirror own machine left right))) unused in
+          (not-true (is_used (reverse back) base) both.0, not-true (is_both_sides base (Mirror own machine left right)) both.1)
+      | inr shared ↦ absurd (false≢true shared)
+    ]
+
+storage_unused : (back : List StackLine) (own machine below : List ℕ) → is_storage_name back below ≡ true → may_use (reverse back) (Coherency own machine below) below ≡ true → is_used (reverse back) below ≡ false
+storage_unused back own machine below storage e =
+    elim (or_cases (is_unused (reverse back) (Coherency own machine below) below) (is_shared_layer (reverse back) (Coherency own machine below) below) e) [
+      | inl unused ↦ not-true (is_used (reverse back) below) (and_parts (not (is_used (reverse back) below)) (not (is_both_sides below (Coherency own machine below))) unused).0
+      | inr shared ↦
+          let not_side = and_parts (not (is_mirror (Coherency own machine below)) && not (is_storage_name (reverse back) below)) (not (is_side (reverse back) below)) shared in
+          let none = not-true (is_storage_name (reverse back) below) (and_parts (not (is_mirror (Coherency own machine below))) (not (is_storage_name (reverse back) below)) not_side.0).1 in
+          absurd (both_ways (is_storage_name back below) (sym (any_reverse (λ line. is_storage line && is_named below line) back) ∙ none) storage)
+    ]
+
+fit_side : (back : List StackLine) (name : List ℕ) → KeepsBack back → may_be_side (reverse back) name ≡ true → part_named back name ≡ true
+fit_side back name keeps e =
+    side_part [] back name keeps
+      (list_any_weaker (λ line. (is_storage line || is_coherent_storage (reverse back) line) && is_named name line) (λ line. (is_storage line || is_coherent_storage back line) && is_named name line)
+        (λ line is.
+          let both = and_parts (is_storage line || is_coherent_storage (reverse back) line) (is_named name line) is in
+          and_from _ _ (elim (or_cases (is_storage line) (is_coherent_storage (reverse back) line) both.0) [
+            | inl s ↦ or_left (is_storage line) (is_coherent_storage back line) s
+            | inr c ↦ or_right (is_storage line) (is_coherent_storage back line) (turned line c)
+          ]) both.1)
+        back (sym (any_reverse (λ line. (is_storage line || is_coherent_storage (reverse back) line) && is_named name line) back) ∙ e)) where
+  turned : (line : StackLine) → is_coherent_storage (reverse back) line ≡ true → is_coherent_storage back line ≡ true
+  turned (Page size) c = c
+  turned (File own pages) c = c
+  turned (Disk own machine) c = c
+  turned (Mirror own machine left right) c = c
+  turned (Coherency own machine below) c = sym (any_reverse (λ line. is_storage line && is_named below line) back) ∙ c
+  turned (Dfs own machine below) c = c
+  turned (Vmm own machine below frames) c = c
+
+-- the disks after a part is added
+
+abbrev disks_left : List StackLine → StackLine → List ℕ
+disks_left back line = flat_map (λ name. disks_named back name) (left_by back line (parts back))
+
+-- the part's own disks, and those of what is left, are each disk so far once
+DisksStay : List StackLine → StackLine → Type 0
+DisksStay back line = IsPermutation (disks_in (plan_on back line (λ base. plan_back back base)) ++ disks_left back line) (numbers_below (count_by (λ l. is_disk l) (line ∷ back)))
+
+count_same : (back : List StackLine) (line : StackLine) → is_disk line ≡ false → count_by (λ l. is_disk l) (line ∷ back) ≡ count_by (λ l. is_disk l) back
+count_same back line e =
+    let counted = count_by_cons (λ l. is_disk l) line back in
+    let none = cond-false {A = ℕ} (is_disk line) 1 0 e in
+    omega (arith, counted, none)
+
+disk_stays : (back : List StackLine) (name machine : List ℕ) → AreOpen back → DisksStay back (Disk name machine)
+unfolding DisksStay
+disk_stays back name machine open_parts =
+    let line = Disk name machine in
+    let count = count_by (λ l. is_disk l) back in
+    let counted : count_by (λ l. is_disk l) (line ∷ back) ≡ suc count = count_by_cons (λ l. is_disk l) line back ∙ omega arith in
+    let all : left_by back line (parts back) ≡ parts back = filter_all (λ n. not (takes back line n)) (λ n. refl) (parts back) in
+    subst (λ n. IsPermutation (count ∷ disks_left back line) (numbers_below n)) (sym counted)
+      (subst (λ ns. IsPermutation (count ∷ flat_map (λ n. disks_named back n) ns) (count ∷ numbers_below count)) (sym all)
+        (IsPermutation-cons count (flat_map (λ n. disks_named back n) (parts back)) (numbers_below count) open_parts.disks))
+
+mirror_stays : (back : List StackLine) (own machine left right : List ℕ) → AreOpen back → has (parts back) left ≡ true → has (parts back) right ≡ true → bytes_eq right left ≡ false → DisksStay back (Mirror own machine left right)
+unfolding DisksStay
+mirror_stays back own machine left right open_parts has_left has_right apart =
+    let line = Mirror own machine left right in
+    let g : List ℕ → List ℕ = λ n. disks_named back n in
+    let rest = without right (parts back) in
+    let both : left_by back line (parts back) ≡ without left rest = filter_both (λ n. bytes_eq left n) (λ n. bytes_eq right n) (parts back) in
+    let still : has rest left ≡ true = has_filter (λ n. not (bytes_eq right n)) (parts back) left has_left (not_from_false (bytes_eq right left) apart) in
+    let first = take_out g (parts back) right open_parts.distinct has_right in
+    let second = take_out g rest left (distinct_filter (λ n. not (bytes_eq right n)) (parts back) open_parts.distinct) still in
+    let front : IsPermutation (flat_map g (parts back)) (g right ++ (g left ++ flat_map g (without left rest))) =
+      IsPermutation-trans (flat_map g (parts back)) (g right ++ flat_map g rest) (g right ++ (g left ++ flat_map g (without left rest))) first
+        (IsPermutation-append_right (g right) (flat_map g rest) (g left ++ flat_map g (without left rest)) second) in
+    let grouped : IsPermutation (flat_map g (parts back)) ((g right ++ g left) ++ flat_map g (without left rest)) =
+      subst (λ ds. IsPermutation (flat_map g (parts back)) ds) (sym (append_assoc (g right) (g left) (flat_map g (without left rest)))) front in
+    let turned : IsPermutation (flat_map g (parts back)) ((g left ++ g right) ++ flat_map g (without left rest)) =
+      IsPermutation-trans (flat_map g (parts back)) ((g right ++ g left) ++ flat_map g (without left rest)) ((g left ++ g right) ++ flat_map g (without left rest)) grouped
+        (IsPermutation-append_left (flat_map g (without left rest)) (g right ++ g left) (g left ++ g right) (IsPermutation-append_comm (g right) (g left))) in
+    let named : IsPermutation (flat_map g (parts back)) ((g left ++ g right) ++ flat_map g (left_by back line (parts back))) =
+      subst (λ ns. IsPermutation (flat_map g (parts back)) ((g left ++ g right) ++ flat_map g ns)) (sym both) turned in
+    subst (λ n. IsPermutation ((g left ++ g right) ++ flat_map g (left_by back line (parts back))) (numbers_below n)) (sym (count_same back line refl))
+      (IsPermutation-trans ((g left ++ g right) ++ flat_map g (left_by back line (parts back))) (flat_map g (parts back)) (numbers_below (count_by (λ l. is_disk l) back))
+        (IsPermutation-sym (flat_map g (parts back)) ((g left ++ g right) ++ flat_map g (left_by back line (parts back))) named) open_parts.disks)
+
+coherency_stays : (back : List StackLine) (own machine below : List ℕ) → AreOpen back → is_storage_name back below ≡ true → has (parts back) below ≡ true → DisksStay back (Coherency own machine below)
+unfolding DisksStay
+coherency_stays back own machine below open_parts storage has_below =
+    let line = Coherency own machine below in
+    let g : List ℕ → List ℕ = λ n. disks_named back n in
+    let same : left_by back line (parts back) ≡ without below (parts back) =
+      filter_same (λ n. not (takes back line n)) (λ n. not (bytes_eq below n)) (λ n. ap (λ t. not (t && bytes_eq below n)) storage) (parts back) in
+    let out : IsPermutation (flat_map g (parts back)) (g below ++ flat_map g (left_by back line (parts back))) =
+      subst (λ ns. IsPermutation (flat_map g (parts back)) (g below ++ flat_map g ns)) (sym same) (take_out g (parts back) below open_parts.distinct has_below) in
+    subst (λ n. IsPermutation (g below ++ flat_map g (left_by back line (parts back))) (numbers_below n)) (sym (count_same back line refl))
+      (IsPermutation-trans (g below ++ flat_map g (left_by back line (parts back))) (flat_map g (parts back)) (numbers_below (count_by (λ l. is_disk l) back))
+        (IsPermutation-sym (flat_map g (parts back)) (g below ++ flat_map g (left_by back line (parts back))) out) open_parts.disks)
+
+part_stays : (back : List StackLine) (line : StackLine) → KeepsBack (line ∷ back) → AreOpen back → is_part back line ≡ true → DisksStay back line
+part_stays back (Page size) keeps open_parts part = absurd (false≢true part)
+part_stays back (File name pages) keeps open_parts part = absurd (false≢true part)
+part_stays back (Disk name machine) keeps open_parts part = disk_stays back name machine open_parts
+part_stays back (Mirror own machine left right) keeps open_parts part =
+    let line = Mirror own machine left right in
+    let users = and_parts (may_use (reverse back) line left) (may_use (reverse back) line right) (keeps.0 OneUser) in
+    let fit = and_parts (may_be_side (reverse back) left) (may_be_side (reverse back) right) (keeps.0 MirrorSides) in
+    let free_left = mirror_unused back own machine left right left users.0 in
+    let free_right = mirror_unused back own machine left right right users.1 in
+    let apart : bytes_eq right left ≡ false = false_from_ne_true (bytes_eq right left) (λ same. both_ways (bytes_eq left left && bytes_eq right left) free_left.1 (and_from (bytes_eq left left) (bytes_eq right left) (bytes_same left) same)) in
+    mirror_stays back own machine left right open_parts
+      (taken_open back left open_parts (fit_side back left keeps.1 fit.0) free_left.0) (taken_open back right open_parts (fit_side back right keeps.1 fit.1) free_right.0) apart
+part_stays back (Coherency own machine below) keeps open_parts part =
+    coherency_stays back own machine below open_parts part
+      (taken_open back below open_parts (storage_part back below part) (storage_unused back own machine below part (keeps.0 OneUser)))
+part_stays back (Dfs own machine below) keeps open_parts part = absurd (false≢true part)
+part_stays back (Vmm own machine below frames) keeps open_parts part = absurd (false≢true part)
+
+-- one line more
+
+plan_of_own : (back : List StackLine) (line : StackLine) → is_part back line ≡ true → plan_back (line ∷ back) (own_name line) ≡ plan_on back line (λ base. plan_back back base)
+plan_of_own back (Page size) e = absurd (false≢true e)
+plan_of_own back (File name pages) e = absurd (false≢true e)
+plan_of_own back (Disk name machine) e = cond-true (bytes_eq name name) (plan_on back (Disk name machine) (λ base. plan_back back base)) (plan_back back name) (bytes_same name)
+plan_of_own back (Mirror name machine left right) e = cond-true (bytes_eq name name) (plan_on back (Mirror name machine left right) (λ base. plan_back back base)) (plan_back back name) (bytes_same name)
+plan_of_own back (Coherency name machine below) e = cond-true (bytes_eq name name) (plan_on back (Coherency name machine below) (λ base. plan_back back base)) (plan_back back name) (bytes_same name)
+plan_of_own back (Dfs name machine below) e = absurd (false≢true e)
+plan_of_own back (Vmm name machine below frames) e = absurd (false≢true e)
+
+open_part : (back : List StackLine) (line : StackLine) → KeepsBack (line ∷ back) → AreOpen back → is_part back line ≡ true → AreOpen (line ∷ back)
+unfolding DisksStay
+open_part back line keeps open_parts part =
+    let own = own_name line in
+    let left = left_by back line (parts back) in
+    let all : parts (line ∷ back) ≡ own ∷ left = cond-true (is_part back line) (own ∷ left) (parts back) part in
+    let free = own_free back line (keeps.0 NewName) part in
+    let taken = each_taken back (parts back) open_parts.open_each in
+    let named : is_named own line ≡ true = ap (λ o. is_word o own) (part_name back line part) ∙ bytes_same own in
+    let not_own : takes back line own ≡ false = false_from_ne_true (takes back line own) (λ t. both_ways (is_taken back own) free (takes_declared back line own (keeps.0 EarlierLayer) t)) in
+    let not_put : is_put back own ≡ false = false_from_ne_true (is_put back own) (λ t. both_ways (is_taken back own) free (put_declared back own keeps.1 t)) in
+    let mine : IsOpen (line ∷ back) own = (or_left (is_part back line && is_named own line) (part_named back own) (and_from _ _ part named), or_from (takes back line own) (is_put back own) not_own not_put) in
+    let others : AllByRecursion (IsOpen (line ∷ back)) left =
+      all_weaker (λ name. IsOpen back name × (not (takes back line name) ≡ true)) (IsOpen (line ∷ back))
+        (λ name h. (or_right (is_part back line && is_named name line) (part_named back name) h.0.0, or_from (takes back line name) (is_put back name) (not-true (takes back line name) h.1) h.0.1))
+        left (all_filter (IsOpen back) (λ name. not (takes back line name)) (parts back) open_parts.open_each) in
+    let left_taken : AllByRecursion (λ name. is_taken back name ≡ true) left =
+      all_weaker (λ name. (is_taken back name ≡ true) × (not (takes back line name) ≡ true)) (λ name. is_taken back name ≡ true) (λ name h. h.0)
+        left (all_filter (λ name. is_taken back name ≡ true) (λ name. not (takes back line name)) (parts back) taken) in
+    let member : (name : List ℕ) → part_named (line ∷ back) name ≡ true → is_put (line ∷ back) name ≡ false → has (own ∷ left) name ≡ true =
+      λ name is unput.
+        let apart = or_parts (takes back line name) (is_put back name) unput in
+        elim (or_cases (is_part back line && is_named name line) (part_named back name) is) [
+          | inl here ↦
+              let same = word_is (name_of line) name (and_parts (is_part back line) (is_named name line) here).1 in
+              or_left (bytes_eq own name) (has left name) (own_is line name (sym (part_name back line part) ∙ same))
+          | inr later ↦ or_right (bytes_eq own name) (has left name) (has_filter (λ n. not (takes back line n)) (parts back) name (open_parts.members name later apart.1) (not_from_false (takes back line name) apart.0))
+        ] in
+    let disks : IsPermutation (flat_map (λ name. disks_named (line ∷ back) name) (own ∷ left)) (numbers_below (count_by (λ l. is_disk l) (line ∷ back))) =
+      subst (λ ds. IsPermutation ds (numbers_below (count_by (λ l. is_disk l) (line ∷ back))))
+        (sym (ap (λ ds. ds ++ flat_map (λ name. disks_named (line ∷ back) name) left) (ap disks_in (plan_of_own back line part))
+          ∙ ap (λ ds. disks_in (plan_on back line (λ base. plan_back back base)) ++ ds) (same_disks line back left (keeps.0 NewName) left_taken)))
+        (part_stays back line keeps open_parts part) in
+    record {
+      distinct = subst AreDistinct (sym all) (list_any_filter (λ n. bytes_eq n own) (λ n. not (takes back line n)) (parts back) (not_behind back own (parts back) free taken), distinct_filter (λ n. not (takes back line n)) (parts back) open_parts.distinct);
+      open_each = subst (AllByRecursion (IsOpen (line ∷ back))) (sym all) (mine, others);
+      members = λ name is unput. ap (λ ns. has ns name) all ∙ member name is unput;
+      disks = subst (λ ns. IsPermutation (flat_map (λ name. disks_named (line ∷ back) name) ns) (numbers_below (count_by (λ l. is_disk l) (line ∷ back)))) (sym all) disks;
+    } where
+  own_is : (l : StackLine) (name : List ℕ) → Some (own_name l) ≡ Some name → bytes_eq (own_name l) name ≡ true
+  own_is l name e = (bytes_eq-Decides (own_name l) name).1 (same (own_name l) name e) where
+    same : (a b : List ℕ) → Some a ≡ Some b → a ≡ b
+    same a b f = cc
+
+open_other : (back : List StackLine) (line : StackLine) → KeepsBack (line ∷ back) → AreOpen back → is_part back line ≡ false → AreOpen (line ∷ back)
+open_other back line keeps open_parts none =
+    let all : parts (line ∷ back) ≡ parts back = cond-false (is_part back line) (own_name line ∷ left_by back line (parts back)) (parts back) none in
+    let taken = each_taken back (parts back) open_parts.open_each in
+    let each : AllByRecursion (IsOpen (line ∷ back)) (parts back) =
+      all_weaker (IsOpen back) (IsOpen (line ∷ back)) (λ name h. (or_right (is_part back line && is_named name line) (part_named back name) h.0, or_from (takes back line name) (is_put back name) (no_take back line name none) h.1)) (parts back) open_parts.open_each in
+    let disks : IsPermutation (flat_map (λ name. disks_named (line ∷ back) name) (parts back)) (numbers_below (count_by (λ l. is_disk l) (line ∷ back))) =
+      subst (λ ds. IsPermutation ds (numbers_below (count_by (λ l. is_disk l) (line ∷ back)))) (sym (same_disks line back (parts back) (keeps.0 NewName) taken))
+        (subst (λ n. IsPermutation (flat_map (λ name. disks_named back name) (parts back)) (numbers_below n)) (sym (count_same back line (no_disk back line none))) open_parts.disks) in
+    record {
+      distinct = subst AreDistinct (sym all) open_parts.distinct;
+      open_each = subst (AllByRecursion (IsOpen (line ∷ back))) (sym all) each;
+      members = λ name is unput.
+        ap (λ ns. has ns name) all ∙ open_parts.members name
+          (elim (or_cases (is_part back line && is_named name line) (part_named back name) is) [ inl here ↦ absurd (both_ways (is_part back line) none (and_parts (is_part back line) (is_named name line) here).0) | inr later ↦ later ])
+          (or_parts (takes back line name) (is_put back name) unput).1;
+      disks = subst (λ ns. IsPermutation (flat_map (λ name. disks_named (line ∷ back) name) ns) (numbers_below (count_by (λ l. is_disk l) (line ∷ back)))) (sym all) disks;
+    }
+
+pub are_open : (back : List StackLine) → KeepsBack back → AreOpen back
+are_open [] keeps = record { distinct = tt; open_each = tt; members = λ name is unput. absurd (false≢true is); disks = IsPermutation-refl [] }
+are_open (line ∷ back) keeps =
+    let before = are_open back keeps.1 in
+    elim (cases_Bool (is_part back line)) [ inl part ↦ open_part back line keeps before part | inr none ↦ open_other back line keeps before none ]
