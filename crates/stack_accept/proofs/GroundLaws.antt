@@ -301,3 +301,159 @@ are_open [] keeps = record { distinct = tt; open_each = tt; members = λ name is
 are_open (line ∷ back) keeps =
     let before = are_open back keeps.1 in
     elim (cases_Bool (is_part back line)) [ inl part ↦ open_part back line keeps before part | inr none ↦ open_other back line keeps before none ]
+
+-- at the end of the text
+
+some_left : (back : List StackLine) → list_any (λ line. is_storage line) back ≡ true → 0 < length (parts back)
+some_left [] e = absurd (false≢true e)
+some_left (line ∷ back) e =
+    let own = own_name line ∷ left_by back line (parts back) in
+    cond_both (is_part back line) own (parts back) (λ ns. 0 < length ns) (λ _. omega arith)
+      (λ none. elim (or_cases (is_storage line) (list_any (λ l. is_storage l) back) e) [
+        | inl here ↦ absurd (both_ways (is_part back line) none (or_left (is_storage line) (is_coherent_storage back line) here))
+        | inr later ↦ some_left back later
+      ])
+
+-- who stands on a storage takes it
+storage_takes : (newer back : List StackLine) (line : StackLine) (name : List ℕ) → KeepsBack (newer ++ line ∷ back) → is_storage_name (newer ++ line ∷ back) name ≡ true → stands_on name line ≡ true → takes back line name ≡ true
+storage_takes newer back (Page size) name keeps storage e = absurd (false≢true e)
+storage_takes newer back (File own pages) name keeps storage e = absurd (false≢true e)
+storage_takes newer back (Disk own machine) name keeps storage e = absurd (false≢true e)
+storage_takes newer back (Mirror own machine left right) name keeps storage e = e
+storage_takes newer back (Coherency own machine below) name keeps storage e =
+    let line = Coherency own machine below in
+    let same = (bytes_eq-Decides below name).0 e in
+    let here = tail_back newer (line ∷ back) keeps in
+    let regrouped : newer ++ line ∷ back ≡ (newer ++ line ∷ []) ++ back = sym (append_assoc newer (line ∷ []) back) in
+    and_from (is_storage_name back below) (bytes_eq below name)
+      (old_storage (newer ++ line ∷ []) back below (subst KeepsBack regrouped keeps) (declared_back back below (here.0 EarlierLayer))
+        (ap (λ ls. is_storage_name ls below) (sym regrouped) ∙ ap (λ n. is_storage_name (newer ++ line ∷ back) n) same ∙ storage)) e
+storage_takes newer back (Dfs own machine below) name keeps storage e =
+    let line = Dfs own machine below in
+    let same = (bytes_eq-Decides below name).0 e in
+    let here = tail_back newer (line ∷ back) keeps in
+    let regrouped : newer ++ line ∷ back ≡ (newer ++ line ∷ []) ++ back = sym (append_assoc newer (line ∷ []) back) in
+    let on_storage = old_storage (newer ++ line ∷ []) back below (subst KeepsBack regrouped keeps) (declared_back back below (here.0 EarlierLayer))
+      (ap (λ ls. is_storage_name ls below) (sym regrouped) ∙ ap (λ n. is_storage_name (newer ++ line ∷ back) n) same ∙ storage) in
+    absurd (both_ways (is_storage_name (reverse back) below) (not-true (is_storage_name (reverse back) below) (here.0 CoherentFirst)) (any_reverse (λ l. is_storage l && is_named below l) back ∙ on_storage))
+storage_takes newer back (Vmm own machine below frames) name keeps storage e =
+    let line = Vmm own machine below frames in
+    let same = (bytes_eq-Decides below name).0 e in
+    let here = tail_back newer (line ∷ back) keeps in
+    let regrouped : newer ++ line ∷ back ≡ (newer ++ line ∷ []) ++ back = sym (append_assoc newer (line ∷ []) back) in
+    let on_storage = old_storage (newer ++ line ∷ []) back below (subst KeepsBack regrouped keeps) (declared_back back below (here.0 EarlierLayer))
+      (ap (λ ls. is_storage_name ls below) (sym regrouped) ∙ ap (λ n. is_storage_name (newer ++ line ∷ back) n) same ∙ storage) in
+    absurd (both_ways (is_storage_name (reverse back) below) (not-true (is_storage_name (reverse back) below) (here.0 CoherentFirst)) (any_reverse (λ l. is_storage l && is_named below l) back ∙ on_storage))
+
+used_put : (newer back : List StackLine) (name : List ℕ) → KeepsBack (newer ++ back) → is_storage_name (newer ++ back) name ≡ true → is_used back name ≡ true → is_put back name ≡ true
+used_put newer [] name keeps storage e = absurd (false≢true e)
+used_put newer (line ∷ back) name keeps storage e =
+    let regrouped : newer ++ line ∷ back ≡ (newer ++ line ∷ []) ++ back = sym (append_assoc newer (line ∷ []) back) in
+    elim (or_cases (stands_on name line) (is_used back name) e) [
+      | inl here ↦ or_left (takes back line name) (is_put back name) (storage_takes newer back line name keeps storage here)
+      | inr later ↦
+          or_right (takes back line name) (is_put back name)
+            (used_put (newer ++ line ∷ []) back name (subst KeepsBack regrouped keeps) (ap (λ ls. is_storage_name ls name) (sym regrouped) ∙ storage) later)
+    ]
+
+mirror_takes : (back : List StackLine) (line : StackLine) (name : List ℕ) → (is_mirror line && stands_on name line) ≡ true → takes back line name ≡ true
+mirror_takes back (Page size) name e = absurd (false≢true e)
+mirror_takes back (File own pages) name e = absurd (false≢true e)
+mirror_takes back (Disk own machine) name e = absurd (false≢true e)
+mirror_takes back (Mirror own machine left right) name e = e
+mirror_takes back (Coherency own machine below) name e = absurd (false≢true e)
+mirror_takes back (Dfs own machine below) name e = absurd (false≢true e)
+mirror_takes back (Vmm own machine below frames) name e = absurd (false≢true e)
+
+side_put : (back : List StackLine) (name : List ℕ) → is_side back name ≡ true → is_put back name ≡ true
+side_put [] name e = absurd (false≢true e)
+side_put (line ∷ back) name e =
+    elim (or_cases (is_mirror line && stands_on name line) (is_side back name) e) [
+      | inl here ↦ or_left (takes back line name) (is_put back name) (mirror_takes back line name here)
+      | inr later ↦ or_right (takes back line name) (is_put back name) (side_put back name later)
+    ]
+
+storage_user : (lines : List StackLine) (line : StackLine) (name : List ℕ) → is_storage line ≡ true → is_named name line ≡ true → has_user lines line ≡ true → is_used lines name ≡ true
+storage_user lines (Page size) name s n e = absurd (false≢true s)
+storage_user lines (File own pages) name s n e = absurd (false≢true s)
+storage_user lines (Disk own machine) name s n e = subst (λ m. is_used lines m ≡ true) ((bytes_eq-Decides own name).0 n) e
+storage_user lines (Mirror own machine left right) name s n e = subst (λ m. is_used lines m ≡ true) ((bytes_eq-Decides own name).0 n) e
+storage_user lines (Coherency own machine below) name s n e = absurd (false≢true s)
+storage_user lines (Dfs own machine below) name s n e = absurd (false≢true s)
+storage_user lines (Vmm own machine below frames) name s n e = absurd (false≢true s)
+
+-- a coherency layer on a storage that no mirror has as a side is a first node
+coherent_first : (lines back : List StackLine) (line : StackLine) (name : List ℕ) → is_coherent_storage back line ≡ true → is_named name line ≡ true → is_side lines name ≡ false
+    → ((base : List ℕ) → is_storage_name back base ≡ true → is_storage_name lines base ≡ true) → is_first_node lines line ≡ true
+coherent_first lines back (Page size) name c n side more = absurd (false≢true c)
+coherent_first lines back (File own pages) name c n side more = absurd (false≢true c)
+coherent_first lines back (Disk own machine) name c n side more = absurd (false≢true c)
+coherent_first lines back (Mirror own machine left right) name c n side more = absurd (false≢true c)
+coherent_first lines back (Coherency own machine below) name c n side more =
+    and_from (not (is_side lines own)) (not (not (is_storage_name lines below)))
+      (not_from_false (is_side lines own) (ap (λ m. is_side lines m) ((bytes_eq-Decides own name).0 n) ∙ side))
+      (not_from_false (not (is_storage_name lines below)) (not_from_true (is_storage_name lines below) (more below c)))
+coherent_first lines back (Dfs own machine below) name c n side more = absurd (false≢true c)
+coherent_first lines back (Vmm own machine below frames) name c n side more = absurd (false≢true c)
+
+-- a part that is left at the end is the first node
+first_named : (lines newer back : List StackLine) (name : List ℕ) → reverse lines ≡ newer ++ back → KeepsBack (newer ++ back) → AllByRecursion (λ line. has_user lines line ≡ true) back → part_named back name ≡ true → is_put (reverse lines) name ≡ false
+    → list_any (λ line. is_first_node lines line && is_named name line) back ≡ true
+first_named lines newer [] name whole keeps users e unput = e
+first_named lines newer (line ∷ back) name whole keeps users e unput =
+    let regrouped : newer ++ line ∷ back ≡ (newer ++ line ∷ []) ++ back = sym (append_assoc newer (line ∷ []) back) in
+    elim (or_cases (is_part back line && is_named name line) (part_named back name) e) [
+      | inl here ↦
+          let both = and_parts (is_part back line) (is_named name line) here in
+          elim (or_cases (is_storage line) (is_coherent_storage back line) both.0) [
+            | inl storage ↦
+                let used : is_used (reverse lines) name ≡ true = any_reverse (λ l. stands_on name l) lines ∙ storage_user lines line name storage both.1 users.0 in
+                let there : is_storage_name (newer ++ line ∷ back) name ≡ true = storage_more newer (line ∷ back) name (or_left (is_storage line && is_named name line) (is_storage_name back name) (and_from _ _ storage both.1)) in
+                let put : is_put (newer ++ line ∷ back) name ≡ true = used_put [] (newer ++ line ∷ back) name keeps there (ap (λ ls. is_used ls name) (sym whole) ∙ used) in
+                absurd (both_ways (is_put (reverse lines) name) unput (ap (λ ls. is_put ls name) whole ∙ put))
+            | inr coherent ↦
+                let no_side : is_side lines name ≡ false = false_from_ne_true (is_side lines name) (λ side. both_ways (is_put (reverse lines) name) unput (side_put (reverse lines) name (any_reverse (λ l. is_mirror l && stands_on name l) lines ∙ side))) in
+                let more : (base : List ℕ) → is_storage_name back base ≡ true → is_storage_name lines base ≡ true =
+                  λ base s. sym (any_reverse (λ l. is_storage l && is_named base l) lines) ∙ ap (λ ls. is_storage_name ls base) (whole ∙ regrouped) ∙ storage_more (newer ++ line ∷ []) back base s in
+                or_left (is_first_node lines line && is_named name line) (list_any (λ l. is_first_node lines l && is_named name l) back)
+                  (and_from _ _ (coherent_first lines back line name coherent both.1 no_side more) both.1)
+          ]
+      | inr later ↦
+          or_right (is_first_node lines line && is_named name line) (list_any (λ l. is_first_node lines l && is_named name l) back)
+            (first_named lines (newer ++ line ∷ []) back name (whole ∙ regrouped) (subst KeepsBack regrouped keeps) users.1 later unput)
+    ]
+
+-- where one element passes alone, it is the first that passes
+unique_find : {X : Type 0} (p q : X → Bool) (xs : List X) (x : X) → count_by p xs ≡ 1 → list_any (λ y. p y && q y) xs ≡ true → find p xs ≡ Some x → q x ≡ true
+unique_find p q [] x one some found = absurd (false≢true some)
+unique_find {X} p q (y ∷ xs) x one some found =
+    let counted = count_by_cons p y xs in
+    elim (cases_Bool (p y)) [
+      | inl here ↦
+          let mine = cond-true {A = ℕ} (p y) 1 0 here in
+          let none : list_any p xs ≡ false = false_from_ne_true (list_any p xs) (λ more. absurd (omega (arith, some_passes p xs more, counted, one, mine))) in
+          let both : (p y && q y) ≡ true = elim (or_cases (p y && q y) (list_any (λ z. p z && q z) xs) some) [
+            | inl b ↦ b
+            | inr later ↦ absurd (both_ways (list_any p xs) none (list_any_weaker (λ z. p z && q z) p (λ z is. (and_parts (p z) (q z) is).0) xs later))
+          ] in
+          subst (λ z. q z ≡ true) (same y x (sym (cond-true (p y) (Some y) (find p xs) here) ∙ found)) (and_parts (p y) (q y) both).1
+      | inr not_here ↦
+          let none = cond-false {A = ℕ} (p y) 1 0 not_here in
+          let later : list_any (λ z. p z && q z) xs ≡ true = elim (or_cases (p y && q y) (list_any (λ z. p z && q z) xs) some) [
+            | inl b ↦ absurd (both_ways (p y) not_here (and_parts (p y) (q y) b).0)
+            | inr l ↦ l
+          ] in
+          unique_find p q xs x (omega (arith, counted, one, none)) later (sym (cond-false (p y) (Some y) (find p xs) not_here) ∙ found)
+    ] where
+  same : (a b : X) → Some a ≡ Some b → a ≡ b
+  same a b f = cc
+  some_passes : (r : X → Bool) (zs : List X) → list_any r zs ≡ true → 1 ≤ count_by r zs
+  some_passes r [] e = absurd (false≢true e)
+  some_passes r (z ∷ zs) e =
+      let counts = count_by_cons r z zs in
+      elim (cases_Bool (r z)) [
+        | inl yes_z ↦ let m = cond-true {A = ℕ} (r z) 1 0 yes_z in omega (arith, counts, m)
+        | inr no_z ↦
+            let rest : list_any r zs ≡ true = elim (or_cases (r z) (list_any r zs) e) [ inl b ↦ absurd (both_ways (r z) no_z b) | inr l ↦ l ] in
+            omega (arith, counts, some_passes r zs rest)
+      ]
