@@ -5,7 +5,8 @@ use Rattle.std.specs.List.Sorted.{IsPermutation}
 use Rattle.std.specs.Str.{bytes_eq}
 use Rattle.std.proofs.lemmas.Slice.Eq.{bytes_eq-Decides}
 use Rattle.std.proofs.lemmas.Bool.{cases_Bool, or_cases, or_parts, or_from, or_left, or_right, and_parts, and_from, and_left, and_right, both_ways, false≢true, true≢false, not-true, not-false, not_from_true, not_from_false, false_from_ne_true, cond-false, cond-true, cond_both, eqb-true}
-use Rattle.std.proofs.lemmas.List.{append-nil, reverse-append}
+use Rattle.std.proofs.lemmas.List.{append-nil, reverse-append, reverse-reverse}
+use Rattle.std.specs.Option.{option_map_or}
 use Rattle.std.proofs.lemmas.List.Sorted.{IsPermutation-refl, IsPermutation-sym, IsPermutation-cons, IsPermutation-trans, IsPermutation-append_left, IsPermutation-append_right, IsPermutation-append_comm}
 use Rattle.stack_text.specs.declared.stack.StackLine.{StackLine}
 use Rattle.stack_text.specs.declared.stack.StackLine.TheVariants.{Page, File, Disk, Mirror, Coherency, Dfs, Vmm}
@@ -457,3 +458,105 @@ unique_find {X} p q (y ∷ xs) x one some found =
             let rest : list_any r zs ≡ true = elim (or_cases (r z) (list_any r zs) e) [ inl b ↦ absurd (both_ways (r z) no_z b) | inr l ↦ l ] in
             omega (arith, counts, some_passes r zs rest)
       ]
+
+-- names of one line are one name
+only_one : (line : StackLine) (names : List (List ℕ)) → AreDistinct names → 0 < length names → AllByRecursion (λ name. is_named name line ≡ true) names → (name : List ℕ) × (names ≡ name ∷ []) × (is_named name line ≡ true)
+only_one line [] distinct some all = absurd (omega (arith, some))
+only_one line (name ∷ []) distinct some all = (name, refl, all.0)
+only_one line (name ∷ other ∷ names) distinct some all =
+    let one = word_is (name_of line) name all.0 in
+    let two = word_is (name_of line) other all.1.0 in
+    let same : other ≡ name = same_word other name (sym two ∙ one) in
+    absurd (both_ways (bytes_eq other name) (or_parts (bytes_eq other name) (has names name) distinct.0).0 ((bytes_eq-Decides other name).1 same)) where
+  same_word : (a b : List ℕ) → Some a ≡ Some b → a ≡ b
+  same_word a b f = cc
+
+-- the first node's disks are those of what it stands on
+LeadsDown : List StackLine → List StackLine → StackLine → Type 0
+LeadsDown lines full line = (name : List ℕ) → is_first_node lines line ≡ true → is_named name line ≡ true → disks_named full name ≡ disks_named full (base_of line)
+
+first_storage : (lines : List StackLine) (line : StackLine) (test : Bool) → (test && not (not (is_storage_name lines (base_of line)))) ≡ true → is_storage_name lines (base_of line) ≡ true
+first_storage lines line test e = not-false (is_storage_name lines (base_of line)) (not-true (not (is_storage_name lines (base_of line))) (and_parts test (not (not (is_storage_name lines (base_of line)))) e).1)
+
+leads_down : (lines newer back : List StackLine) (line : StackLine) → reverse lines ≡ newer ++ line ∷ back → KeepsBack (newer ++ line ∷ back) → LeadsDown lines (newer ++ line ∷ back) line
+unfolding LeadsDown
+leads_down lines newer back (Page size) whole keeps name e n = absurd (false≢true e)
+leads_down lines newer back (File own pages) whole keeps name e n = absurd (false≢true e)
+leads_down lines newer back (Disk own machine) whole keeps name e n = absurd (false≢true e)
+leads_down lines newer back (Mirror own machine left right) whole keeps name e n = absurd (false≢true e)
+leads_down lines newer back (Coherency own machine below) whole keeps name e n =
+    let line = Coherency own machine below in
+    let here = tail_back newer (line ∷ back) keeps in
+    let regrouped : newer ++ line ∷ back ≡ (newer ++ line ∷ []) ++ back = sym (append_assoc newer (line ∷ []) back) in
+    let up : plan_back (newer ++ line ∷ back) name ≡ plan_back (line ∷ back) name = old_plan newer (line ∷ back) name keeps (or_left (is_named name line) (is_taken back name) n) in
+    let mine : plan_back (line ∷ back) name ≡ OnCoherency (plan_back back below) = cond-true (bytes_eq own name) (plan_on back line (λ base. plan_back back base)) (plan_back back name) n in
+    let base : plan_back (newer ++ line ∷ back) below ≡ plan_back back below =
+      ap (λ ls. plan_back ls below) regrouped ∙ old_plan (newer ++ line ∷ []) back below (subst KeepsBack regrouped keeps) (declared_back back below (here.0 EarlierLayer)) in
+    ap disks_in (up ∙ mine) ∙ sym (ap disks_in base)
+leads_down lines newer back (Dfs own machine below) whole keeps name e n = absurd (no_dfs (Dfs own machine below) refl) where
+  no_dfs : (line : StackLine) → line ≡ Dfs own machine below → ⊥
+  no_dfs line same =
+      let at = Dfs own machine below in
+      let here = tail_back newer (at ∷ back) keeps in
+      let regrouped : newer ++ at ∷ back ≡ (newer ++ at ∷ []) ++ back = sym (append_assoc newer (at ∷ []) back) in
+      let storage : is_storage_name lines below ≡ true = first_storage lines at (is_node lines at) e in
+      let on_storage = old_storage (newer ++ at ∷ []) back below (subst KeepsBack regrouped keeps) (declared_back back below (here.0 EarlierLayer))
+        (ap (λ ls. is_storage_name ls below) (sym regrouped ∙ sym whole) ∙ any_reverse (λ l. is_storage l && is_named below l) lines ∙ storage) in
+      both_ways (is_storage_name (reverse back) below) (not-true (is_storage_name (reverse back) below) (here.0 CoherentFirst)) (any_reverse (λ l. is_storage l && is_named below l) back ∙ on_storage)
+leads_down lines newer back (Vmm own machine below frames) whole keeps name e n = absurd (no_vmm (Vmm own machine below frames) refl) where
+  no_vmm : (line : StackLine) → line ≡ Vmm own machine below frames → ⊥
+  no_vmm line same =
+      let at = Vmm own machine below frames in
+      let here = tail_back newer (at ∷ back) keeps in
+      let regrouped : newer ++ at ∷ back ≡ (newer ++ at ∷ []) ++ back = sym (append_assoc newer (at ∷ []) back) in
+      let storage : is_storage_name lines below ≡ true = first_storage lines at (is_node lines at) e in
+      let on_storage = old_storage (newer ++ at ∷ []) back below (subst KeepsBack regrouped keeps) (declared_back back below (here.0 EarlierLayer))
+        (ap (λ ls. is_storage_name ls below) (sym regrouped ∙ sym whole) ∙ any_reverse (λ l. is_storage l && is_named below l) lines ∙ storage) in
+      both_ways (is_storage_name (reverse back) below) (not-true (is_storage_name (reverse back) below) (here.0 CoherentFirst)) (any_reverse (λ l. is_storage l && is_named below l) back ∙ on_storage)
+
+each_down : (lines newer back : List StackLine) → reverse lines ≡ newer ++ back → KeepsBack (newer ++ back) → AllByRecursion (LeadsDown lines (reverse lines)) back
+each_down lines newer [] whole keeps = tt
+each_down lines newer (line ∷ back) whole keeps =
+    let regrouped : newer ++ line ∷ back ≡ (newer ++ line ∷ []) ++ back = sym (append_assoc newer (line ∷ []) back) in
+    (subst (λ ls. LeadsDown lines ls line) (sym whole) (leads_down lines newer back line whole keeps),
+      each_down lines (newer ++ line ∷ []) back (whole ∙ regrouped) (subst KeepsBack regrouped keeps))
+
+all_find : {X : Type 0} (P : X → Type 0) (p : X → Bool) (xs : List X) (x : X) → AllByRecursion P xs → find p xs ≡ Some x → P x
+all_find P p [] x h e = absurd cc
+all_find {X} P p (y ∷ xs) x h e =
+    elim (cases_Bool (p y)) [
+      | inl here ↦ subst P (same y x (sym (cond-true (p y) (Some y) (find p xs) here) ∙ e)) h.0
+      | inr not_here ↦ all_find P p xs x h.1 (sym (cond-false (p y) (Some y) (find p xs) not_here) ∙ e)
+    ] where
+  same : (a b : X) → Some a ≡ Some b → a ≡ b
+  same a b f = cc
+
+each_user : (lines text : List StackLine) → list_all (λ line. has_user text line) lines ≡ true → AllByRecursion (λ line. has_user text line ≡ true) lines
+each_user [] text e = tt
+each_user (line ∷ lines) text e = let both = and_parts (has_user text line) (list_all (λ l. has_user text l) lines) e in (both.0, each_user lines text both.1)
+
+-- the ground has each disk once
+pub ground_disks : (lines : List StackLine) → KeepsRules [] lines → IsPermutation (disks_in (plan_back (reverse lines) (ground_name lines))) (numbers_below (count_by (λ line. is_disk line) lines))
+unfolding LeadsDown
+ground_disks lines kept =
+    let back = reverse lines in
+    let keeps : KeepsBack back = keeps_back [] lines kept tt in
+    let open_parts = are_open back keeps in
+    let first = first_node lines kept in
+    let one : count_by (λ l. is_first_node lines l) lines ≡ 1 = eqb-true _ 1 (kept_at_end [] lines kept OneGround) in
+    let users : AllByRecursion (λ line. has_user lines line ≡ true) back =
+      all_reverse (λ line. has_user lines line ≡ true) back (subst (AllByRecursion (λ line. has_user lines line ≡ true)) (sym (reverse-reverse lines)) (each_user lines lines (kept_at_end [] lines kept OneUser))) in
+    let named : AllByRecursion (λ name. is_named name first.0 ≡ true) (parts back) =
+      all_weaker (IsOpen back) (λ name. is_named name first.0 ≡ true)
+        (λ name is. unique_find (λ l. is_first_node lines l) (λ l. is_named name l) lines first.0 one
+          (sym (any_reverse (λ l. is_first_node lines l && is_named name l) lines) ∙ first_named lines [] back name refl keeps users is.0 is.1) first.1)
+        (parts back) open_parts.open_each in
+    let some : list_any (λ line. is_storage line) back ≡ true = any_reverse (λ line. is_storage line) lines ∙ ground_storage lines kept in
+    let alone = only_one first.0 (parts back) open_parts.distinct (some_left back some) named in
+    let down : LeadsDown lines back first.0 = all_find (LeadsDown lines back) (λ l. is_first_node lines l) lines first.0 (all_reverse (LeadsDown lines back) lines (each_down lines [] back refl keeps)) first.1 in
+    let ground : ground_name lines ≡ base_of first.0 = ap (λ o. option_map_or (λ line. base_of line) o []) first.1 in
+    let disks : IsPermutation (disks_named back alone.0 ++ []) (numbers_below (count_by (λ l. is_disk l) back)) =
+      subst (λ names. IsPermutation (flat_map (λ name. disks_named back name) names) (numbers_below (count_by (λ l. is_disk l) back))) alone.1 open_parts.disks in
+    let same : disks_named back alone.0 ++ [] ≡ disks_named back (ground_name lines) = append-nil (disks_named back alone.0) ∙ down alone.0 first.2 alone.2 ∙ ap (λ n. disks_named back n) (sym ground) in
+    subst (λ ds. IsPermutation ds (numbers_below (count_by (λ l. is_disk l) lines))) same
+      (subst (λ n. IsPermutation (disks_named back alone.0 ++ []) (numbers_below n)) (count_by_reverse (λ l. is_disk l) lines) disks)

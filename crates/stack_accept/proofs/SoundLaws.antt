@@ -14,7 +14,10 @@ use Rattle.stack_accept.specs.declared.entries.NodeEntry.{NodeEntry}
 use Rattle.stack_accept.specs.Lines.{is_page, is_file, is_disk, is_storage, machine_of}
 use Rattle.stack_accept.specs.Rules.{keeps, is_node, is_count, is_page_size, has_room, IsAccepted, KeepsRules}
 use Rattle.stack_accept.specs.Mount.{Mount, mounted, number_in, page_size_of, file_of, disk_of, with_machine, machines_of, ground_name, node_lines, node_of, nodes_of, tree_of}
-use Rattle.stack_accept.specs.Plan.{Plan, plan_back}
+use Rattle.stack_accept.specs.Plan.{Plan, OnDisk, OnMirror, OnCoherency, disks_in, mirror_levels, numbers_below, plan_back}
+use Rattle.std.specs.List.Sorted.{IsPermutation}
+use Rattle.std.proofs.lemmas.List.Sorted.{length_permutation}
+use Rattle.stack_accept.proofs.GroundLaws.{ground_disks}
 use Rattle.tower_core.specs.TreeShape.{TreeShape}
 use Rattle.stack_accept.specs.Sound.{IsInLimits, IsGroundNode, IsLayerNode, IsMount}
 use Rattle.stack_accept.proofs.Lists.{count_by_cons}
@@ -236,6 +239,22 @@ below_at : (ground : NodeEntry) (rest : List NodeEntry) → ArePlaced ground res
 below_at ground rest are zero d above inside = absurd (omega (arith, above))
 below_at ground rest are (suc i) d above inside = let low = placed_below (ground ∷ rest) rest 1 i d are.each (omega (arith, inside)) in omega (arith, low)
 
+-- the ground's disks
+
+length_below : (n : ℕ) → length (numbers_below n) ≡ n
+length_below zero = refl
+length_below (suc n) = let rest = length_below n in omega (arith, rest)
+
+-- more disks than mirrors on one another
+levels_low : (plan : Plan) → mirror_levels plan + 1 ≤ length (disks_in plan)
+levels_low (OnDisk disk) = omega arith
+levels_low (OnMirror left right) =
+    let one = levels_low left in
+    let other = levels_low right in
+    let both = length-append (disks_in left) (disks_in right) in
+    omega (arith, one, other, both)
+levels_low (OnCoherency below) = levels_low below
+
 pub mounted_is : (lines : List StackLine) → IsAccepted lines → IsMount (mounted lines)
 mounted_is lines accepted =
     let keeps = kept lines accepted in
@@ -248,12 +267,20 @@ mounted_is lines accepted =
     let few_files = few_by (λ l. is_file l) 16 file_step [] lines keeps (omega arith) in
     let disk_count = count_disks lines in
     let few_disks = few_by (λ l. is_disk l) 4 disk_step [] lines keeps (omega arith) in
+    let ground = plan_back (reverse lines) (ground_name lines) in
+    let each = ground_disks lines keeps in
+    let disks : IsPermutation (disks_in ground) (numbers_below (length (filter_map (λ line. disk_of line) lines))) = subst (λ n. IsPermutation (disks_in ground) (numbers_below n)) (sym disk_count) each in
+    let levels = levels_low ground in
+    let counted = length_permutation (disks_in ground) (numbers_below (count_by (λ l. is_disk l) lines)) each in
+    let below = length_below (count_by (λ l. is_disk l) lines) in
     record {
       page_size = page_size_is lines keeps;
       some_file = omega (arith, files, file_count);
       few_files = omega (arith, few_files, file_count);
       pages = each_pages [] lines keeps;
       few_disks = omega (arith, few_disks, disk_count);
+      disks = disks;
+      levels = omega (arith, few_disks, levels, counted, below);
       tree = mounted_tree lines accepted;
       served = refl;
       few_nodes = few_nodes lines keeps;
