@@ -11,9 +11,9 @@ use Rattle.tower_core.specs.declared.step.Step.{Step}
 use Rattle.tower_core.specs.declared.step.Step.TheVariants.{Untouched, Reads, Writes, Grants, PagesOut, Denies, Pushes, Flushes, Deletes}
 use Rattle.tower_core.specs.TreeShape.{TreeShape, frames_of, IsTree}
 use Rattle.tower_core.specs.Column.{Column, updated, right_after, MayStep}
-use Rattle.tower_core.specs.Trail.{State, state_after, start, of_page, step_of, step_of_access, holds, held_below, IsAllowed, IsRun}
+use Rattle.tower_core.specs.Trail.{State, state_after, start, of_page, step_of, step_of_access, state_of, holds, held_below, IsAllowed, IsFramed, IsRun, IsCoherentState}
 use Rattle.tower_core.proofs.Ranks.{same_or_not}
-use Rattle.tower_core.proofs.Trails.{on_each_page, start_nothing}
+use Rattle.tower_core.proofs.Trails.{on_each_page, start_nothing, start_coherent, event_keeps, event_zero}
 
 -- a table with another value at one key holds there what the value holds, and elsewhere what it held
 holds_updated : (right : ℕ → Right) (n : ℕ) (v : Right) (node : ℕ) → (holds v ≡ true → holds (right n) ≡ true) → holds (updated right n v node) ≡ true → holds (right node) ≡ true
@@ -26,7 +26,7 @@ holds_at : (r v : Right) → r ≡ v → holds v ≡ true → holds r ≡ true
 holds_at r v e h = rw e h
 
 -- no step but a grant at the node gives it a right
-no_gain : (shape : TreeShape) (col : Column) (step : Step) (node : ℕ) → MayStep shape col step → ((write : Bool) → step ≢ Grants node write) → holds (right_after col.right step node) ≡ true → holds (col.right node) ≡ true
+pub no_gain : (shape : TreeShape) (col : Column) (step : Step) (node : ℕ) → MayStep shape col step → ((write : Bool) → step ≢ Grants node write) → holds (right_after col.right step node) ≡ true → holds (col.right node) ≡ true
 no_gain shape col Untouched node may other h = h
 no_gain shape col (Reads n) node may other h = h
 no_gain shape col (Writes n) node may other h = h
@@ -91,9 +91,6 @@ held_le_one s t node q (suc k) keeps = elim (same_or_not k q) [
 
 -- THE LAW OF FRAMES
 
-abbrev pub AllFramed : TreeShape → ℕ → State → Type 0
-AllFramed shape pages s = (node : ℕ) → 0 < node → frames_of shape node ≢ 0 → held_below s node pages ≤ frames_of shape node
-
 -- a step of a page that is no grant is none on any page
 off_page : (page q : ℕ) (step : Step) (node : ℕ) → ((write : Bool) → step ≢ Grants node write) → (write : Bool) → of_page page q step ≢ Grants node write
 off_page page q step node other write e = elim (eqb_tells q page) [
@@ -104,13 +101,13 @@ off_page page q step node other write e = elim (eqb_tells q page) [
     no_grant : Untouched ≢ Grants node write
     no_grant e = cc
 
-module _ (shape : TreeShape) (pages : ℕ) (s : State) (event : Event) (tree : IsTree shape) (framed : AllFramed shape pages s) (ok : IsAllowed shape pages s event) where
+module _ (shape : TreeShape) (pages : ℕ) (s : State) (event : Event) (tree : IsTree shape) (framed : IsFramed shape pages s) (ok : IsAllowed shape pages s event) where
   -- on a page where the event is no grant to the node
   kept : (node page : ℕ) → ((write : Bool) → step_of s.life page event ≢ Grants node write) → Kept s (state_after shape s event) node page
   kept node page other = no_gain shape (s.column page) (step_of s.life page event) node (on_each_page shape pages s event tree ok.upper ok.line page).1 other
 
   -- an event that grants nothing
-  quiet : ((node page : ℕ) (write : Bool) → step_of s.life page event ≢ Grants node write) → AllFramed shape pages (state_after shape s event)
+  quiet : ((node page : ℕ) (write : Bool) → step_of s.life page event ≢ Grants node write) → IsFramed shape pages (state_after shape s event)
   quiet other node above leaf = le_trans (held_le s (state_after shape s event) node pages (λ page h. kept node page (other node page))) (framed node above leaf)
 
   -- a grant of the page q to the node n
@@ -128,7 +125,7 @@ module _ (shape : TreeShape) (pages : ℕ) (s : State) (event : Event) (tree : I
       keeps page (inl same) after = subst (λ p. holds ((s.column p).right n) ≡ true) (sym same) held
       keeps page (inr d) after = kept n page (other n page (inl d)) after
 
-  granting : (n q : ℕ) → IsGrantOf n q → (frames_of shape n ≢ 0 → (s.column q).right n ≡ Right.Nothing → held_below s n pages < frames_of shape n) → AllFramed shape pages (state_after shape s event)
+  granting : (n q : ℕ) → IsGrantOf n q → (frames_of shape n ≢ 0 → (s.column q).right n ≡ Right.Nothing → held_below s n pages < frames_of shape n) → IsFramed shape pages (state_after shape s event)
   granting n q other room node above leaf = elim (same_or_not node n) [
     | inl same ↦ subst (λ k. held_below (state_after shape s event) k pages ≤ frames_of shape k) (sym same)
         (granted_node n q other room (omega arith) (subst (λ k. frames_of shape k ≢ 0) same leaf) (nothing_or_holds ((s.column q).right n)))
@@ -155,7 +152,7 @@ one_grant n q write node page other w e = elim (eqb_tells q page) [
     two at e (inl d) = d (sym at)
     two at e (inr d) = d (let k : node ≡ n = cc in k)
 
-pub event_frames : (shape : TreeShape) (pages : ℕ) (s : State) (event : Event) → IsTree shape → AllFramed shape pages s → IsAllowed shape pages s event → AllFramed shape pages (state_after shape s event)
+pub event_frames : (shape : TreeShape) (pages : ℕ) (s : State) (event : Event) → IsTree shape → IsFramed shape pages s → IsAllowed shape pages s event → IsFramed shape pages (state_after shape s event)
 event_frames shape pages s (Event.Access caller number node life op) tree framed ok = quiet shape pages s (Event.Access caller number node life op) tree framed ok
     (λ n page write e. elim (eqb_tells life (s.life node)) [ inl same ↦ no_access_grant page n node op write (rw same.0 at e) | inr d ↦ untouched n write (rw d.0 at e) ])
   where
@@ -175,14 +172,32 @@ event_frames shape pages s (Event.DonePager caller number node) tree framed ok =
 event_frames shape pages s (Event.Synced caller number node from keep) tree framed ok = quiet shape pages s (Event.Synced caller number node from keep) tree framed ok (λ n page write e. cc)
 
 -- at the start no node but the ground holds a page
-start_held : (node k : ℕ) → 0 < node → held_below start node k ≡ 0
+pub start_held : (node k : ℕ) → 0 < node → held_below start node k ≡ 0
 start_held node zero above = refl
 start_held node (suc k) above = rw (start_nothing node above) (start_held node k above)
 
-pub start_framed : (shape : TreeShape) (pages : ℕ) → AllFramed shape pages start
+pub start_framed : (shape : TreeShape) (pages : ℕ) → IsFramed shape pages start
 start_framed shape pages node above leaf = omega (arith, start_held node pages above)
 
--- A LEAF HOLDS AT MOST ITS FRAMES AFTER EVERY TRAIL OF ALLOWED EVENTS
-pub run_framed : (shape : TreeShape) (pages : ℕ) (s : State) (trail : List Event) → IsTree shape → AllFramed shape pages s → IsRun shape pages s trail → AllFramed shape pages (fold (state_after shape) s trail)
-run_framed shape pages s [] tree framed run = framed
-run_framed shape pages s (event ∷ events) tree framed run = run_framed shape pages (state_after shape s event) events tree (event_frames shape pages s event tree framed run.0) run.1
+-- COHERENCE, WHOLE: at the start, after an event, and after every trail
+
+pub start_coherent_state : (shape : TreeShape) (pages : ℕ) → IsCoherentState shape pages start
+start_coherent_state shape pages = record {
+  columns = start_coherent shape;
+  framed = start_framed shape pages;
+  empty = λ page node un e. refl;
+}
+
+pub event_coherent : (shape : TreeShape) (pages : ℕ) (s : State) (event : Event) → IsTree shape → IsCoherentState shape pages s → IsAllowed shape pages s event → IsCoherentState shape pages (state_after shape s event)
+event_coherent shape pages s event tree coh ok = record {
+  columns = event_keeps shape pages s event tree coh.columns ok;
+  framed = event_frames shape pages s event tree coh.framed ok;
+  empty = event_zero shape pages s event tree coh.columns ok coh.empty;
+}
+
+run_coherent_from : (shape : TreeShape) (pages : ℕ) (s : State) (trail : List Event) → IsTree shape → IsCoherentState shape pages s → IsRun shape pages s trail → IsCoherentState shape pages (fold (state_after shape) s trail)
+run_coherent_from shape pages s [] tree coh run = coh
+run_coherent_from shape pages s (event ∷ events) tree coh run = run_coherent_from shape pages (state_after shape s event) events tree (event_coherent shape pages s event tree coh run.0) run.1
+
+pub run_coherent : (shape : TreeShape) (pages : ℕ) (trail : List Event) → IsTree shape → IsRun shape pages start trail → IsCoherentState shape pages (state_of shape trail)
+run_coherent shape pages trail tree run = run_coherent_from shape pages start trail tree (start_coherent_state shape pages) run

@@ -1,5 +1,5 @@
 -- A legal trail is a run of allowed events, and grows by one legal event at a time.
-use Rattle.std.proofs.Common.{◌≡◌, ◌≢◌, ℕ, zero, suc, ◌<◌, ◌≤◌, sym, ◌∙◌, subst, refl, arith, List, [], ◌∷◌, ◌++◌, length, take, get_or}
+use Rattle.std.proofs.Common.{◌≡◌, ◌≢◌, ℕ, zero, suc, ◌<◌, ◌≤◌, sym, ◌∙◌, subst, refl, arith, List, [], ◌∷◌, ◌++◌, length, take, get_or, append-nil, append_assoc}
 use Rattle.std.specs.List.{fold}
 use Rattle.std.proofs.lemmas.List.Sums.{fold-append}
 use Rattle.hist_plain.specs.declared.event.Event.{Event}
@@ -7,19 +7,29 @@ use Rattle.tower_core.specs.declared.right.Right.{Right}
 use Rattle.tower_core.specs.TreeShape.{TreeShape, parent}
 use Rattle.tower_core.specs.Column.{Column, IsCoherent, strength}
 use Rattle.tower_core.specs.Trail.{State, state_after, state_of, start, IsAllowed, IsRun}
-use Rattle.tower_core.specs.Legal.{Plain, IsLegal, IsLegalAfter}
+use Rattle.tower_core.specs.Legal.{IsLegal, IsLegalNext, IsLegalAfter}
 
 -- one more event is one more step of the fold
 pub state_of-snoc : (shape : TreeShape) (trail : List Event) (event : Event) → state_of shape (trail ++ event ∷ []) ≡ state_after shape (state_of shape trail) event
 state_of-snoc shape trail event = fold-append (state_after shape) start trail (event ∷ [])
 
-legal_run_after : (shape : TreeShape) (size pages : ℕ) (opening : Plain) (before events : List Event) → IsLegalAfter shape size pages opening before events → IsRun shape pages (state_of shape before) events
-legal_run_after shape size pages opening before [] legal = tt
-legal_run_after shape size pages opening before (event ∷ events) legal =
-    (legal.1, subst (λ s. IsRun shape pages s events) (state_of-snoc shape before event) (legal_run_after shape size pages opening (before ++ event ∷ []) events legal.3))
+legal_run_after : (shape : TreeShape) (size pages : ℕ) (bytes : List ℕ) (before events : List Event) → IsLegalAfter shape size pages bytes before events → IsRun shape pages (state_of shape before) events
+legal_run_after shape size pages bytes before [] legal = tt
+legal_run_after shape size pages bytes before (event ∷ events) legal =
+    (legal.0.allowed, subst (λ s. IsRun shape pages s events) (state_of-snoc shape before event) (legal_run_after shape size pages bytes (before ++ event ∷ []) events legal.1))
 
-pub legal_run : (shape : TreeShape) (size pages : ℕ) (opening : Plain) (trail : List Event) → IsLegal shape size pages opening trail → IsRun shape pages start trail
-legal_run shape size pages opening trail legal = legal_run_after shape size pages opening [] trail legal
+-- a legal trail is a run of allowed events
+pub legal_run : (shape : TreeShape) (size pages : ℕ) (bytes : List ℕ) (trail : List Event) → IsLegal shape size pages bytes trail → IsRun shape pages start trail
+legal_run shape size pages bytes trail legal = legal_run_after shape size pages bytes [] trail legal
+
+legal_after_snoc : (shape : TreeShape) (size pages : ℕ) (bytes : List ℕ) (before events : List Event) (event : Event) → IsLegalAfter shape size pages bytes before events → IsLegalNext shape size pages bytes (before ++ events) event → IsLegalAfter shape size pages bytes before (events ++ event ∷ [])
+legal_after_snoc shape size pages bytes before [] event legal next = (subst (λ xs. IsLegalNext shape size pages bytes xs event) (append-nil before) next, tt)
+legal_after_snoc shape size pages bytes before (first ∷ events) event legal next =
+    (legal.0, legal_after_snoc shape size pages bytes (before ++ first ∷ []) events event legal.1 (subst (λ xs. IsLegalNext shape size pages bytes xs event) (sym (append_assoc before (first ∷ []) events)) next))
+
+-- a legal trail goes on by a legal event
+pub legal_snoc : (shape : TreeShape) (size pages : ℕ) (bytes : List ℕ) (trail : List Event) (event : Event) → IsLegal shape size pages bytes trail → IsLegalNext shape size pages bytes trail event → IsLegal shape size pages bytes (trail ++ event ∷ [])
+legal_snoc shape size pages bytes trail event legal next = legal_after_snoc shape size pages bytes [] trail event legal next
 
 -- a run goes on by an event that is allowed at its end
 pub run_snoc : (shape : TreeShape) (pages : ℕ) (s : State) (trail : List Event) (event : Event) → IsRun shape pages s trail → IsAllowed shape pages (fold (state_after shape) s trail) event → IsRun shape pages s (trail ++ event ∷ [])

@@ -1,26 +1,27 @@
 -- Going up from a node to the ground.
-use Rattle.std.proofs.Common.{◌≡◌, ◌≢◌, ℕ, suc, zero, ◌<◌, ◌≤◌, ◌⊎◌, inl, inr, sym, ◌∙◌, ap, subst, refl, arith, Bool, true, false, ◌||◌, eqb}
+use Rattle.std.proofs.Common.{◌≡◌, ◌≢◌, ℕ, suc, zero, ◌<◌, ◌≤◌, ◌⊎◌, inl, inr, sym, ◌∙◌, ap, subst, refl, arith, Bool, true, false, cond, eqb}
 use Rattle.std.proofs.lemmas.Bool.{eq-eqb, false≢true}
 use Rattle.std.proofs.lemmas.List.{get_or_past}
 use Rattle.std.proofs.lemmas.Bool.Decides.{nat_tests}
-use Rattle.tower_core.specs.TreeShape.{TreeShape, parent, nodes, meets, is_within, IsUpper, IsChild, IsTree}
+use Rattle.hist_plain.specs.Plain.{reaches}
+use Rattle.tower_core.specs.TreeShape.{TreeShape, parent, nodes, is_within, IsUpper, IsChild, IsTree}
 
-ground_meets : (shape : TreeShape) (steps top : ℕ) → IsTree shape → meets shape steps 0 top ≡ eqb 0 top
-ground_meets shape zero top tree = refl
-ground_meets shape (suc steps) top tree = rw tree.ground (rw (ground_meets shape steps top tree) (or_same (eqb 0 top)))
+ground_reaches : (shape : TreeShape) (steps top : ℕ) → IsTree shape → reaches steps shape.parents 0 top ≡ eqb 0 top
+ground_reaches shape zero top tree = refl
+ground_reaches shape (suc steps) top tree = rw tree.ground (rw (ground_reaches shape steps top tree) (or_same (eqb 0 top)))
   where
-    or_same : (b : Bool) → (b || b) ≡ b
+    or_same : (b : Bool) → cond b true b ≡ b
     or_same true = refl
     or_same false = refl
 
 -- any number of steps that is enough gives the same
-enough : (shape : TreeShape) (k j node top : ℕ) → IsTree shape → node < nodes shape → node ≤ k → node ≤ j → meets shape k node top ≡ meets shape j node top
-enough shape k j zero top tree inside hk hj = ground_meets shape k top tree ∙ sym (ground_meets shape j top tree)
+enough : (shape : TreeShape) (k j node top : ℕ) → IsTree shape → node < nodes shape → node ≤ k → node ≤ j → reaches k shape.parents node top ≡ reaches j shape.parents node top
+enough shape k j zero top tree inside hk hj = ground_reaches shape k top tree ∙ sym (ground_reaches shape j top tree)
 enough shape zero j (suc n) top tree inside hk hj = absurd (omega arith)
 enough shape (suc k) zero (suc n) top tree inside hk hj = absurd (omega arith)
 enough shape (suc k) (suc j) (suc n) top tree inside hk hj =
     let below : parent shape (suc n) < suc n = tree.ordered (suc n) (record { above = omega arith; inside = inside }) in
-    ap (λ b. eqb (suc n) top || b) (enough shape k j (parent shape (suc n)) top tree (omega arith) (omega arith) (omega arith))
+    ap (λ b. cond (eqb (suc n) top) true b) (enough shape k j (parent shape (suc n)) top tree (omega arith) (omega arith) (omega arith))
 
 pub is_within-same : (shape : TreeShape) (node top : ℕ) → node ≡ top → is_within shape node top ≡ true
 is_within-same shape zero top e = eq-eqb 0 top e
@@ -43,7 +44,7 @@ is_within-beyond shape (suc n) top tree beyond upper =
     let no : eqb (suc n) top ≡ false = grind (arith, nat_tests, upper.inside) in
     let ground : parent shape (suc n) ≡ 0 = get_or_past shape.parents (suc n) 0 beyond in
     let low : eqb 0 top ≡ false = grind (arith, nat_tests, upper.above) in
-    rw no (rw ground (ground_meets shape n top tree ∙ low))
+    rw no (rw ground (ground_reaches shape n top tree ∙ low))
 
 -- the path of a node, by what is on it
 

@@ -14,8 +14,7 @@ use Rattle.tower_core.specs.declared.page.Page.{Page}
 use Rattle.tower_core.specs.declared.step.Step.{Step}
 use Rattle.tower_core.specs.TreeShape.{TreeShape}
 use Rattle.tower_core.specs.Column.{Column, column_after, used_after}
-use Rattle.tower_core.specs.Page.{IsFresh, page_column, page_used}
-use Rattle.tower_core.specs.Sheet.{column_seen, used_seen}
+use Rattle.tower_core.specs.Page.{IsFresh, page_column, page_used, column_seen, used_seen}
 use Rattle.tower_core.specs.Trail.{State, start, of_page, moved, state_after, step_of_access}
 
 pub slice_get-set_same : {X : Type 0} (xs : List X) (k : ℕ) (v : X) → k < length xs → slice_get (set xs k v) k ≡ Some v
@@ -87,3 +86,8 @@ all_zero xs low n = elim (order n) [ inl inside ↦ omega (arith, low n 0 inside
   where
     order : (k : ℕ) → (k < length xs) ⊎ (length xs ≤ k)
     order k = grind arith
+
+pub get_or-set_later : (xs : List ℕ) (n v : ℕ) → 0 < n → slice_index (set xs 0 v) n ≡ slice_index xs n
+get_or-set_later [] n v h = refl
+get_or-set_later (x ∷ xs) zero v h = absurd (omega arith)
+get_or-set_later (x ∷ xs) (suc n) v h = refl

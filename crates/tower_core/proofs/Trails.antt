@@ -1,17 +1,17 @@
 -- From the law of one step: every trail of allowed events is coherent, and what an access reads is not before the newest write.
-use Rattle.std.proofs.Common.{◌≡◌, ◌≢◌, ℕ, ◌+◌, ◌<◌, ◌⊎◌, inl, inr, subst, refl, arith, List, [], ◌∷◌, length}
+use Rattle.std.proofs.Common.{◌≡◌, ◌≢◌, ℕ, ◌+◌, ◌<◌, ◌≤◌, ◌⊎◌, inl, inr, sym, ◌∙◌, subst, refl, arith, List, [], ◌∷◌, length, Some, true, false}
 use Rattle.std.specs.List.{fold}
 use Rattle.std.proofs.lemmas.Bool.Decides.{eqb_tells}
 use Rattle.hist_plain.specs.declared.event.Event.{Event}
 use Rattle.hist_plain.specs.declared.event.Op.{Op}
-use Rattle.hist_plain.specs.Event.{node_of}
+use Rattle.hist_plain.specs.Event.{node_of, page_of_op}
 use Rattle.tower_core.specs.declared.right.Right.{Right}
 use Rattle.tower_core.specs.TreeShape.{TreeShape, frames_of, IsUpper, IsChild, IsTree}
 use Rattle.tower_core.specs.declared.step.Step.{Step}
-use Rattle.tower_core.specs.declared.step.Step.TheVariants.{Reads, Writes, Grants, PagesOut, Denies, Pushes, Flushes, Deletes}
-use Rattle.tower_core.specs.Column.{Column, right_at_start, IsCoherent, MayStep, IsStepOf}
-use Rattle.tower_core.specs.Trail.{State, state_after, state_of, start, of_page, step_of, step_of_access, IsAllowed, IsLine, IsRun, MayAccess}
-use Rattle.tower_core.proofs.StepLaw.{keeps, keeps_zero, IsZeroWithout}
+use Rattle.tower_core.specs.declared.step.Step.TheVariants.{Untouched, Reads, Writes, Grants, PagesOut, Denies, Pushes, Flushes, Deletes}
+use Rattle.tower_core.specs.Column.{Column, right_after, right_at_start, IsCoherent, MayStep, IsStepOf}
+use Rattle.tower_core.specs.Trail.{State, state_after, state_of, start, right_of, of_page, step_of, step_of_access, IsAllowed, IsLine, IsRun, MayAccess}
+use Rattle.tower_core.proofs.StepLaw.{keeps, keeps_zero, IsZeroWithout, updated-other}
 
 -- what may happen to one page
 abbrev MayHappen : TreeShape → Column → Step → Type 0
@@ -82,34 +82,68 @@ start_coherent shape page = record {
   placed = λ node inside. omega arith;
 }
 
-run_keeps : (shape : TreeShape) (pages : ℕ) (s : State) (trail : List Event) → IsTree shape → AllCoherent shape s → IsRun shape pages s trail → AllCoherent shape (fold (state_after shape) s trail)
-run_keeps shape pages s [] tree coh run = coh
-run_keeps shape pages s (event ∷ events) tree coh run =
-    run_keeps shape pages (state_after shape s event) events tree (event_keeps shape pages s event tree coh run.0) run.1
-
 run_len : (shape : TreeShape) (s : State) (trail : List Event) → (fold (state_after shape) s trail).len ≡ s.len + length trail
 run_len shape s [] = omega arith
 run_len shape s (event ∷ events) = omega (arith, run_len shape (state_after shape s event) events)
 
--- EVERY TRAIL OF ALLOWED EVENTS IS COHERENT
-pub trail_coherent : (shape : TreeShape) (pages : ℕ) (trail : List Event) → IsTree shape → IsRun shape pages start trail → (page : ℕ) → IsCoherent shape (length trail) ((state_of shape trail).column page)
-trail_coherent shape pages trail tree run page =
-    let len : (state_of shape trail).len ≡ length trail = omega (arith, run_len shape start trail) in
-    rw len at (run_keeps shape pages start trail tree (start_coherent shape) run page)
+-- the state counts the events
+pub trail_len : (shape : TreeShape) (trail : List Event) → (state_of shape trail).len ≡ length trail
+trail_len shape trail = omega (arith, run_len shape start trail)
 
--- a node that has Nothing on a page has place 0 there
+-- no step of another node changes the ground's right
+ground_after : (shape : TreeShape) (right : ℕ → Right) (step : Step) → IsStepOf shape step → right_after right step 0 ≡ right 0
+ground_after shape right Untouched un = refl
+ground_after shape right (Reads n) un = refl
+ground_after shape right (Writes n) un = refl
+ground_after shape right (Grants n true) un = updated-other right n Right.Write 0 (omega (arith, un.above))
+ground_after shape right (Grants n false) un = updated-other right n Right.Read 0 (omega (arith, un.above))
+ground_after shape right (PagesOut n) un = updated-other right n Right.Nothing 0 (omega (arith, un.above))
+ground_after shape right (Denies n) un = updated-other right n Right.Read 0 (omega (arith, un.above))
+ground_after shape right (Pushes n) un = refl
+ground_after shape right (Flushes n) un = updated-other right n Right.Nothing 0 (omega (arith, un.above))
+ground_after shape right (Deletes n) un = updated-other right n Right.Nothing 0 (omega (arith, un.above))
 
-abbrev AllZeroWithout : TreeShape → State → Type 0
-AllZeroWithout shape s = (page : ℕ) → IsZeroWithout shape (s.column page)
+pub event_ground : (shape : TreeShape) (pages : ℕ) (s : State) (event : Event) (page : ℕ) → IsTree shape → IsAllowed shape pages s event → ((state_after shape s event).column page).right 0 ≡ (s.column page).right 0
+event_ground shape pages s event page tree ok = ground_after shape (s.column page).right (step_of s.life page event) (on_each_page shape pages s event tree ok.upper ok.line page).0
 
-run_zero : (shape : TreeShape) (pages : ℕ) (s : State) (trail : List Event) → IsTree shape → AllCoherent shape s → AllZeroWithout shape s → IsRun shape pages s trail → AllZeroWithout shape (fold (state_after shape) s trail)
-run_zero shape pages s [] tree coh zeros run = zeros
-run_zero shape pages s (event ∷ events) tree coh zeros run =
-    run_zero shape pages (state_after shape s event) events tree (event_keeps shape pages s event tree coh run.0)
-    (λ page.
-    let may = on_each_page shape pages s event tree run.0.upper run.0.line page in
-    keeps_zero shape s.len (s.column page) (step_of s.life page event) tree may.0 (coh page) may.1 (zeros page))
-    run.1
+run_ground : (shape : TreeShape) (pages : ℕ) (s : State) (trail : List Event) (page : ℕ) → IsTree shape → IsRun shape pages s trail → ((fold (state_after shape) s trail).column page).right 0 ≡ (s.column page).right 0
+run_ground shape pages s [] page tree run = refl
+run_ground shape pages s (event ∷ events) page tree run = run_ground shape pages (state_after shape s event) events page tree run.1 ∙ event_ground shape pages s event page tree run.0
 
-pub trail_zero : (shape : TreeShape) (pages : ℕ) (trail : List Event) → IsTree shape → IsRun shape pages start trail → (node page : ℕ) → IsUpper shape node → ((state_of shape trail).column page).right node ≡ Right.Nothing → ((state_of shape trail).column page).at node ≡ 0
-trail_zero shape pages trail tree run node page un e = run_zero shape pages start trail tree (start_coherent shape) (λ p n u r. refl) run page node un e
+pub trail_ground : (shape : TreeShape) (pages : ℕ) (trail : List Event) → IsTree shape → IsRun shape pages start trail → (page : ℕ) → right_of shape trail 0 page ≡ Right.Write
+trail_ground shape pages trail tree run page = run_ground shape pages start trail page tree run
+
+-- a node that has Nothing on a page has place 0 there, and an allowed event leaves that so
+pub event_zero : (shape : TreeShape) (pages : ℕ) (s : State) (event : Event) → IsTree shape → AllCoherent shape s → IsAllowed shape pages s event → ((page : ℕ) → IsZeroWithout shape (s.column page)) → (page : ℕ) → IsZeroWithout shape ((state_after shape s event).column page)
+event_zero shape pages s event tree coh ok zeros page =
+    let may = on_each_page shape pages s event tree ok.upper ok.line page in
+    keeps_zero shape s.len (s.column page) (step_of s.life page event) tree may.0 (coh page) may.1 (zeros page)
+
+some_is : {p q : ℕ} → Some p ≡ Some q → p ≡ q
+some_is e = cc
+
+-- what an access of the node's life finds is not before the newest write
+
+reads_newest : (shape : TreeShape) (len : ℕ) (col : Column) (node : ℕ) → IsUpper shape node → IsCoherent shape len col → MayStep shape col (Reads node) → col.newest ≤ col.at node
+reads_newest shape len col node un coh may = coh.current node un.inside may.0 may.1
+
+writes_newest : (shape : TreeShape) (len : ℕ) (col : Column) (node : ℕ) → IsUpper shape node → IsCoherent shape len col → MayStep shape col (Writes node) → col.newest ≤ col.at node
+writes_newest shape len col node un coh may = coh.current node un.inside some none
+  where
+    differ : Right.Write ≢ Right.Nothing
+    differ e = cc
+
+    some : col.right node ≢ Right.Nothing
+    some e = differ (sym may.0 ∙ e)
+
+    none : (child : ℕ) → IsChild shape child node → col.right child ≢ Right.Write
+    none child ic e = differ (sym e ∙ may.1 child ic)
+
+pub access_newest : (shape : TreeShape) (pages : ℕ) (s : State) (len caller number node page : ℕ) (op : Op) → IsCoherent shape len (s.column page) → page_of_op op ≡ Some page → IsAllowed shape pages s (Event.Access caller number node (s.life node) op) → (s.column page).newest ≤ (s.column page).at node
+access_newest shape pages s len caller number node page (Op.Read p off n) coh of ok =
+    reads_newest shape len (s.column page) node ok.upper coh (subst (λ q. MayStep shape (s.column q) (Reads node)) (some_is of) (ok.line refl))
+access_newest shape pages s len caller number node page (Op.Write p off bytes) coh of ok =
+    writes_newest shape len (s.column page) node ok.upper coh (subst (λ q. MayStep shape (s.column q) (Writes node)) (some_is of) (ok.line refl))
+access_newest shape pages s len caller number node page (Op.Clear p) coh of ok =
+    writes_newest shape len (s.column page) node ok.upper coh (subst (λ q. MayStep shape (s.column q) (Writes node)) (some_is of) (ok.line refl))
+access_newest shape pages s len caller number node page Op.Open coh of ok = absurd cc

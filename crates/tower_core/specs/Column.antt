@@ -1,10 +1,11 @@
--- One page in a trail: the rights and places of all nodes, and what one event does to them.
+-- One page in a trail: the rights and places of all nodes, and the table of events, which says what each step does to them and where it is allowed.
 use Rattle.std.specs.Prelude.{◌≡◌, ◌≢◌, ℕ, ◌+◌, ◌<◌, ◌≤◌, Bool, true, false, ◌==◌, if◌then◌else◌}
 use Rattle.tower_core.specs.declared.right.Right.{Right}
 use Rattle.tower_core.specs.declared.step.Step.{Step}
 use Rattle.tower_core.specs.declared.step.Step.TheVariants.{Untouched, Reads, Writes, Grants, PagesOut, Denies, Pushes, Flushes, Deletes}
 use Rattle.tower_core.specs.TreeShape.{TreeShape, parent, nodes, IsUpper, IsChild}
 
+-- a place k stands for the page as it is after the first k events of the trail
 pub record Column : Type 0 where
   -- what each node may do with the page
   pub right : ℕ → Right
@@ -16,6 +17,8 @@ pub record Column : Type 0 where
 -- the table with another value at one key
 abbrev pub updated : {A : Type 0} → (ℕ → A) → ℕ → A → ℕ → A
 updated table key value k = if k == key then value else table k
+
+-- THE TABLE OF EVENTS, in three columns, a line for each step: a read, a write or clear, a grant for writing or reading (PageIn, ZeroFill), PageOut, a denial (WriteOut, DenyWrites), a push (SyncOut, WriteBack), FlushBack, DeleteRange
 
 -- the column "Right after"
 abbrev pub right_after : (ℕ → Right) → Step → ℕ → Right
@@ -52,6 +55,7 @@ at_after shape len col (Pushes node) = given shape col node
 at_after shape len col (Flushes node) = updated (given shape col node) node 0
 at_after shape len col (Deletes node) = updated col.at node 0
 
+-- the place after the last effective write or clear
 abbrev pub newest_after : ℕ → ℕ → Step → ℕ
 newest_after len newest (Writes node) = len + 1
 newest_after len newest _ = newest
@@ -88,7 +92,7 @@ abbrev pub NoSiblingHolds : TreeShape → Column → ℕ → Type 0
 NoSiblingHolds shape col node =
     (child : ℕ) → IsChild shape child (parent shape node) → child ≢ node → col.right child ≡ Right.Nothing
 
--- the column "Allowed where", of what concerns the page's rights
+-- the column "Allowed where", of what concerns the page's rights. Where a line asks for more, as frames, Trail.antt has it
 abbrev pub MayStep : TreeShape → Column → Step → Type 0
 MayStep shape col Untouched = Unit {0}
 MayStep shape col (Reads node) = (col.right node ≢ Right.Nothing) × NoChildWrites shape col node
@@ -107,17 +111,22 @@ MayStep shape col (Pushes node) = col.right node ≡ Right.Write
 MayStep shape col (Flushes node) = (col.right node ≡ Right.Write) × NoChildHolds shape col node
 MayStep shape col (Deletes node) = (col.right node ≡ Right.Read) × NoChildHolds shape col node
 
--- the node that a step names is no ground
+-- the node that a step is about
+abbrev pub node_of_step : Step → ℕ
+node_of_step Untouched = 0
+node_of_step (Reads node) = node
+node_of_step (Writes node) = node
+node_of_step (Grants node write) = node
+node_of_step (PagesOut node) = node
+node_of_step (Denies node) = node
+node_of_step (Pushes node) = node
+node_of_step (Flushes node) = node
+node_of_step (Deletes node) = node
+
+-- that node is one of the tree, and not the ground
 abbrev pub IsStepOf : TreeShape → Step → Type 0
 IsStepOf shape Untouched = Unit {0}
-IsStepOf shape (Reads node) = IsUpper shape node
-IsStepOf shape (Writes node) = IsUpper shape node
-IsStepOf shape (Grants node write) = IsUpper shape node
-IsStepOf shape (PagesOut node) = IsUpper shape node
-IsStepOf shape (Denies node) = IsUpper shape node
-IsStepOf shape (Pushes node) = IsUpper shape node
-IsStepOf shape (Flushes node) = IsUpper shape node
-IsStepOf shape (Deletes node) = IsUpper shape node
+IsStepOf shape step = IsUpper shape (node_of_step step)
 
 -- Nothing is below Read, and Read below Write
 abbrev pub strength : Right → ℕ
@@ -125,7 +134,7 @@ strength Right.Nothing = 0
 strength Right.Read = 1
 strength Right.Write = 2
 
--- (a) to (d) and the part of (e) on places, where the trail has len events
+-- the page is coherent, where the trail has len events so far
 pub record IsCoherent (shape : TreeShape) (len : ℕ) (col : Column) : Type 0 where
   -- a node's right is at most its parent's
   pub capped : (node : ℕ) → IsUpper shape node → strength (col.right node) ≤ strength (col.right (parent shape node))

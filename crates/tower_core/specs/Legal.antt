@@ -1,63 +1,53 @@
--- Legal trails: each event fits, is allowed after those before it, and says rightly whether it moves zeros.
-use Rattle.std.specs.Prelude.{◌≡◌, ℕ, ◌+◌, ◌*◌, ◌<◌, ◌==◌, if◌then◌else◌, List, [], ◌∷◌, ◌++◌, length, take, drop, replicate, All}
-use Rattle.std.specs.List.{fold}
+-- Legal trails over a file: each event stays in the file, is allowed after those before it, and says rightly whether it moves zeros.
+use Rattle.std.specs.Prelude.{◌≡◌, ℕ, ◌<◌, List, [], ◌∷◌, ◌++◌}
 use Rattle.std.specs.Option.{ForSome}
 use Rattle.hist_plain.specs.declared.event.Event.{Event}
-use Rattle.hist_plain.specs.declared.event.Op.{Op}
-use Rattle.hist_plain.specs.Event.{page_of}
+use Rattle.hist_plain.specs.Event.{page_of, Fits}
+use Rattle.hist_plain.specs.File.{Shape, File}
+use Rattle.hist_plain.specs.History.{replay, page_at, IsZeroPage}
+use Rattle.hist_plain.specs.Plain.{fresh}
 use Rattle.tower_core.specs.declared.right.Right.{Right}
 use Rattle.tower_core.specs.TreeShape.{TreeShape, parent}
-use Rattle.tower_core.specs.Trail.{State, state_after, state_of, IsAllowed}
+use Rattle.tower_core.specs.Trail.{state_of, right_of, at_of, IsAllowed}
 
--- the bytes with others from a place on
-abbrev pub overwritten : List ℕ → ℕ → List ℕ → List ℕ
-overwritten bytes from new = take from bytes ++ new ++ drop (from + length new) bytes
+-- what the plain file under a tree knows of it, with the size of a page
+abbrev pub plain_shape : TreeShape → ℕ → Shape
+plain_shape shape size = record { page_size = size; parents = shape.parents }
 
--- the file's bytes after an access of its node's life
-abbrev pub bytes_after : ℕ → List ℕ → Op → List ℕ
-bytes_after size bytes (Op.Read page off len) = bytes
-bytes_after size bytes (Op.Write page off new) = overwritten bytes (page * size + off) new
-bytes_after size bytes (Op.Clear page) = overwritten bytes (page * size) (replicate size 0)
-bytes_after size bytes Op.Open = bytes
+-- the plain file that starts with these bytes, after the trail
+abbrev pub file_after : TreeShape → ℕ → List ℕ → List Event → File
+file_after shape size bytes trail = replay (plain_shape shape size) (fresh shape.parents bytes) trail
 
--- a plain file of this page size
-pub record Plain : Type 0 where
-  pub bytes : List ℕ
-  pub state : State
+-- what a node's copy of a page shows: the page at the node's place
+abbrev pub shown : TreeShape → ℕ → List ℕ → List Event → ℕ → ℕ → List ℕ
+shown shape size bytes trail node page =
+    page_at (plain_shape shape size) (fresh shape.parents bytes) trail page (at_of shape trail node page)
 
-abbrev pub plain_after : TreeShape → ℕ → Plain → Event → Plain
-plain_after shape size file (Event.Access caller number node life op) =
-    record {
-      bytes = if life == file.state.life node then bytes_after size file.bytes op else file.bytes;
-      state = state_after shape file.state (Event.Access caller number node life op);
-    }
-plain_after shape size file event = record { bytes = file.bytes; state = state_after shape file.state event }
+-- the event is within one page of a file of so many pages
+abbrev pub FitsFile : ℕ → ℕ → Event → Type 0
+FitsFile size pages (Event.Access caller number node life op) = Fits size pages op
+FitsFile size pages event = ForSome (page_of event) (λ page. page < pages)
 
--- the bytes of a page after the first events of a trail
-abbrev pub page_at : TreeShape → ℕ → Plain → List Event → ℕ → ℕ → List ℕ
-page_at shape size opening trail page place =
-    take size (drop (page * size) (fold (plain_after shape size) opening (take place trail)).bytes)
+-- a grant to a node that has Nothing is ZeroFill where the parent shows zeros, and PageIn elsewhere
+abbrev pub IsFilled : TreeShape → ℕ → List ℕ → List Event → Event → Type 0
+IsFilled shape size bytes before (Event.ZeroFill node page write) =
+    IsZeroPage size (shown shape size bytes before (parent shape node) page)
+IsFilled shape size bytes before (Event.PageIn node page write) =
+    right_of shape before node page ≡ Right.Nothing → IsZeroPage size (shown shape size bytes before (parent shape node) page) → ⊥
+IsFilled shape size bytes before event = Unit {0}
 
-abbrev pub IsZeros : List ℕ → Type 0
-IsZeros bytes = All (λ byte. byte ≡ 0) bytes
+-- the event is legal after these
+pub record IsLegalNext (shape : TreeShape) (size pages : ℕ) (bytes : List ℕ) (before : List Event) (event : Event) : Type 0 where
+  pub fits : FitsFile size pages event
+  pub allowed : IsAllowed shape pages (state_of shape before) event
+  pub filled : IsFilled shape size bytes before event
 
--- a grant to a node that has Nothing is ZeroFill exactly where it moves zeros
-abbrev pub IsFilled : TreeShape → ℕ → Plain → List Event → Event → Type 0
-IsFilled shape size opening before (Event.ZeroFill node page write) =
-    IsZeros (page_at shape size opening before page (((state_of shape before).column page).at (parent shape node)))
-IsFilled shape size opening before (Event.PageIn node page write) =
-    ((state_of shape before).column page).right node ≡ Right.Nothing →
-    IsZeros (page_at shape size opening before page (((state_of shape before).column page).at (parent shape node))) → ⊥
-IsFilled shape size opening before event = Unit {0}
+-- each of the events is legal after those before it
+abbrev pub IsLegalAfter : TreeShape → ℕ → ℕ → List ℕ → List Event → List Event → Type 0
+IsLegalAfter shape size pages bytes before [] = Unit {0}
+IsLegalAfter shape size pages bytes before (event ∷ events) =
+    IsLegalNext shape size pages bytes before event × IsLegalAfter shape size pages bytes (before ++ event ∷ []) events
 
--- these events are legal after those before them
-abbrev pub IsLegalAfter : TreeShape → ℕ → ℕ → Plain → List Event → List Event → Type 0
-IsLegalAfter shape size pages opening before [] = Unit {0}
-IsLegalAfter shape size pages opening before (event ∷ events) =
-    ForSome (page_of event) (λ page. page < pages)
-    × IsAllowed shape pages (state_of shape before) event
-    × IsFilled shape size opening before event
-    × IsLegalAfter shape size pages opening (before ++ event ∷ []) events
-
-abbrev pub IsLegal : TreeShape → ℕ → ℕ → Plain → List Event → Type 0
-IsLegal shape size pages opening trail = IsLegalAfter shape size pages opening [] trail
+-- the trail is legal over a file of so many pages of this size that starts with these bytes
+abbrev pub IsLegal : TreeShape → ℕ → ℕ → List ℕ → List Event → Type 0
+IsLegal shape size pages bytes trail = IsLegalAfter shape size pages bytes [] trail

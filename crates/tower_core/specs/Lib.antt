@@ -3,5 +3,6 @@ pub mod Count
 pub mod Column
 pub mod Trail
 pub mod Legal
+pub mod Messages
 pub mod Page
 pub mod Sheet

@@ -9,7 +9,7 @@ use Rattle.tower_core.specs.Count.{count_below}
 use Rattle.tower_core.specs.TreeShape.{TreeShape, nodes, frames_of, is_within, IsUpper}
 use Rattle.tower_core.specs.declared.step.Step.{Step}
 use Rattle.tower_core.specs.declared.step.Step.TheVariants.{Untouched, Reads, Writes, Grants, PagesOut, Denies, Pushes, Flushes, Deletes}
-use Rattle.tower_core.specs.Column.{Column, right_at_start, column_after, used_after, MayStep}
+use Rattle.tower_core.specs.Column.{Column, right_at_start, column_after, used_after, MayStep, IsCoherent}
 
 pub record State : Type 0 where
   -- the life of each node
@@ -102,7 +102,7 @@ holds Right.Nothing = false
 holds Right.Read = true
 holds Right.Write = true
 
--- how many of the first pages a node holds
+-- on how many of the first pages a node has a right
 abbrev pub held_below : State → ℕ → ℕ → ℕ
 held_below s node pages = count_below (λ page. holds ((s.column page).right node)) pages
 
@@ -140,7 +140,7 @@ MayAccess shape s node (Op.Write page off bytes) = MayStep shape (s.column page)
 MayAccess shape s node (Op.Clear page) = MayStep shape (s.column page) (Writes node)
 MayAccess shape s node Op.Open = Unit {0}
 
--- the column "Allowed where"
+-- THE TABLE OF EVENTS, by event: the column "Allowed where", whole but for the bytes that ZeroFill moves
 abbrev pub IsLine : TreeShape → ℕ → State → Event → Type 0
 -- an access of another life is always allowed
 IsLine shape pages s (Event.Access caller number node life op) = life ≡ s.life node → MayAccess shape s node op
@@ -168,3 +168,13 @@ pub record IsAllowed (shape : TreeShape) (pages : ℕ) (s : State) (event : Even
 abbrev pub IsRun : TreeShape → ℕ → State → List Event → Type 0
 IsRun shape pages s [] = Unit {0}
 IsRun shape pages s (event ∷ events) = IsAllowed shape pages s event × IsRun shape pages (state_after shape s event) events
+
+-- no leaf holds more pages than it has frames
+abbrev pub IsFramed : TreeShape → ℕ → State → Type 0
+IsFramed shape pages s = (node : ℕ) → 0 < node → frames_of shape node ≢ 0 → held_below s node pages ≤ frames_of shape node
+
+-- each page is coherent, no leaf holds more than its frames, and a node without a right has place 0
+pub record IsCoherentState (shape : TreeShape) (pages : ℕ) (s : State) : Type 0 where
+  pub columns : (page : ℕ) → IsCoherent shape s.len (s.column page)
+  pub framed : IsFramed shape pages s
+  pub empty : (page node : ℕ) → IsUpper shape node → (s.column page).right node ≡ Right.Nothing → (s.column page).at node ≡ 0

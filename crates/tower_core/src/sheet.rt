@@ -1,21 +1,31 @@
-ghost use Rattle.std.specs.Prelude.{◌≡◌, ◌<◌, ◌≤◌, All, vec_len};
+//! A trail's rights, places, uses and lives, kept as tables.
+
+ghost use Rattle.std.specs.Prelude.{◌≡◌, ◌≢◌, ◌<◌, ◌≤◌, ◌+◌, ℕ, All, IfOk, length, slice_index, vec_len};
+ghost use Rattle.std.specs.Int.{from_bool};
 ghost use Rattle.std.proofs.Props.{props};
+ghost use Rattle.tower_core.specs.TreeShape.{nodes, IsUpper};
+ghost use Rattle.tower_core.specs.Trail.{lives_after};
+ghost use Rattle.tower_core.specs.Page.{IsHeldCounted};
 
 use crate::page::Page;
 use crate::{Right, Step, Tree};
 use hist_plain::{Event, Op};
 use std::alloc::{AllocError, Global};
 
-/// What a file's trail is worth: the rights, places, uses and lives after it.
+/// What a file's trail is worth: the rights, places, uses and lives after it. `seen` tells contracts
+/// the state that it stands for.
 #[derive(Drop)]
 pub struct Sheet {
     lives: Vec<u32>,
+    held: Vec<u32>,
     pages: Vec<Page>,
     len: u64,
     ghost grounded: { 0 < vec_len lives },
     ghost few: { vec_len pages ≤ 1024 },
+    ghost counts: { vec_len held ≡ vec_len lives },
     ghost sized: { All (λ page. vec_len page.cells ≡ vec_len lives) pages.items } by { Prim.hlevel props },
     ghost counted: { All (λ life. life ≤ len) lives.items } by { Prim.hlevel props },
+    ghost held_counted: { IsHeldCounted pages.items held.items } by { Prim.hlevel props },
 }
 
 impl Sheet {
@@ -26,6 +36,7 @@ impl Sheet {
     ghost use Rattle.tower_core.specs.Column.{MayStep, IsStepOf};
     ghost use Rattle.tower_core.specs.Trail.{IsAllowed, IsLine, IsOldest, MayAccess, IsAllSettled, IsLeastRecentlyUsed, IsSubtreeEmpty, HasRoom, HoldsNothing, held_below, moved, of_page, start, state_after, step_of_access, lives_after};
     ghost use Rattle.tower_core.specs.Sheet.{nodes_of, pages_of, seen};
+    ghost use Rattle.tower_core.specs.declared.step.Step.TheVariants.{Grants};
 
     /// The sheet of an empty trail.
     pub fn new(alloc: Global, tree: &Tree, pages: u32) -> Result<Sheet, AllocError>
@@ -40,7 +51,8 @@ impl Sheet {
             tables.push(Page::new(alloc, nodes)?)?;
         }
         Ok(Sheet {
-            lives: vec![in alloc; 0; nodes]?,
+            lives: zeros(alloc, nodes)?,
+            held: counts_at_start(alloc, nodes, pages)?,
             pages: tables,
             len: 0,
         })
@@ -143,13 +155,7 @@ impl Sheet {
         requires { node < nodes_of self.now }
         ensures { result ≡ held_below (seen self.now) node (pages_of self.now) }
     {
-        let mut held = 0;
-        for page in 0..self.pages() {
-            if self.right(node, page) != Right::Nothing {
-                held += 1;
-            }
-        }
-        held
+        self.held[node as usize]
     }
 
     /// Whether a grant of the page to the node leaves it within its frames, if it is a leaf.
@@ -183,12 +189,7 @@ impl Sheet {
         requires { node < nodes_of self.now }
         ensures { IsTrue result ↔ HoldsNothing (pages_of self.now) (seen self.now) node }
     {
-        for page in 0..self.pages() {
-            if self.right(node, page) != Right::Nothing {
-                return false;
-            }
-        }
-        true
+        self.held(node) == 0
     }
 
     /// Whether no node of the subtree has a right on any page.
@@ -223,7 +224,7 @@ impl Sheet {
         requires page_in { ForSome (page_of event.now) (λ page. page < pages_of self.now) }
         ensures { IsTrue result ↔ IsAllowed tree.now (pages_of self.now) (seen self.now) event.now }
     {
-        let node = node_of(event);
+        let node = event.node();
         node != 0 && node < tree.nodes() && self.line_holds(tree, event)
     }
 
@@ -238,27 +239,10 @@ impl Sheet {
             Event::Access { node, life, op, .. } => {
                 self.life(*node) != *life || self.may_access(tree, *node, op)
             }
-            Event::PageIn { node, page, write } => {
-                self.may(
-                    tree,
-                    *page,
-                    Step::Grants {
-                        node: *node,
-                        write: *write,
-                    },
-                ) && self.has_room(tree, *node, *page)
-            }
+            Event::PageIn { node, page, write } => self.may_grant(tree, *node, *page, *write),
             Event::ZeroFill { node, page, write } => {
                 self.right(*node, *page) == Right::Nothing
-                    && self.may(
-                        tree,
-                        *page,
-                        Step::Grants {
-                            node: *node,
-                            write: *write,
-                        },
-                    )
-                    && self.has_room(tree, *node, *page)
+                    && self.may_grant(tree, *node, *page, *write)
             }
             Event::PageOut { node, page } => {
                 tree.frames(*node) != 0
@@ -284,6 +268,17 @@ impl Sheet {
         }
     }
 
+    /// Whether a grant of the page to the node may come next.
+    fn may_grant(&self, tree: &Tree, node: u32, page: u32, write: bool) -> bool
+        requires same_tree { nodes tree.now ≡ nodes_of self.now }
+        requires page_in { page < pages_of self.now }
+        requires upper { IsUpper tree.now node }
+        ensures { IsTrue result ↔ (MayStep tree.now ((seen self.now).column page) (Grants node write)
+            × HasRoom tree.now (pages_of self.now) (seen self.now) node page) }
+    {
+        self.may(tree, page, Step::Grants { node, write }) && self.has_room(tree, node, page)
+    }
+
     /// Whether an access of the node's life may come next.
     fn may_access(&self, tree: &Tree, node: u32, op: &Op) -> bool
         requires same_tree { nodes tree.now ≡ nodes_of self.now }
@@ -306,20 +301,26 @@ impl Sheet {
         requires page_in { page < pages_of self.old }
         requires upper { IsStepOf tree.now step }
         requires room { (seen self.old).len < 4194304 }
-        ensures state { seen self.new ≡ moved tree.now (seen self.old) (seen self.old).life (λ p. of_page p page step) }
+        ensures state { seen self.new ≡
+            moved tree.now (seen self.old) (seen self.old).life (λ p. of_page p page step) }
         ensures nodes { nodes_of self.new ≡ nodes_of self.old }
         ensures pages { pages_of self.new ≡ pages_of self.old }
     {
         let len = self.len;
         let table = &mut self.pages[page as usize];
+        let node = step.node();
+        let had = table.holds(node);
         table.take(tree, step, len);
+        let has = table.holds(node);
+        recount(&mut self.held, node, had, has);
         self.len += 1;
     }
 
     /// Enters an event that touches no page and no life.
     fn pass(&mut self, tree: &Tree)
         requires room { (seen self.old).len < 4194304 }
-        ensures state { seen self.new ≡ moved tree.now (seen self.old) (seen self.old).life (λ p. Step.Untouched) }
+        ensures state { seen self.new ≡
+            moved tree.now (seen self.old) (seen self.old).life (λ p. Step.Untouched) }
         ensures nodes { nodes_of self.new ≡ nodes_of self.old }
         ensures pages { pages_of self.new ≡ pages_of self.old }
     {
@@ -332,7 +333,8 @@ impl Sheet {
         requires page_in { ForSome (page_of_op op.now) (λ page. page < pages_of self.old) }
         requires upper { IsUpper tree.now node }
         requires room { (seen self.old).len < 4194304 }
-        ensures state { seen self.new ≡ moved tree.now (seen self.old) (seen self.old).life (λ p. step_of_access p node op.now) }
+        ensures state { seen self.new ≡
+            moved tree.now (seen self.old) (seen self.old).life (λ p. step_of_access p node op.now) }
         ensures nodes { nodes_of self.new ≡ nodes_of self.old }
         ensures pages { pages_of self.new ≡ pages_of self.old }
     {
@@ -364,14 +366,8 @@ impl Sheet {
                 }
             }
             Event::PageIn { node, page, write } | Event::ZeroFill { node, page, write } => {
-                self.step(
-                    tree,
-                    *page,
-                    Step::Grants {
-                        node: *node,
-                        write: *write,
-                    },
-                );
+                let (node, write) = (*node, *write);
+                self.step(tree, *page, Step::Grants { node, write });
             }
             Event::PageOut { node, page } => {
                 self.step(tree, *page, Step::PagesOut { node: *node });
@@ -398,7 +394,8 @@ impl Sheet {
         requires same_tree { nodes tree.now ≡ nodes_of self.old }
         requires upper { IsUpper tree.now top }
         requires room { (seen self.old).len < 4194304 }
-        ensures state { seen self.new ≡ moved tree.now (seen self.old) (lives_after tree.now (seen self.old).life top) (λ p. Step.Untouched) }
+        ensures state { seen self.new ≡
+            moved tree.now (seen self.old) (lives_after tree.now (seen self.old).life top) (λ p. Step.Untouched) }
         ensures nodes { nodes_of self.new ≡ nodes_of self.old }
         ensures pages { pages_of self.new ≡ pages_of self.old }
     {
@@ -407,30 +404,39 @@ impl Sheet {
     }
 }
 
-ghost use Rattle.std.specs.Prelude.{length, slice_index, ℕ};
-ghost use Rattle.tower_core.specs.TreeShape.{nodes, IsUpper};
-ghost use Rattle.tower_core.specs.Trail.{lives_after};
-ghost use Rattle.hist_plain.specs.Event.{node_of};
-
-/// The node that an event names.
-fn node_of(event: &Event) -> u32
-    ensures { result ≡ node_of event.now }
+/// A zero for each node.
+fn zeros(alloc: Global, nodes: usize) -> Result<Vec<u32>, AllocError>
+    ensures len { IfOk result (λ xs. vec_len xs ≡ nodes) }
+    ensures zeros { IfOk result (λ xs. All (λ x. x ≤ 0) xs.items) }
 {
-    match event {
-        Event::Access { node, .. }
-        | Event::PageIn { node, .. }
-        | Event::ZeroFill { node, .. }
-        | Event::PageOut { node, .. }
-        | Event::WriteOut { node, .. }
-        | Event::SyncOut { node, .. }
-        | Event::FlushBack { node, .. }
-        | Event::DenyWrites { node, .. }
-        | Event::WriteBack { node, .. }
-        | Event::DeleteRange { node, .. }
-        | Event::DestroyCache { node, .. }
-        | Event::DonePager { node, .. }
-        | Event::Synced { node, .. } => *node,
-    }
+    vec![in alloc; 0; nodes]
+}
+
+/// The counts of held pages at the start, where the ground alone holds pages.
+fn counts_at_start(alloc: Global, nodes: usize, pages: u32) -> Result<Vec<u32>, AllocError>
+    requires { 0 < nodes }
+    ensures len { IfOk result (λ counts. vec_len counts ≡ nodes) }
+    ensures ground { IfOk result (λ counts. slice_index counts.items 0 ≡ pages) }
+    ensures others { IfOk result (λ counts. (n : ℕ) → 0 < n → slice_index counts.items n ≡ 0) }
+{
+    let mut counts = zeros(alloc, nodes)?;
+    counts[0] = pages;
+    Ok(counts)
+}
+
+/// Counts a page that a node had or has a right on.
+fn recount(held: &mut Vec<u32>, node: u32, had: bool, has: bool)
+    requires node_in { node < vec_len held.old }
+    requires low { slice_index held.old.items node ≤ 1024 }
+    requires had { from_bool had ≤ slice_index held.old.items node }
+    ensures len { vec_len held.new ≡ vec_len held.old }
+    ensures node { slice_index held.new.items node + from_bool had ≡
+        slice_index held.old.items node + from_bool has }
+    ensures others { (n : ℕ) → n ≢ node → slice_index held.new.items n ≡ slice_index held.old.items n }
+{
+    let count = &mut held[node as usize];
+    *count += u32::from(has);
+    *count -= u32::from(had);
 }
 
 /// Adds one to the life of each node of the subtree.

@@ -1,14 +1,14 @@
+//! The tree of nodes over a file.
+
 ghost use Rattle.std.specs.Prelude.{◌≡◌, ◌<◌, ◌≤◌, IfOk, length};
 ghost use Rattle.tower_core.specs.TreeShape.{IsTree, frames_of, is_within, nodes, parent};
 
 use std::alloc::{AllocError, Global};
 use std::marker::Model;
 
-/// The most nodes that a tree has.
-pub const MAX_NODES: usize = 32;
-
-/// The nodes that share a file: a ground, and the layers that stand on it.
-#[derive(Drop)]
+/// The nodes that share a file: node 0, which is the ground, and the layers that stand on it. Seen
+/// as the list of parents and the list of frames.
+#[derive(Debug, Drop)]
 pub struct Tree {
     parents: Vec<u32>,
     frames: Vec<u32>,
@@ -22,14 +22,17 @@ impl Model for Tree {
 
     ghost view = { λ t. record { parents = t.parents.items; frames = t.frames.items } };
 
-    ghost invariant = { λ t. IsTree (record { parents = t.parents.items; frames = t.frames.items }) × (length t.parents.items ≤ 32) };
+    ghost invariant = { λ t.
+        IsTree (record { parents = t.parents.items; frames = t.frames.items })
+        × (length t.parents.items ≤ 32) };
 }
 
 impl Tree {
-    /// The tree of these parents and frames. Frames other than 0 make a leaf.
+    /// The tree of these parents and frames, by node. A node whose frames are not 0 is a leaf, which
+    /// holds rights on at most so many pages. Want of memory is the only refusal.
     pub fn new(alloc: Global, parents: &[u32], frames: &[u32]) -> Result<Tree, AllocError>
         requires tree { IsTree (record { parents = parents.now; frames = frames.now }) }
-        requires few { length parents.now ≤ MAX_NODES }
+        requires few { length parents.now ≤ 32 }
         ensures { IfOk result (λ t. t ≡ record { parents = parents.now; frames = frames.now }) }
     {
         Ok(Tree {

@@ -1,0 +1,136 @@
+//! A store in memory.
+
+ghost use Rattle.std.specs.Prelude.{◌≡◌, ◌+◌, ◌<◌, ◌^◌, ◌↔◌, IsTrue, IfOk, length, slice_get, Some, true, false};
+ghost use Rattle.spr_io.specs.Calls.{fails, one_more, no_calls};
+ghost use Rattle.spr_io.specs.Content.{zeros};
+
+use crate::blocks::Blocks;
+use crate::ordinals::Calls;
+use crate::outside::{Failed, Store};
+use std::alloc::{AllocError, Global};
+use std::marker::Model;
+
+/// A store in memory.
+#[derive(Debug, Drop)]
+pub struct MemStore {
+    held: Blocks,
+    reads: Calls,
+    writes: Calls,
+    flushes: Calls,
+    count: u64,
+}
+
+impl Model for MemStore {
+    ghost use Rattle.std.specs.Prelude.{length};
+    ghost use Rattle.spr_io.specs.Content.{HasShape};
+    ghost use Rattle.spr_io.specs.Memory.{Mem};
+
+    ghost Value = { Mem };
+
+    ghost view = { λ s. record { size = s.held.size; content = s.held.content; reads = s.reads; writes = s.writes; flushes = s.flushes; count = s.count } };
+
+    ghost invariant = { λ s. HasShape s.held.size (length s.held.content.blocks) s.held.content };
+}
+
+impl MemStore {
+    /// A store of zeros, of `size` bytes a block; the lists are the ordinals of the calls that are to fail.
+    pub fn new(
+        alloc: Global,
+        size: u32,
+        blocks: u32,
+        reads: &[u64],
+        writes: &[u64],
+        flushes: &[u64],
+    ) -> Result<MemStore, AllocError>
+        ensures { IfOk result (λ store. store ≡ record { size = size; content = zeros size blocks; reads = no_calls reads.now; writes = no_calls writes.now; flushes = no_calls flushes.now; count = 0 }) }
+    {
+        Ok(MemStore {
+            held: Blocks::new(alloc, size, blocks)?,
+            reads: Calls::new(alloc, reads)?,
+            writes: Calls::new(alloc, writes)?,
+            flushes: Calls::new(alloc, flushes)?,
+            count: 0,
+        })
+    }
+
+    /// Whether it has this size and number of blocks.
+    pub fn has_shape(&self, size: u32, blocks: u32) -> bool
+        ensures { IsTrue result ↔ ((self.now.size ≡ size) × (length self.now.content.blocks ≡ blocks)) }
+    {
+        self.held.size() == size && self.held.number() == blocks
+    }
+
+    /// A block as it is read.
+    pub fn block(&self, block: u32) -> &[u8]
+        requires { block < length self.now.content.blocks }
+        ensures { slice_get self.now.content.blocks block ≡ Some result.now }
+    {
+        self.held.block(block)
+    }
+
+    /// A block as it was kept at the last flush that succeeded.
+    pub fn kept(&self, block: u32) -> &[u8]
+        requires { block < length self.now.content.kept }
+        ensures { slice_get self.now.content.kept block ≡ Some result.now }
+    {
+        self.held.kept(block)
+    }
+}
+
+/// Whether a call fails, which is then counted.
+fn refuses(calls: &mut Calls, count: &mut u64) -> bool
+    ensures answer { result ≡ fails calls.old count.old }
+    ensures calls { calls.new ≡ one_more calls.old }
+    ensures failed { result ≡ true → count.new ≡ count.old + 1 }
+    ensures passed { result ≡ false → count.new ≡ count.old }
+    ensures fits { count.new < 2 ^ 64 }
+{
+    let before = *count;
+    let fails = calls.next_fails() && before < u64::MAX;
+    if fails {
+        *count = before + 1;
+    }
+    fails
+}
+
+impl Store for MemStore {
+    ghost content = { λ s. Some s.content };
+
+    ghost size = { λ s. s.size };
+
+    ghost number = { λ s. length s.content.blocks };
+
+    ghost faults = { λ s. s.count };
+
+    fn read(&mut self, block: u32, out: &mut [u8]) -> Result<(), Failed> {
+        if refuses(&mut self.reads, &mut self.count) {
+            return Err(Failed);
+        }
+        out.copy_from_slice(self.held.block(block));
+        Ok(())
+    }
+
+    fn write(&mut self, block: u32, bytes: &[u8]) -> Result<(), Failed> {
+        if refuses(&mut self.writes, &mut self.count) {
+            return Err(Failed);
+        }
+        self.held.write(block, bytes);
+        Ok(())
+    }
+
+    fn flush(&mut self) -> Result<(), Failed> {
+        if refuses(&mut self.flushes, &mut self.count) {
+            return Err(Failed);
+        }
+        self.held.flush();
+        Ok(())
+    }
+
+    fn count(&self) -> u64 {
+        self.count
+    }
+
+    fn blocks(&self) -> u32 {
+        self.held.number()
+    }
+}

@@ -1,0 +1,191 @@
+//! What the program asks of the world outside of it: five traits.
+//!
+//! A value of each tells contracts what it holds, where that is known, and counts its faults.
+
+ghost use Rattle.std.specs.Prelude.{◌≡◌, ◌<◌, ◌≤◌, ℕ, List, Option, IfOk, OnOk, OnErr, IsErr, length, take, true, false};
+ghost use Rattle.spr_io.specs.Causes.{Rose, HasCause, Counts};
+ghost use Rattle.spr_io.specs.Content.{Content, ReadsBlock, IsShaped, KeepsShape, written, flushed};
+ghost use Rattle.spr_io.specs.Berth.{Berth, Berths, Opens, taken, given, lost, SameElsewhere, SameBerths};
+ghost use Rattle.spr_io.specs.Texts.{Appends, after_write};
+
+use hist_plain::Event;
+use thiserror::Error;
+
+/// The outside failed; the count of what was called says so.
+#[derive(Clone, Copy, Debug, PartialEq, Eq, Error)]
+#[error("the outside failed")]
+pub struct Failed;
+
+/// Why a shelf gives no text.
+#[derive(Clone, Copy, Debug, PartialEq, Eq, Error)]
+pub enum ShelfErr {
+    /// The text is missing or longer than the limit, or the shelf failed.
+    #[error("the text is missing, too long, or cannot be read")]
+    Failed,
+    /// Memory for the text is wanting.
+    #[error("out of memory for the text")]
+    Memory,
+}
+
+/// Why a bay gives no store.
+#[derive(Clone, Copy, Debug, PartialEq, Eq, Error)]
+pub enum BayErr {
+    /// The store is out or has another shape, or the bay failed.
+    #[error("the store is out, has another shape, or cannot be taken")]
+    Failed,
+    /// Memory for the store, or for its return, is wanting.
+    #[error("out of memory for the store")]
+    Memory,
+}
+
+/// Texts by name.
+///
+/// Its count of faults ends at `u64::MAX`; there it counts as risen.
+pub trait Shelf {
+    /// The text of a name, where it is told: there is none, or the text.
+    ghost text: { Self → List ℕ → Option (Option (List ℕ)) };
+
+    /// How many faults there were.
+    ghost faults: { Self → ℕ };
+
+    /// Appends the text of a name to `out`, at most `limit` bytes.
+    ///
+    /// A missing or longer text is a fault. After an error `out` may have gained bytes.
+    fn read(&mut self, name: &str, limit: u32, out: &mut Vec<u8>) -> Result<(), ShelfErr>
+        ensures ok { OnOk result (Appends (text self.old name.now) limit out.old.items out.new.items) }
+        ensures before { take (length out.old.items) out.new.items ≡ out.old.items }
+        ensures same { (other : List ℕ) → text self.new other ≡ text self.old other }
+        ensures cause { HasCause (faults self.old) (faults self.new) (result ≡ Err ShelfErr.Failed) };
+}
+
+/// Blocks of one size, which are kept at a flush.
+///
+/// A refused call changes no block. No call changes the block size or the number of blocks. A store counts
+/// at most `u64::MAX` faults, and then fails no more.
+pub trait Store: Send + Drop {
+    /// The blocks as read, and as kept, where they are told.
+    ghost content: { Self → Option Content };
+
+    /// The bytes of a block.
+    ghost size: { Self → ℕ };
+
+    /// How many blocks there are.
+    ghost number: { Self → ℕ };
+
+    /// How many faults there were.
+    ghost faults: { Self → ℕ };
+
+    /// Reads a block; after an error `out` may have any bytes.
+    fn read(&mut self, block: u32, out: &mut [u8]) -> Result<(), Failed>
+        requires block { block < number self.old }
+        requires size { length out.old ≡ size self.old }
+        ensures bytes { OnOk result (ReadsBlock (content self.old) block out.new) }
+        ensures same { content self.new ≡ content self.old }
+        ensures shape { KeepsShape (size self.old) (number self.old) (size self.new) (number self.new) (content self.new) }
+        ensures cause { Counts (faults self.old) (faults self.new) (IsErr result) };
+
+    /// Writes a block, which is not kept before the next flush.
+    fn write(&mut self, block: u32, bytes: &[u8]) -> Result<(), Failed>
+        requires block { block < number self.old }
+        requires size { length bytes.now ≡ size self.old }
+        ensures ok { OnOk result (content self.new ≡ written block bytes.now (content self.old)) }
+        ensures err { OnErr result (content self.new ≡ content self.old) }
+        ensures shape { KeepsShape (size self.old) (number self.old) (size self.new) (number self.new) (content self.new) }
+        ensures cause { Counts (faults self.old) (faults self.new) (IsErr result) };
+
+    /// Keeps every block as it is read.
+    fn flush(&mut self) -> Result<(), Failed>
+        ensures ok { OnOk result (content self.new ≡ flushed (content self.old)) }
+        ensures err { OnErr result (content self.new ≡ content self.old) }
+        ensures shape { KeepsShape (size self.old) (number self.old) (size self.new) (number self.new) (content self.new) }
+        ensures cause { Counts (faults self.old) (faults self.new) (IsErr result) };
+
+    /// The count of faults.
+    fn count(&self) -> u64
+        ensures { result ≡ faults self.now };
+
+    /// The number of blocks.
+    fn blocks(&self) -> u32
+        ensures number { result ≡ number self.now }
+        ensures shape { IsShaped (size self.now) (number self.now) (content self.now) };
+}
+
+/// Stores by disk and file.
+///
+/// Its count of faults ends at `u64::MAX`; there it counts as risen. It also tells the count of faults of the
+/// store of a name, which for a store that is out is the count with which it was taken.
+pub trait Bay {
+    /// A store of the bay.
+    type Store: Store;
+
+    /// What the bay has under a disk and a file.
+    ghost berth: { Self → Berths };
+
+    /// How many faults of the bay itself there were.
+    ghost faults: { Self → ℕ };
+
+    /// Takes the store of a disk and a file, of `size` bytes a block; one that is not there starts as zeros.
+    ///
+    /// A store of another shape is a fault, and so is one that is out. After an error the bay is as before but
+    /// for its count.
+    fn take(
+        &mut self,
+        disk: &str,
+        file: &str,
+        size: u32,
+        blocks: u32,
+    ) -> Result<Self::Store, BayErr>
+        ensures shape { IfOk result (λ store. KeepsShape size blocks (Self.Store.size store) (Self.Store.number store) (Self.Store.content store)) }
+        ensures content { IfOk result (λ store. Opens size blocks (berth self.old disk.now file.now).holds (Self.Store.content store)) }
+        ensures count { IfOk result (λ store. Self.Store.faults store ≡ (berth self.old disk.now file.now).faults) }
+        ensures was_in { OnOk result ((berth self.old disk.now file.now).out ≡ false) }
+        ensures taken { OnOk result (berth self.new disk.now file.now ≡ taken (berth self.old disk.now file.now)) }
+        ensures others { OnOk result (SameElsewhere disk.now file.now (berth self.old) (berth self.new)) }
+        ensures refused { OnErr result (SameBerths (berth self.old) (berth self.new)) }
+        ensures cause { HasCause (faults self.old) (faults self.new) (result ≡ Err BayErr.Failed) };
+
+    /// Gives a store back, without memory.
+    ///
+    /// A store that was not taken is a fault. A store that is refused is lost.
+    fn give(&mut self, disk: &str, file: &str, store: Self::Store) -> Result<(), Failed>
+        ensures was_out { OnOk result ((berth self.old disk.now file.now).out ≡ true) }
+        ensures given { OnOk result (berth self.new disk.now file.now ≡ given (Self.Store.content store) (Self.Store.faults store) (berth self.old disk.now file.now)) }
+        ensures refused { OnErr result (berth self.new disk.now file.now ≡ lost (Self.Store.faults store) (berth self.old disk.now file.now)) }
+        ensures others { SameElsewhere disk.now file.now (berth self.old) (berth self.new) }
+        ensures cause { HasCause (faults self.old) (faults self.new) (IsErr result) };
+}
+
+/// Where bytes go.
+///
+/// Its count of faults ends at `u64::MAX`; there it counts as risen.
+pub trait Sink {
+    /// The bytes written, where they are told.
+    ghost written: { Self → Option (List ℕ) };
+
+    /// How many faults there were.
+    ghost faults: { Self → ℕ };
+
+    /// Takes some of the first bytes of a piece, and answers how many.
+    ///
+    /// A write that takes nothing of a piece that is not empty is a fault.
+    fn write(&mut self, bytes: &[u8]) -> Result<usize, Failed>
+        ensures within { IfOk result (λ n. n ≤ length bytes.now) }
+        ensures ok { IfOk result (λ n. written self.new ≡ after_write n bytes.now (written self.old)) }
+        ensures err { OnErr result (written self.new ≡ written self.old) }
+        ensures cause { HasCause (faults self.old) (faults self.new) (IsErr result) }
+        ensures nothing { result ≡ Ok 0 → 0 < length bytes.now → Rose (faults self.old) (faults self.new) };
+}
+
+/// What may happen between two steps of a caller; it tells nothing.
+pub trait Gate: Sync {
+    /// Is called after each event of `caller` in a file, while no lock is held.
+    fn between(&self, caller: u32, file: u32, event: &Event);
+}
+
+/// A gate that does nothing.
+#[derive(Clone, Copy, Debug)]
+pub struct OpenGate;
+
+impl Gate for OpenGate {
+    fn between(&self, _caller: u32, _file: u32, _event: &Event) {}
+}
