@@ -24,11 +24,11 @@ use Rattle.run_defs.specs.declared.setting.Setting.{Setting}
 use Rattle.run_defs.specs.Setting.{shape_of}
 use Rattle.run_defs.specs.declared.log.History.{History}
 use Rattle.run_defs.specs.Log.{Item, entered, noted, more, events_of, items, items_from, first_file, by_caller, file_of, place_of, history_at, IsFull}
-use Rattle.run_defs.specs.Plan.{Plan, ends, calls, Request, Ask, access, sync, Asks, Made, plan}
+use Rattle.run_defs.specs.Plan.{Plan, ends, calls, Request, Ask, access, sync, Asks, Made, Goes, plan}
 use Rattle.run_defs.specs.Fits.{made_on, SyncsFrom, SyncsInOrder, GoesOn, Did, Went, Worked}
 use Rattle.run_defs.specs.Calls.{IsCall, Answers, Ends, Called, CalledAt, refusal_of}
 use Rattle.run_defs.proofs.Logs.{by_caller-more, more-more, more-nil, events_of-entered}
-use Rattle.run_defs.proofs.Parts.{goes_on_same, goes_on_then, went_none, went_call, went_fault, went_refused, worked_more}
+use Rattle.run_defs.proofs.Parts.{goes_on_same, goes_on_then, did_nothing, went_none, went_call, went_fault, went_refused, worked_more}
 
 same : (c : ℕ) → (c == c) ≡ true
 same c = grind (arith, nat_tests)
@@ -107,42 +107,37 @@ noted_item shape m c disk count file place last is = rw is refl
 no_item : (shape : Shape) (c : ℕ) (file : File) (place : ℕ) (last : List Logged) → last ≡ [] → by_caller c (items_from shape file place last) ≡ []
 no_item shape c file place last is = rw is refl
 
--- a call that was answered, and what the plan does then
-pub line_ok : (shape : Shape) (c : ℕ) (p : Plan) (request : Request) (objects : List OpenObject) (go_on : Told → Plan) (old mid new : List History) (out : List ℕ) (a : Answered) (said : Reply) (left : List OpenObject)
-    → p ≡ calls request objects go_on → (called : CalledAt shape c request old mid out (Ok a)) → Went shape c (go_on called.here.ends.told) mid new said left → Went shape c p old new said left
-line_ok shape c p request objects go_on old mid new out a said left is called went =
+-- a call that was answered, and ended the line
+pub line_end : (shape : Shape) (c : ℕ) (kept : List OpenObject) (p : Plan) (request : Request) (objects : List OpenObject) (go_on : Told → Plan) (old new : List History) (out : List ℕ) (a : Answered) (said : Reply) (left : List OpenObject)
+    → p ≡ calls request objects go_on → (called : CalledAt shape c request old new out (Ok a)) → go_on called.here.ends.told ≡ ends said left → Went shape c kept p old new said left
+line_end shape c kept p request objects go_on old new out a said left is called end =
     let ans = called.here.ends in
     let b : History = more (history_at old request.file) (map Entered called.here.messages) in
     let e : Entry = record { place = place_of b; event = ans.event; told = reply shape (file_of shape b) ans.event } in
-    let did : Did shape c old mid (record { file = request.file; item = entered e } ∷ []) =
-    called_by shape c c request old mid out (Ok a) (entered e ∷ []) called
+    let did : Did shape c old new (record { file = request.file; item = entered e } ∷ []) =
+    called_by shape c c request old new out (Ok a) (entered e ∷ []) called
     (entered_item shape c (file_of shape b) (place_of b) ans.event called.here.last ans.last_is (asks_by c request.ask ans.event ans.call.asks)) (ans.call.from, tt) in
-    went_call shape c p request objects go_on old mid new e ans.told said left is did ans.call.asks ans.told_is went
-
--- a call that was answered, and ended the line
-pub line_end : (shape : Shape) (c : ℕ) (p : Plan) (request : Request) (objects : List OpenObject) (go_on : Told → Plan) (old new : List History) (out : List ℕ) (a : Answered) (said : Reply) (left : List OpenObject)
-    → p ≡ calls request objects go_on → (called : CalledAt shape c request old new out (Ok a)) → go_on called.here.ends.told ≡ ends said left → Went shape c p old new said left
-line_end shape c p request objects go_on old new out a said left is called e =
-    line_ok shape c p request objects go_on old new new out a said left is called (went_none shape c (go_on called.here.ends.told) new said left e)
+    went_call shape c kept p request objects go_on old new new e ans.told [] said left is did ans.call.asks ans.told_is (did_nothing shape c new new refl)
+    (subst (λ (q : Plan). Goes (IsFull new) c q [] said left) (sym end) (refl, refl))
 
 -- a call that was refused ends the line
-pub line_err : (shape : Shape) (c : ℕ) (p : Plan) (request : Request) (objects : List OpenObject) (go_on : Told → Plan) (old new : List History) (out : List ℕ) (err : CallErr)
-    → p ≡ calls request objects go_on → CalledAt shape c request old new out (Err err) → Went shape c p old new (refusal_of err) objects
-line_err shape c p request objects go_on old new out (StoreFault disk count) is called =
+pub line_err : (shape : Shape) (c : ℕ) (kept : List OpenObject) (p : Plan) (request : Request) (objects : List OpenObject) (go_on : Told → Plan) (old new : List History) (out : List ℕ) (err : CallErr)
+    → p ≡ calls request objects go_on → CalledAt shape c request old new out (Err err) → Went shape c kept p old new (refusal_of err) objects
+line_err shape c kept p request objects go_on old new out (StoreFault disk count) is called =
     let b : History = more (history_at old request.file) (map Entered called.here.messages) in
-    went_fault shape c p request objects go_on old new disk count is
+    went_fault shape c kept p request objects go_on old new disk count is
     (called_by shape c c request old new out (Err (StoreFault disk count)) (noted c disk count ∷ []) called
     (noted_item shape c c disk count (file_of shape b) (place_of b) called.here.last called.here.ends ∙ rw (same c) refl) tt)
-line_err shape c p request objects go_on old new out TrailFull is called =
+line_err shape c kept p request objects go_on old new out TrailFull is called =
     let b : History = more (history_at old request.file) (map Entered called.here.messages) in
     let whole : history_at new request.file ≡ b =
     called.here.log ∙ (sym (more-more (history_at old request.file) (map Entered called.here.messages) called.here.last) ∙ more-nil b called.here.last called.here.ends.0) in
     let full : IsFull new request.file = subst (λ (h : History). 4194304 ≤ place_of h) (sym whole) called.here.ends.1 in
-    went_refused shape c p request objects go_on old new (refusal_of TrailFull) is
+    went_refused shape c kept p request objects go_on old new (refusal_of TrailFull) is
     (called_by shape c c request old new out (Err TrailFull) [] called (no_item shape c (file_of shape b) (place_of b) called.here.last called.here.ends.0) tt) full
-line_err shape c p request objects go_on old new out Memory is called =
+line_err shape c kept p request objects go_on old new out Memory is called =
     let b : History = more (history_at old request.file) (map Entered called.here.messages) in
-    went_refused shape c p request objects go_on old new (refusal_of Memory) is
+    went_refused shape c kept p request objects go_on old new (refusal_of Memory) is
     (called_by shape c c request old new out (Err Memory) [] called (no_item shape c (file_of shape b) (place_of b) called.here.last called.here.ends) tt) tt
 
 -- a call of one caller is nothing for another
@@ -165,7 +160,7 @@ called_other shape m c request old new out (Err Memory) n called =
 
 -- one more line of a list, by its index
 pub line_step : (setting : Setting) (c : ℕ) (objects : List OpenObject) (lines : List CallLine) (i : ℕ) (old mid new : List History) (said said' : List Said) (kept : List OpenObject) (reply : Reply) (left : List OpenObject) (d : CallLine)
-    → Worked setting c objects (take i lines) old mid said kept → Went (shape_of setting) c (plan setting kept (get_or lines i d).call) mid new reply left → i < length lines
+    → Worked setting c objects (take i lines) old mid said kept → Went (shape_of setting) c kept (plan setting kept (get_or lines i d).call) mid new reply left → i < length lines
     → said' ≡ said ++ record { line = (get_or lines i d).line; reply = reply } ∷ [] → Worked setting c objects (take (i + 1) lines) old new said' left
 line_step setting c objects lines i old mid new said said' kept reply left d worked went lt is =
     rw (take_more lines i d lt, is) (worked_more setting c objects (take i lines) old mid new said kept (get_or lines i d) reply left worked went)

@@ -1,5 +1,5 @@
 -- How what a caller did is put together.
-use Rattle.std.proofs.Common.{◌≡◌, ℕ, zero, suc, ◌+◌, ◌≤◌, ◌<◌, ◌==◌, Bool, true, false, cond, List, [], ◌∷◌, ◌++◌, length, Option, Some, None, refl, sym, ap, subst, ◌∙◌, arith, append_assoc, filter}
+use Rattle.std.proofs.Common.{◌≡◌, ℕ, zero, suc, ◌+◌, ◌≤◌, ◌<◌, ◌==◌, Bool, true, false, cond, List, [], ◌∷◌, ◌++◌, length, Option, Some, None, refl, sym, ap, subst, ◌∙◌, arith, append_assoc, filter, ◌⊎◌, inl, inr, ⊎_elim}
 use Rattle.std.proofs.lemmas.List.{append-nil}
 use Rattle.hist_plain.specs.declared.event.Event.{Event}
 use Rattle.hist_plain.specs.declared.event.Event.TheVariants as events
@@ -18,7 +18,7 @@ use Rattle.run_defs.specs.Setting.{shape_of}
 use Rattle.run_defs.specs.declared.log.History.{History}
 use Rattle.run_defs.specs.Log.{events_of, items_from, items, first_file, Item, entered, noted, who, by_caller, place_of, history_at, IsFull}
 use Rattle.run_defs.specs.Plan.{Plan, ends, calls, unknown, Request, Ask, Made, Makes, Asks, Goes, Refuses, plan}
-use Rattle.run_defs.specs.Fits.{made_on, SyncsFrom, SyncsInOrder, GoesOn, Did, Went, Worked, Does, Acts, InOrder, last_cut, lines_of}
+use Rattle.run_defs.specs.Fits.{made_on, SyncsFrom, SyncsInOrder, GoesOn, Did, Went, Worked, Does, Line, Lacks, Acts, InOrder, last_cut, lines_of}
 use Rattle.run_defs.proofs.Logs.{length-events_of-append}
 
 pub goes_on_same : (h k : History) → k ≡ h → GoesOn h k
@@ -129,46 +129,53 @@ goes_later F G f c (calls request objects go_on) (m ∷ made) said left h =
     (h.0, makes_later c request.ask m.item _ _ _ (λ t k. goes_later F G f c (go_on t) made said left k) h.1)
 goes_later F G f c unknown made said left h = h
 
+line_later : (F G : ℕ → Type 0) → ((file : ℕ) → F file → G file) → (c : ℕ) (kept : List OpenObject) (p : Plan) (made : List Made) (said : Reply) (left : List OpenObject) → Line F c kept p made said left → Line G c kept p made said left
+line_later F G f c kept p made said left h = ⊎_elim (λ goes. inl (goes_later F G f c p made said left goes)) (λ lacks. inr lacks) h
+
 does_later : (setting : Setting) (F G : ℕ → Type 0) → ((file : ℕ) → F file → G file) → (c : ℕ) (objects : List OpenObject) (lines : List CallLine) (made : List Made) (said : List Said) (left : List OpenObject) → Does setting F c objects lines made said left → Does setting G c objects lines made said left
 does_later setting F G f c objects [] made said left h = h
 does_later setting F G f c objects (line ∷ lines) made [] left h = h
 does_later setting F G f c objects (line ∷ lines) made (s ∷ said) left h =
-    (h.0, h.1, h.2, h.3, h.4, goes_later F G f c (plan setting objects line.call) h.0 s.reply h.2 h.5, does_later setting F G f c h.2 lines h.1 said left h.6)
+    (h.0, h.1, h.2, h.3, h.4, line_later F G f c objects (plan setting objects line.call) h.0 s.reply h.2 h.5, does_later setting F G f c h.2 lines h.1 said left h.6)
 
 -- a plan that makes no call
-pub went_none : (shape : Shape) (c : ℕ) (p : Plan) (old : List History) (reply : Reply) (left : List OpenObject) → p ≡ ends reply left → Went shape c p old old reply left
-went_none shape c p old reply left is = record {
+pub went_none : (shape : Shape) (c : ℕ) (kept : List OpenObject) (p : Plan) (old : List History) (reply : Reply) (left : List OpenObject) → p ≡ ends reply left → Went shape c kept p old old reply left
+went_none shape c kept p old reply left is = record {
   made = [];
   did = did_nothing shape c old old refl;
-  goes = subst (λ (q : Plan). Goes (IsFull old) c q [] reply left) (sym is) (refl, refl);
+  goes = inl (subst (λ (q : Plan). Goes (IsFull old) c q [] reply left) (sym is) (refl, refl));
 }
 
+-- a line for which memory lacked
+pub went_lacks : (shape : Shape) (c : ℕ) (kept : List OpenObject) (p : Plan) (old : List History) → Went shape c kept p old old replies.Memory kept
+went_lacks shape c kept p old = record { made = []; did = did_nothing shape c old old refl; goes = inr (record { nothing = refl; memory = refl; same = refl }) }
+
 -- a call that was answered, and what the plan does then
-pub went_call : (shape : Shape) (c : ℕ) (p : Plan) (request : Request) (objects : List OpenObject) (go_on : Told → Plan) (old mid new : List History) (e : Entry) (told : Told) (reply : Reply) (left : List OpenObject)
+pub went_call : (shape : Shape) (c : ℕ) (kept : List OpenObject) (p : Plan) (request : Request) (objects : List OpenObject) (go_on : Told → Plan) (old mid new : List History) (e : Entry) (told : Told) (rest : List Made) (reply : Reply) (left : List OpenObject)
     → p ≡ calls request objects go_on → Did shape c old mid (record { file = request.file; item = entered e } ∷ []) → Asks c request.ask e.event → e.told ≡ Some told
-    → Went shape c (go_on told) mid new reply left → Went shape c p old new reply left
-went_call shape c p request objects go_on old mid new e told reply left is did asks answered went = record {
-  made = record { file = request.file; item = entered e } ∷ went.made;
-  did = did_then shape c old mid new (record { file = request.file; item = entered e } ∷ []) went.made did went.did;
-  goes = subst (λ (q : Plan). Goes (IsFull new) c q (record { file = request.file; item = entered e } ∷ went.made) reply left) (sym is) (refl, (asks, (told, answered, went.goes)));
+    → Did shape c mid new rest → Goes (IsFull new) c (go_on told) rest reply left → Went shape c kept p old new reply left
+went_call shape c kept p request objects go_on old mid new e told rest reply left is did asks answered more goes = record {
+  made = record { file = request.file; item = entered e } ∷ rest;
+  did = did_then shape c old mid new (record { file = request.file; item = entered e } ∷ []) rest did more;
+  goes = inl (subst (λ (q : Plan). Goes (IsFull new) c q (record { file = request.file; item = entered e } ∷ rest) reply left) (sym is) (refl, (asks, (told, answered, goes))));
 }
 
 -- a call whose store failed
-pub went_fault : (shape : Shape) (c : ℕ) (p : Plan) (request : Request) (objects : List OpenObject) (go_on : Told → Plan) (old new : List History) (disk count : ℕ)
-    → p ≡ calls request objects go_on → Did shape c old new (record { file = request.file; item = noted c disk count } ∷ []) → Went shape c p old new (replies.Store disk count) objects
-went_fault shape c p request objects go_on old new disk count is did = record {
+pub went_fault : (shape : Shape) (c : ℕ) (kept : List OpenObject) (p : Plan) (request : Request) (objects : List OpenObject) (go_on : Told → Plan) (old new : List History) (disk count : ℕ)
+    → p ≡ calls request objects go_on → Did shape c old new (record { file = request.file; item = noted c disk count } ∷ []) → Went shape c kept p old new (replies.Store disk count) objects
+went_fault shape c kept p request objects go_on old new disk count is did = record {
   made = record { file = request.file; item = noted c disk count } ∷ [];
   did = did;
-  goes = subst (λ (q : Plan). Goes (IsFull new) c q (record { file = request.file; item = noted c disk count } ∷ []) (replies.Store disk count) objects) (sym is) (refl, (refl, (refl, refl, refl)));
+  goes = inl (subst (λ (q : Plan). Goes (IsFull new) c q (record { file = request.file; item = noted c disk count } ∷ []) (replies.Store disk count) objects) (sym is) (refl, (refl, (refl, refl, refl))));
 }
 
 -- a call that did nothing
-pub went_refused : (shape : Shape) (c : ℕ) (p : Plan) (request : Request) (objects : List OpenObject) (go_on : Told → Plan) (old new : List History) (reply : Reply)
-    → p ≡ calls request objects go_on → Did shape c old new [] → Refuses (IsFull new request.file) reply → Went shape c p old new reply objects
-went_refused shape c p request objects go_on old new reply is did refused = record {
+pub went_refused : (shape : Shape) (c : ℕ) (kept : List OpenObject) (p : Plan) (request : Request) (objects : List OpenObject) (go_on : Told → Plan) (old new : List History) (reply : Reply)
+    → p ≡ calls request objects go_on → Did shape c old new [] → Refuses (IsFull new request.file) reply → Went shape c kept p old new reply objects
+went_refused shape c kept p request objects go_on old new reply is did refused = record {
   made = [];
   did = did;
-  goes = subst (λ (q : Plan). Goes (IsFull new) c q [] reply objects) (sym is) (refused, refl);
+  goes = inl (subst (λ (q : Plan). Goes (IsFull new) c q [] reply objects) (sym is) (refused, refl));
 }
 
 -- no line yet
@@ -177,22 +184,40 @@ worked_none setting c objects old = record { made = []; did = did_nothing (shape
 
 -- lines done, and one more
 does_more : (setting : Setting) (F : ℕ → Type 0) (c : ℕ) (objects : List OpenObject) (lines : List CallLine) (made : List Made) (said : List Said) (mid : List OpenObject) (line : CallLine) (next : List Made) (reply : Reply) (left : List OpenObject)
-    → Does setting F c objects lines made said mid → Goes F c (plan setting mid line.call) next reply left
+    → Does setting F c objects lines made said mid → Line F c mid (plan setting mid line.call) next reply left
     → Does setting F c objects (lines ++ line ∷ []) (made ++ next) (said ++ record { line = line.line; reply = reply } ∷ []) left
 does_more setting F c objects [] made said mid line next reply left does goes =
-    rw (does.0, does.1) (next, [], left, sym (append-nil next), refl, subst (λ (os : List OpenObject). Goes F c (plan setting os line.call) next reply left) does.2 goes, (refl, refl, refl))
+    rw (does.0, does.1) (next, [], left, sym (append-nil next), refl, subst (λ (os : List OpenObject). Line F c os (plan setting os line.call) next reply left) does.2 goes, (refl, refl, refl))
 does_more setting F c objects (l ∷ lines) made [] mid line next reply left does goes = absurd does
 does_more setting F c objects (l ∷ lines) made (s ∷ said) mid line next reply left does goes =
     (does.0, does.1 ++ next, does.2, ap (λ (ms : List Made). ms ++ next) does.3 ∙ append_assoc does.0 does.1 next, does.4, does.5, does_more setting F c does.2 lines does.1 said mid line next reply left does.6 goes)
 
 pub worked_more : (setting : Setting) (c : ℕ) (objects : List OpenObject) (lines : List CallLine) (old mid new : List History) (said : List Said) (kept : List OpenObject) (line : CallLine) (reply : Reply) (left : List OpenObject)
-    → Worked setting c objects lines old mid said kept → Went (shape_of setting) c (plan setting kept line.call) mid new reply left
+    → Worked setting c objects lines old mid said kept → Went (shape_of setting) c kept (plan setting kept line.call) mid new reply left
     → Worked setting c objects (lines ++ line ∷ []) old new (said ++ record { line = line.line; reply = reply } ∷ []) left
 worked_more setting c objects lines old mid new said kept line reply left worked went = record {
   made = worked.made ++ went.made;
   did = did_then (shape_of setting) c old mid new worked.made went.made worked.did went.did;
   does = does_more setting (IsFull new) c objects lines worked.made said kept line went.made reply left
       (does_later setting (IsFull mid) (IsFull new) (full_later mid new went.did.later) c objects lines worked.made said kept worked.does) went.goes;
+}
+
+does_append : (setting : Setting) (F : ℕ → Type 0) (c : ℕ) (objects : List OpenObject) (xs ys : List CallLine) (made made' : List Made) (said said' : List Said) (mid left : List OpenObject)
+    → Does setting F c objects xs made said mid → Does setting F c mid ys made' said' left → Does setting F c objects (xs ++ ys) (made ++ made') (said ++ said') left
+does_append setting F c objects [] ys made made' said said' mid left f g =
+    rw (f.0, f.1) (subst (λ (os : List OpenObject). Does setting F c os ys made' said' left) f.2 g)
+does_append setting F c objects (l ∷ xs) ys made made' [] said' mid left f g = absurd f
+does_append setting F c objects (l ∷ xs) ys made made' (s ∷ said) said' mid left f g =
+    (f.0, f.1 ++ made', f.2, ap (λ (ms : List Made). ms ++ made') f.3 ∙ append_assoc f.0 f.1 made', f.4, f.5, does_append setting F c f.2 xs ys f.1 made' said said' mid left f.6 g)
+
+-- lines done, and then more lines
+pub worked_append : (setting : Setting) (c : ℕ) (objects : List OpenObject) (xs ys : List CallLine) (old mid new : List History) (said said' : List Said) (kept left : List OpenObject)
+    → Worked setting c objects xs old mid said kept → Worked setting c kept ys mid new said' left → Worked setting c objects (xs ++ ys) old new (said ++ said') left
+worked_append setting c objects xs ys old mid new said said' kept left f g = record {
+  made = f.made ++ g.made;
+  did = did_then (shape_of setting) c old mid new f.made g.made f.did g.did;
+  does = does_append setting (IsFull new) c objects xs ys f.made g.made said said' kept left
+      (does_later setting (IsFull mid) (IsFull new) (full_later mid new g.did.later) c objects xs f.made said kept f.does) g.does;
 }
 
 -- nothing, and then lines done

@@ -1,5 +1,5 @@
 -- Which histories and answers a script may have.
-use Rattle.std.specs.Prelude.{◌≡◌, ℕ, suc, ◌+◌, ◌≤◌, ◌==◌, List, [], ◌∷◌, ◌++◌, length, map, filter, if◌then◌else◌, IfSome}
+use Rattle.std.specs.Prelude.{◌≡◌, ◌⊎◌, ℕ, suc, ◌+◌, ◌≤◌, ◌==◌, List, [], ◌∷◌, ◌++◌, length, map, filter, if◌then◌else◌, IfSome}
 use Rattle.std.specs.List.{AllByRecursion}
 use Rattle.hist_plain.specs.declared.event.Event.{Event}
 use Rattle.hist_plain.specs.declared.event.Event.TheVariants as events
@@ -11,6 +11,7 @@ use Rattle.script_text.specs.declared.script.CallLine.{CallLine}
 use Rattle.script_text.specs.declared.script.Said.{Said}
 use Rattle.script_text.specs.declared.script.Script.{Script}
 use Rattle.script_text.specs.declared.script.Reply.{Reply}
+use Rattle.script_text.specs.declared.script.Reply.TheVariants as replies
 use Rattle.run_defs.specs.declared.log.Logged.{Logged}
 use Rattle.run_defs.specs.declared.object.OpenObject.{OpenObject}
 use Rattle.run_defs.specs.declared.setting.Setting.{Setting}
@@ -20,13 +21,23 @@ use Rattle.run_defs.specs.declared.log.History.{History}
 use Rattle.run_defs.specs.Log.{Item, entered, noted, items, by_caller, who, place_of, trail_of, history_at, IsFull}
 use Rattle.run_defs.specs.Plan.{Plan, Made, plan, plan_call, asking, sync, Goes}
 
+-- a line for which memory lacked before it did anything
+pub record Lacks (kept : List OpenObject) (made : List Made) (said : Reply) (left : List OpenObject) : Type 0 where
+  pub nothing : made ≡ []
+  pub memory : said ≡ replies.Memory
+  pub same : left ≡ kept
+
+-- a line with these objects: it follows its plan, or memory lacked for it
+abbrev pub Line : (ℕ → Type 0) → ℕ → List OpenObject → Plan → List Made → Reply → List OpenObject → Type 0
+Line Full caller kept p made said left = Goes Full caller p made said left ⊎ Lacks kept made said left
+
 -- a client's lines, one after another: each makes the next things, and has the next answer
 abbrev pub Does : Setting → (ℕ → Type 0) → ℕ → List OpenObject → List CallLine → List Made → List Said → List OpenObject → Type 0
 Does setting Full caller objects [] made said left = (made ≡ []) × (said ≡ []) × (left ≡ objects)
 Does setting Full caller objects (line ∷ lines) made [] left = ⊥
 Does setting Full caller objects (line ∷ lines) made (said ∷ more) left =
     (first : List Made) × (rest : List Made) × (mid : List OpenObject) × (made ≡ first ++ rest) × (said.line ≡ line.line)
-    × Goes Full caller (plan setting objects line.call) first said.reply mid × Does setting Full caller mid lines rest more left
+    × Line Full caller objects (plan setting objects line.call) first said.reply mid × Does setting Full caller mid lines rest more left
 
 -- what was made at a file
 abbrev pub made_on : ℕ → List Made → List Item
@@ -56,11 +67,11 @@ pub record Did (shape : Shape) (caller : ℕ) (old new : List History) (made : L
   pub part : (file : ℕ) → by_caller caller (items shape (history_at new file)) ≡ by_caller caller (items shape (history_at old file)) ++ made_on file made
   pub syncs : (file : ℕ) → SyncsInOrder (place_of (history_at old file)) (made_on file made)
 
--- between two states of the histories a caller followed a plan
-pub record Went (shape : Shape) (caller : ℕ) (p : Plan) (old new : List History) (said : Reply) (left : List OpenObject) : Type 0 where
+-- between two states of the histories a caller did a line, with these objects and this plan
+pub record Went (shape : Shape) (caller : ℕ) (kept : List OpenObject) (p : Plan) (old new : List History) (said : Reply) (left : List OpenObject) : Type 0 where
   pub made : List Made
   pub did : Did shape caller old new made
-  pub goes : Goes (IsFull new) caller p made said left
+  pub goes : Line (IsFull new) caller kept p made said left
 
 -- between two states of the histories a caller did its lines
 pub record Worked (setting : Setting) (caller : ℕ) (objects : List OpenObject) (lines : List CallLine) (old new : List History) (said : List Said) (left : List OpenObject) : Type 0 where

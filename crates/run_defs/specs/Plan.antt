@@ -17,7 +17,9 @@ use Rattle.script_text.specs.declared.script.Reply.{Reply}
 use Rattle.script_text.specs.declared.script.Reply.TheVariants as replies
 use Rattle.run_defs.specs.declared.object.OpenObject.{OpenObject}
 use Rattle.run_defs.specs.declared.setting.Setting.{Setting}
-use Rattle.run_defs.specs.Setting.{pages_of, Found, route, refused, found_at}
+use Rattle.run_defs.specs.declared.setting.Found.{Found}
+use Rattle.run_defs.specs.declared.setting.Found.TheVariants.{Route, Refused}
+use Rattle.run_defs.specs.Setting.{pages_of, found_at}
 use Rattle.run_defs.specs.Log.{Item, entered, noted}
 
 -- what a line may ask of a file
@@ -82,8 +84,8 @@ opened name file node told = record { name = name; file = file; node = node; lif
 
 -- an Open of what a path leads to; the object is kept where it is answered
 abbrev pub plan_found : List OpenObject → List ℕ → Found → Plan
-plan_found objects name (refused reply) = ends reply objects
-plan_found objects name (route file node) = calls (asking file (access node 0 ops.Open)) objects (λ told. ends (reply_of told) (objects ++ opened name file node told ∷ []))
+plan_found objects name (Refused reply) = ends reply objects
+plan_found objects name (Route file node) = calls (asking file (access node 0 ops.Open)) objects (λ told. ends (reply_of told) (objects ++ opened name file node told ∷ []))
 
 abbrev pub plan_open : Setting → List OpenObject → List ℕ → List (List ℕ) → Option OpenObject → Plan
 plan_open setting objects name path (Some object) = ends replies.ObjectExists objects

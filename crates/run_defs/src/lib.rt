@@ -10,4 +10,4 @@ mod setting;
 pub use call::{Answered, CallErr};
 pub use log::{History, Logged, Note};
 pub use object::{LostStore, OpenObject};
-pub use setting::{FileEntry, NodeEntry, Setting};
+pub use setting::{FileEntry, Found, NodeEntry, Setting};

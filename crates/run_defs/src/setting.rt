@@ -1,6 +1,7 @@
 //! The parts of a mounted stack that scripts and reports name.
 
 use hist_plain::{Items, Text};
+use script_text::Reply;
 
 /// A file of a stack.
 #[derive(Debug, Drop)]
@@ -33,4 +34,21 @@ pub struct Setting {
     pub nodes: Items<NodeEntry>,
     /// The disks' names; a disk's number is its place here.
     pub disks: Items<Text>,
+}
+
+/// What a path of the names leads to.
+#[derive(Debug, Drop)]
+pub enum Found {
+    /// The object of a file at a view.
+    Route {
+        /// The number of the file.
+        file: u32,
+        /// The node of the view.
+        node: u32,
+    },
+    /// A part of the path cannot stand, and this is the answer.
+    Refused {
+        /// The answer.
+        reply: Reply,
+    },
 }

@@ -13,7 +13,7 @@ use crate::answer::{put_client, put_closing};
 use crate::event::{Names, put_entry};
 use crate::status::Status;
 use crate::text::{put, put_line, put_number};
-use hist_plain::{Items, Plain, Text};
+use hist_plain::{Plain, Text};
 use run_defs::{FileEntry, History, Logged, LostStore, NodeEntry, Setting};
 use script_text::{ClientLine, Reply, Said, Script};
 use std::alloc::{AllocError, Global};
@@ -28,7 +28,7 @@ pub struct Run<'a> {
     /// Each file's history, in the order of the files.
     pub histories: &'a [History],
     /// Each client's answers, in the order of the clients.
-    pub said: &'a [Items<Said>],
+    pub said: &'a [Vec<Said>],
     /// The answer of each file's closing sync.
     pub closing: &'a [Reply],
     /// The stores that could not be given back.
@@ -77,19 +77,13 @@ fn put_clients(
     out: &mut Vec<u8>,
     disks: &[&[u8]],
     clients: &[ClientLine],
-    said: &[Items<Said>],
+    said: &[Vec<Said>],
 ) -> Result<(), AllocError>
     requires { length said.now ≡ length clients.now }
-    ensures { OnOk result (out.new.items ≡ out.old.items ++ client_parts (map (λ d. d.now) disks.now) clients.now said.now) }
+    ensures { OnOk result (out.new.items ≡ out.old.items ++ client_parts (map (λ d. d.now) disks.now) clients.now (map (λ v. v.items) said.now)) }
 {
     for (i, client) in clients.iter().enumerate() {
-        put_client(
-            alloc,
-            out,
-            disks,
-            client.name.as_str().as_bytes(),
-            said[i].as_slice(),
-        )?;
+        put_client(alloc, out, disks, client.name.as_str().as_bytes(), &said[i])?;
     }
     Ok(())
 }
@@ -251,7 +245,7 @@ pub fn report(alloc: Global, run: &Run<'_>) -> Result<Vec<u8>, AllocError>
     requires histories { AreHistories (shape_of run.now.setting.now) run.now.setting.now.files run.now.histories.now }
     requires said { length run.now.said.now ≡ length run.now.script.now.clients }
     requires closing { length run.now.closing.now ≡ length run.now.setting.now.files }
-    ensures { IfOk result (λ text. text.items ≡ report run.now.setting.now run.now.script.now run.now.histories.now run.now.said.now run.now.closing.now run.now.lost.now (number_of run.now.status)) }
+    ensures { IfOk result (λ text. text.items ≡ report run.now.setting.now run.now.script.now run.now.histories.now (map (λ v. v.items) run.now.said.now) run.now.closing.now run.now.lost.now (number_of run.now.status)) }
 {
     let mut out = Vec::new(alloc);
     let setting = run.setting;

@@ -4,3 +4,5 @@ pub mod Splits
 pub mod WordLaws
 pub mod LineLaws
 pub mod Printing
+pub mod HexLaws
+pub mod Spellings

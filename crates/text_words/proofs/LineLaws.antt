@@ -1,5 +1,6 @@
 -- A text is its lines, and a line its words.
 use Rattle.std.proofs.Common.{◌≡◌, ◌≢◌, ℕ, zero, suc, ◌+◌, ◌-◌, ◌<◌, ◌≤◌, List, [], ◌∷◌, ◌++◌, length, take, drop, get_or, map, Bool, true, false, ◌&&◌, not, cond, eqb, ltb, Option, Some, None, Result, Ok, Err, inl, inr, refl, sym, ap, subst, ◌∙◌, arith, append_assoc, length-drop}
+use Rattle.std.specs.Prelude.{IfOk, MatchResult}
 use Rattle.std.specs.List.{AllByRecursion, flat_map, join_with_byte, list_all, slice_split, position, position_or_len}
 use Rattle.std.proofs.lemmas.Bool.{and_parts, and_from, cases_Bool, not-true, eqb-true, eq-eqb, ltb-false, not_from_false}
 use Rattle.text_words.specs.declared.lines.LineWhy.{LineWhy}
@@ -8,8 +9,8 @@ use Rattle.std.proofs.Math.Seq.{take-length}
 use Rattle.std.proofs.lemmas.Bool.Decides.{nat_tests}
 use Rattle.std.proofs.lemmas.List.Splits.{join_with_byte-slice_split}
 use Rattle.text_words.proofs.Bytes.{list_all-weaker}
-use Rattle.text_words.specs.Lines.{Row, onto_row, rows_of, row_bytes, is_line_byte, has_bytes, words_in, words_at, is_word_byte, IsWord, AreWords, line_of, text_of}
-use Rattle.text_words.proofs.Splits.{lacks, split_joined, join_all, each, true_each}
+use Rattle.text_words.specs.Lines.{Row, onto_row, rows_of, row_bytes, is_line_byte, has_bytes, words_in, words_at, is_word_byte, IsWord, AreWords, line_of, words_row, text_of, ReadsWords}
+use Rattle.text_words.proofs.Splits.{lacks, split_joined, split_all, IsParts, join_all, each, each_true, true_each}
 
 -- a byte in front of the rows
 onto_bytes : (b : ℕ) (rows : List Row) → flat_map row_bytes (onto_row b rows) ≡ b ∷ flat_map row_bytes rows
@@ -76,26 +77,36 @@ rows_none (b ∷ bs) lt h =
     let past = none_parts (position_or_len (λ c. eqb c 10) (b ∷ bs)) (ltb (position_or_len (λ c. eqb c 10) (b ∷ bs)) (length (b ∷ bs))) h in
     rows_alone b bs (lacks_from_none (b ∷ bs) (ltb-false _ _ past))
 
--- a line of words, as a row
-abbrev pub words_row : List (List ℕ) → Row
-words_row words = record { body = join_with_byte 32 words; ended = true }
-
 three : (a b c : Bool) (x words : List (List ℕ)) → cond (not a) (Err why.Byte) (cond (not b) (Err why.Space) (cond (not c) (Err why.End) (Ok x))) ≡ Ok words → (a ≡ true) × (b ≡ true) × (c ≡ true) × (x ≡ words)
 three true true true x words e = (refl, refl, refl, cc)
 three true true false x words e = absurd cc
 three true false c x words e = absurd cc
 three false b c x words e = absurd cc
 
-ended_bytes : (row : Row) (words : List (List ℕ)) → row.body ≡ join_with_byte 32 words → row.ended ≡ true → row_bytes row ≡ line_of words
-ended_bytes row words body ended = rw (ended, body) refl
+row_is : (row : Row) (body : List ℕ) → row.body ≡ body → row.ended ≡ true → row ≡ record { body = body; ended = true }
+row_is row body same ended = ap (λ (b : List ℕ). record { body = b; ended = row.ended }) same ∙ ap (λ (e : Bool). record { body = body; ended = e }) ended
+
+word_both : (b : ℕ) → (is_line_byte b && not (eqb b 32)) ≡ true → is_word_byte b ≡ true
+word_both b h = grind (arith, nat_tests, h)
+
+are_words : (parts : List (List ℕ)) → IsParts is_line_byte 32 parts → list_all has_bytes parts ≡ true → AreWords parts
+are_words [] h some = h
+are_words (part ∷ parts) h some = both (part ∷ parts) h (each_true has_bytes (part ∷ parts) some) where
+  both : (ws : List (List ℕ)) → AllByRecursion (λ w. list_all (λ b. is_line_byte b && not (eqb b 32)) w ≡ true) ws → AllByRecursion (λ w. has_bytes w ≡ true) ws → AllByRecursion IsWord ws
+  both [] g s = tt
+  both (w ∷ ws) g s = (and_from _ _ s.0 (list_all-weaker (λ b. is_line_byte b && not (eqb b 32)) is_word_byte word_both w g.0), both ws g.1 s.1)
 
 -- the words that are read are the line
-pub words_are : (row : Row) (words : List (List ℕ)) → words_at row ≡ Ok words → (row.body ≡ join_with_byte 32 words) × (row_bytes row ≡ line_of words)
+pub words_are : (row : Row) (words : List (List ℕ)) → words_at row ≡ Ok words → AreWords words × (row ≡ words_row words)
 unfolding words_at
 words_are row words e =
     let t = three (list_all is_line_byte row.body) (list_all has_bytes (words_in row.body)) row.ended (words_in row.body) words e in
     let body : row.body ≡ join_with_byte 32 words = sym (join_with_byte-slice_split 32 row.body) ∙ ap (join_with_byte 32) t.3 in
-    (body, ended_bytes row words body t.2)
+    (subst AreWords t.3 (are_words (words_in row.body) (split_all is_line_byte 32 row.body t.0) t.1), row_is row (join_with_byte 32 words) body t.2)
+
+-- a line that is read is its words in the text
+pub words_bytes : (row : Row) (words : List (List ℕ)) → words_at row ≡ Ok words → row_bytes row ≡ line_of words
+words_bytes row words e = ap row_bytes (words_are row words e).1
 
 word_parts : (word : List ℕ) → (has_bytes word && list_all is_word_byte word) ≡ true → (has_bytes word ≡ true) × (list_all is_word_byte word ≡ true)
 word_parts word h = and_parts (has_bytes word) (list_all is_word_byte word) h
@@ -158,3 +169,22 @@ pub cut_none : (text : List ℕ) → 0 < length text → position (λ b. eqb b 1
 cut_none text lt h =
     let rest : take (length text - length text) (drop (length text) text) ≡ [] = rest_is text (length text) ∙ drop_whole text in
     rows_none text lt h ∙ ap (λ (r : List ℕ). record { body = text; ended = false } ∷ rows_of r) (sym rest)
+
+-- what a function that reads words returned, seen by a view
+pub words_found : {V : Type 0} (view : V → List (List ℕ)) (row : Row) (r : Result V LineWhy) → MatchResult r (λ v. words_at row ≡ Ok (view v)) (λ w. ReadsWords w (words_at row)) → IfOk r (λ v. AreWords (view v) × (row ≡ words_row (view v)))
+words_found view row (Ok v) h = words_are row (view v) h
+words_found view row (Err e) h = tt
+
+memory : (e : LineWhy) (words : List (List ℕ)) → ReadsWords e (Ok words) → e ≡ why.Memory
+memory why.Byte words h = absurd cc
+memory why.Space words h = absurd cc
+memory why.End words h = absurd cc
+memory why.Memory words h = refl
+
+ok_words : (a b : List (List ℕ)) (read : Result (List (List ℕ)) LineWhy) → read ≡ Ok a → read ≡ Ok b → a ≡ b
+ok_words a b read p q = cc
+
+pub words_only : {V : Type 0} (view : V → List (List ℕ)) (row : Row) (r : Result V LineWhy) → MatchResult r (λ v. words_at row ≡ Ok (view v)) (λ w. ReadsWords w (words_at row))
+    → (words : List (List ℕ)) → AreWords words → row ≡ words_row words → MatchResult r (λ v. view v ≡ words) (λ w. w ≡ why.Memory)
+words_only view row (Ok v) h words are is = ok_words (view v) words (words_at row) h (ap words_at is ∙ words_again words are)
+words_only view row (Err e) h words are is = memory e words (subst (ReadsWords e) (ap words_at is ∙ words_again words are) h)

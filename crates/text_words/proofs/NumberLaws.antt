@@ -1,5 +1,6 @@
 -- A number that is read is the number that is written, and the other way round.
 use Rattle.std.proofs.Common.{◌≡◌, ◌≢◌, ℕ, zero, suc, ◌+◌, ◌^◌, ◌<◌, ◌≤◌, List, [], ◌∷◌, length, get_or, Bool, true, false, cond, eqb, ltb, not, ◌&&◌, ◌||◌, Option, Some, None, Result, Ok, Err, rules, inl, inr, refl, sym, ap, subst, ◌∙◌, arith, lit≤}
+use Rattle.std.specs.Prelude.{IfSome}
 use Rattle.std.specs.Char.{is_ascii_digit}
 use Rattle.std.specs.List.{list_all}
 use Rattle.std.specs.Fmt.{decimal}
@@ -86,10 +87,10 @@ decimal_again n small =
     let digits : list_all is_ascii_digit (decimal n) ≡ true = digits_decimal own n small in
     let some : ltb 0 (length (decimal n)) ≡ true = lt-ltb 0 (length (decimal n)) (decimal_nonempty n small) in
     let first : (not (eqb (get_or (decimal n) 0 0) 48) || eqb (length (decimal n)) 1) ≡ true =
-      elim (cases_eq n 0) [
-        | inl e ↦ one_digit n e
-        | inr more ↦ first_digit (get_or (decimal n) 0 0) (length (decimal n)) (first_decimal n (omega arith) small)
-      ] in
+    elim (cases_eq n 0) [
+      | inl e ↦ one_digit n e
+      | inr more ↦ first_digit (get_or (decimal n) 0 0) (length (decimal n)) (first_decimal n (omega arith) small)
+    ] in
     and_from _ _ (and_from _ _ digits some) first
 
 -- what is written as a number is read
@@ -105,3 +106,10 @@ number_again limit n fits lt =
 -- a number fits 32 bits
 pub number_small : (n : ℕ) (w : List ℕ) → number_below 4294967296 w ≡ Some n → n < 4294967296
 number_small n w e = (number_is 4294967296 n w (lit≤ tt) e).1
+
+pub number_found : (limit : ℕ) (w : List ℕ) (r : Option ℕ) → limit ≤ 2 ^ 64 → r ≡ number_below limit w → IfSome r (λ n. (n < limit) × (w ≡ decimal n))
+number_found limit w None fits e = tt
+number_found limit w (Some n) fits e = let is = number_is limit n w fits (sym e) in (is.1, is.0)
+
+pub number_only : (limit : ℕ) (w : List ℕ) (r : Option ℕ) → limit ≤ 2 ^ 64 → r ≡ number_below limit w → (n : ℕ) → n < limit → w ≡ decimal n → r ≡ Some n
+number_only limit w r fits e n lt is = e ∙ ap (number_below limit) is ∙ number_again limit n fits lt

@@ -1,8 +1,8 @@
 -- Lists that are split where a byte stands, and joined by it.
-use Rattle.std.proofs.Common.{◌≡◌, ℕ, ◌+◌, suc, List, [], ◌∷◌, ◌++◌, length, Bool, true, false, ◌&&◌, not, eqb, cond, refl, sym, ap, ◌∙◌, arith, ◌≤◌}
+use Rattle.std.proofs.Common.{◌≡◌, ℕ, ◌+◌, suc, List, [], ◌∷◌, ◌++◌, length, Bool, true, false, ◌&&◌, not, eqb, cond, inl, inr, subst, refl, sym, ap, ◌∙◌, arith, ◌≤◌}
 use Rattle.std.specs.List.{AllByRecursion, flat_map, join_with_byte, list_all, slice_split, onto_first}
 use Rattle.std.specs.Str.{IsAscii}
-use Rattle.std.proofs.lemmas.Bool.{and_parts, not-true, eq-eqb, and_from}
+use Rattle.std.proofs.lemmas.Bool.{and_parts, not-true, eq-eqb, and_from, cases_Bool, not_from_false}
 use Rattle.std.proofs.lemmas.List.{append-nil}
 use Rattle.std.proofs.lemmas.List.Folds.{list_all-append}
 use Rattle.std.proofs.lemmas.List.Splits.{slice_split-cons_yes, slice_split-cons_no}
@@ -66,3 +66,26 @@ each_true p (word ∷ words) h = let parts = and_parts (p word) (list_all p word
 pub true_each : (p : List ℕ → Bool) (words : List (List ℕ)) → AllByRecursion (λ word. p word ≡ true) words → list_all p words ≡ true
 true_each p [] h = refl
 true_each p (word ∷ words) h = and_from _ _ h.0 (true_each p words h.1)
+
+-- parts of a split: there is one, and each has only bytes that pass a test, and not the byte at which it was split
+abbrev pub IsParts : (ℕ → Bool) → ℕ → List (List ℕ) → Type 0
+IsParts p c [] = ⊥
+IsParts p c (part ∷ parts) = AllByRecursion (λ word. list_all (λ b. p b && not (eqb b c)) word ≡ true) (part ∷ parts)
+
+first_part : (p : ℕ → Bool) (c b : ℕ) → p b ≡ true → eqb b c ≡ false → (parts : List (List ℕ)) → IsParts p c parts → IsParts p c (onto_first b parts)
+first_part p c b pb other [] h = absurd h
+first_part p c b pb other (part ∷ parts) h = (and_from _ _ (and_from _ _ pb (not_from_false (eqb b c) other)) h.0, h.1)
+
+new_part : (p : ℕ → Bool) (c : ℕ) (parts : List (List ℕ)) → IsParts p c parts → IsParts p c ([] ∷ parts)
+new_part p c [] h = absurd h
+new_part p c (part ∷ parts) h = (refl, h)
+
+pub split_all : (p : ℕ → Bool) (c : ℕ) (bs : List ℕ) → list_all p bs ≡ true → IsParts p c (slice_split (λ b. eqb b c) bs)
+split_all p c [] h = (refl, tt)
+split_all p c (b ∷ bs) h =
+    let parts = and_parts (p b) (list_all p bs) h in
+    let rest = split_all p c bs parts.1 in
+    elim (cases_Bool (eqb b c)) [
+      | inl same ↦ subst (IsParts p c) (sym (slice_split-cons_yes (λ x. eqb x c) b bs same)) (new_part p c (slice_split (λ x. eqb x c) bs) rest)
+      | inr other ↦ subst (IsParts p c) (sym (slice_split-cons_no (λ x. eqb x c) b bs other)) (first_part p c b parts.0 other (slice_split (λ x. eqb x c) bs) rest)
+    ]

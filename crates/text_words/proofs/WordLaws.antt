@@ -1,5 +1,6 @@
 -- Hex and paths that are read are what is written, and the other way round.
 use Rattle.std.proofs.Common.{◌≡◌, ℕ, ◌<◌, ◌≤◌, List, [], ◌∷◌, length, get_or, Bool, true, false, ◌&&◌, ◌||◌, not, cond, eqb, leb, lit<, Option, Some, None, Result, Ok, Err, refl, sym, ap, subst, ◌∙◌, arith, rules}
+use Rattle.std.specs.Prelude.{IfSome, IfOk}
 use Rattle.std.specs.List.{AllByRecursion, join_with_byte, list_all, slice_split}
 use Rattle.std.specs.Str.{IsUtf8, IsAscii}
 use Rattle.std.proofs.lemmas.Bool.{and_parts, and_from, false_from_ne_true, leb-true, le-leb}
@@ -62,3 +63,12 @@ read_none w text parts same split other = let e : parts ≡ slice_split (λ b. e
 pub read_some : (w text : List ℕ) (parts path : List (List ℕ)) → text ≡ w → parts ≡ slice_split (λ b. eqb b 47) text → is_path parts ≡ true → path ≡ parts → Some path ≡ path_of w
 unfolding path_of
 read_some w text parts path same split is named = let e : parts ≡ slice_split (λ b. eqb b 47) w = split ∙ ap (slice_split (λ b. eqb b 47)) same in rw (ap is_path (sym e) ∙ is) (ap (λ (p : List (List ℕ)). Some p) (named ∙ e))
+
+pub path_found : {E : Type 0} (w : List ℕ) (r : Result (Option (List (List ℕ))) E) → IfOk r (λ path. path ≡ path_of w) → IfOk r (λ path. IfSome path (λ parts. IsPath parts × (w ≡ path_word parts)))
+path_found w (Ok None) e = tt
+path_found w (Ok (Some parts)) e = let is = path_is w parts (sym e) in (is.1, is.0)
+path_found w (Err d) e = tt
+
+pub path_only : {E : Type 0} (w : List ℕ) (r : Result (Option (List (List ℕ))) E) → IfOk r (λ path. path ≡ path_of w) → (parts : List (List ℕ)) → IsPath parts → w ≡ path_word parts → IfOk r (λ path. path ≡ Some parts)
+path_only w (Ok path) e parts h is = e ∙ ap path_of is ∙ path_again parts h
+path_only w (Err d) e parts h is = tt

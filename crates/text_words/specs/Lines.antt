@@ -63,6 +63,10 @@ AreWords (word ∷ words) = AllByRecursion IsWord (word ∷ words)
 abbrev pub line_of : List (List ℕ) → List ℕ
 line_of words = join_with_byte 32 words ++ 10 ∷ []
 
+-- the same, as it is cut from a text
+abbrev pub words_row : List (List ℕ) → Row
+words_row words = record { body = join_with_byte 32 words; ended = true }
+
 -- the text of some lines
 abbrev pub text_of : List (List (List ℕ)) → List ℕ
 text_of lines = flat_map line_of lines

@@ -1,10 +1,11 @@
 //! A text as lines, and a line as words.
 
-ghost use Rattle.std.specs.Prelude.{◌≡◌, ◌==◌, ◌∷◌, ◌<◌, [], not, IfOk, List, ℕ, length, map, position, Bool, Result, Ok, Err, MatchResult};
-ghost use Rattle.std.specs.List.{list_all, slice_split};
-ghost use Rattle.text_words.specs.Lines.{row_of, rows_of, is_line_byte, has_bytes, words_in, words_at, ReadsWords};
+ghost use Rattle.std.specs.Prelude.{◌≡◌, ◌==◌, ◌∷◌, ◌<◌, IfOk, List, ℕ, length, map, position, Ok, MatchResult};
+ghost use Rattle.std.specs.List.{AllByRecursion, flat_map, list_all};
+ghost use Rattle.text_words.specs.Lines.{row_of, rows_of, is_line_byte, has_bytes, words_in, words_at, AreWords, words_row, ReadsWords, row_bytes, text_of};
 
 use std::alloc::{AllocError, Global};
+use thiserror::Error;
 
 /// A line of a text: its bytes without the line feed, and whether it ends with one. Only the last
 /// line of a text can be without.
@@ -17,15 +18,19 @@ pub struct Line<'a> {
 }
 
 /// Why a line is no list of words; of several reasons the first counts.
-#[derive(Clone, Copy, Debug, PartialEq, Eq)]
+#[derive(Clone, Copy, Debug, PartialEq, Eq, Error)]
 pub enum LineWhy {
     /// A byte is not one of space to `~`.
+    #[error("a byte that no line has")]
     Byte,
     /// The line is empty, has a space at an end, or two spaces together.
+    #[error("an empty word")]
     Space,
     /// The line has no line feed.
+    #[error("no line feed at the end")]
     End,
     /// Memory ran out.
+    #[error("out of memory for the words")]
     Memory,
 }
 
@@ -92,9 +97,8 @@ fn have_bytes(words: &[&[u8]]) -> bool
     true
 }
 
-/// The words of a line, or the first reason why it is none.
 #[tactic(auto, unfolding(crate::specs::Lines::words_at))]
-pub fn words_of(alloc: Global, line: Line<'_>) -> Result<Vec<&[u8]>, LineWhy>
+fn checked_words(alloc: Global, line: Line<'_>) -> Result<Vec<&[u8]>, LineWhy>
     ensures { MatchResult result (λ words. words_at (row_of line.entry) ≡ Ok (map (λ word. word.now) words.items)) (λ why. ReadsWords why (words_at (row_of line.entry))) }
 {
     if !are_line_bytes(line.body) {
@@ -109,3 +113,19 @@ pub fn words_of(alloc: Global, line: Line<'_>) -> Result<Vec<&[u8]>, LineWhy>
     }
     Ok(words)
 }
+
+/// The words of a line, or the first reason why it is none.
+pub fn words_of(alloc: Global, line: Line<'_>) -> Result<Vec<&[u8]>, LineWhy>
+    ensures value { MatchResult result (λ words. words_at (row_of line.entry) ≡ Ok (map (λ word. word.now) words.items)) (λ why. ReadsWords why (words_at (row_of line.entry))) }
+    ensures found { IfOk result (λ words. AreWords (map (λ word. word.now) words.items) × (row_of line.entry ≡ words_row (map (λ word. word.now) words.items))) }
+    ensures only { (words : List (List ℕ)) → AreWords words → row_of line.entry ≡ words_row words → MatchResult result (λ read. map (λ word. word.now) read.items ≡ words) (λ why. why ≡ LineWhy.Memory) }
+{
+    checked_words(alloc, line)
+}
+
+/// The lines of a text, one after the other, are the text; and the lines of words are the lines of
+/// the text that they make.
+pub fn lines_and_text()
+    ensures split_joined { (text : List ℕ) → flat_map row_bytes (rows_of text) ≡ text }
+    ensures joined_split { (lines : List (List (List ℕ))) → AllByRecursion AreWords lines → rows_of (text_of lines) ≡ map words_row lines }
+{}

@@ -1,7 +1,8 @@
 //! Reading numbers.
 
-ghost use Rattle.std.specs.Prelude.{◌≡◌, ◌≤◌, ◌^◌, ◌==◌, Option, Some, None};
+ghost use Rattle.std.specs.Prelude.{◌≡◌, ◌<◌, ◌^◌, ℕ, IfSome, Option, Some, None};
 ghost use Rattle.std.specs.Char.{is_ascii_digit};
+ghost use Rattle.std.specs.Fmt.{decimal};
 ghost use Rattle.std.specs.List.{list_all};
 ghost use Rattle.text_words.specs.Numbers.{is_decimal, number_below, number_of, address_of};
 
@@ -36,18 +37,28 @@ fn number_below(word: &[u8], limit: u64) -> Option<u64>
     }
 }
 
-/// The number that a word is: decimal digits without leading zeros, at most 4,294,967,295.
-pub fn number(word: &[u8]) -> Option<u32>
+fn small_number(word: &[u8]) -> Option<u32>
     ensures { result ≡ number_of word.now }
 {
     let value = number_below(word, 4_294_967_296)?;
     Some(value as u32)
 }
 
+/// The number that a word is: decimal digits without leading zeros, at most 4,294,967,295.
+pub fn number(word: &[u8]) -> Option<u32>
+    ensures value { result ≡ number_of word.now }
+    ensures found { IfSome result (λ n. (n < 2 ^ 32) × (word.now ≡ decimal n)) }
+    ensures only { (n : ℕ) → n < 2 ^ 32 → word.now ≡ decimal n → result ≡ Some n }
+{
+    small_number(word)
+}
+
 /// The address that a word is: decimal digits without leading zeros, at most
 /// 9,223,372,036,854,775,807.
 pub fn address(word: &[u8]) -> Option<u64>
-    ensures { result ≡ address_of word.now }
+    ensures value { result ≡ address_of word.now }
+    ensures found { IfSome result (λ n. (n < 2 ^ 63) × (word.now ≡ decimal n)) }
+    ensures only { (n : ℕ) → n < 2 ^ 63 → word.now ≡ decimal n → result ≡ Some n }
 {
     number_below(word, 9_223_372_036_854_775_808)
 }

@@ -1,8 +1,9 @@
 //! Reading names, hex and paths.
 
-ghost use Rattle.std.specs.Prelude.{◌≡◌, ◌==◌, ◌∷◌, [], IfOk, List, ℕ, map, Option, Some, None, option_map};
+ghost use Rattle.std.specs.Prelude.{◌≡◌, ◌==◌, IfOk, IfSome, List, ℕ, map, Some};
 ghost use Rattle.std.specs.List.{list_all, slice_split};
-ghost use Rattle.text_words.specs.Words.{is_letter, is_name_char, is_name, IsName, is_lower_hex, hex_of, is_path, path_of};
+ghost use Rattle.hex.specs.Hex.{encode_lower};
+ghost use Rattle.text_words.specs.Words.{IsHexBytes, IsPath, path_word, is_letter, is_name_char, is_name, IsName, is_lower_hex, hex_of, is_path, path_of};
 
 use hex::FromHexError;
 use hist_plain::{Bytes, Path, Text};
@@ -52,10 +53,8 @@ fn all_lower_hex(word: &[u8]) -> bool
         .all(|c| (48 <= *c && *c <= 57) || (97 <= *c && *c <= 102))
 }
 
-/// The bytes of a hex word: an even number of lower-case digits, 2 to 8,192 of them. `None` where
-/// it is no such word.
 #[tactic(auto, unfolding(crate::specs::Words::hex_of))]
-pub fn hex_bytes(alloc: Global, word: &[u8]) -> Result<Option<Bytes>, AllocError>
+fn decoded(alloc: Global, word: &[u8]) -> Result<Option<Bytes>, AllocError>
     ensures { IfOk result (λ bytes. bytes ≡ hex_of word.now) }
 {
     if word.len() < 2 || word.len() > 8192 || !all_lower_hex(word) {
@@ -66,6 +65,16 @@ pub fn hex_bytes(alloc: Global, word: &[u8]) -> Result<Option<Bytes>, AllocError
         Err(FromHexError::OutOfMemory) => Err(AllocError),
         Err(_) => Ok(None),
     }
+}
+
+/// The bytes of a hex word: an even number of lower-case digits, 2 to 8,192 of them. `None` where
+/// it is no such word.
+pub fn hex_bytes(alloc: Global, word: &[u8]) -> Result<Option<Bytes>, AllocError>
+    ensures value { IfOk result (λ bytes. bytes ≡ hex_of word.now) }
+    ensures found { IfOk result (λ bytes. IfSome bytes (λ b. IsHexBytes b × (word.now ≡ encode_lower b))) }
+    ensures only { (b : List ℕ) → IsHexBytes b → word.now ≡ encode_lower b → IfOk result (λ bytes. bytes ≡ Some b) }
+{
+    decoded(alloc, word)
 }
 
 fn all_names(parts: &[&str]) -> bool
@@ -91,9 +100,8 @@ fn split_path(alloc: Global, word: &str) -> Result<Vec<&str>, AllocError>
     word.split('/').collect(alloc)
 }
 
-/// The path that a word is: 1 to 8 names with `/` between each two. `None` where it is none.
 #[tactic(auto, unfolding(crate::specs::Words::path_of))]
-pub fn read_path(alloc: Global, word: &[u8]) -> Result<Option<Path>, AllocError>
+fn path_parts(alloc: Global, word: &[u8]) -> Result<Option<Path>, AllocError>
     ensures { IfOk result (λ path. path ≡ path_of word.now) }
 {
     let Ok(text) = str::from_utf8(word) else {
@@ -104,4 +112,13 @@ pub fn read_path(alloc: Global, word: &[u8]) -> Result<Option<Path>, AllocError>
         return Ok(None);
     }
     Ok(Some(Path::of(alloc, &parts)?))
+}
+
+/// The path that a word is: 1 to 8 names with `/` between each two. `None` where it is none.
+pub fn read_path(alloc: Global, word: &[u8]) -> Result<Option<Path>, AllocError>
+    ensures value { IfOk result (λ path. path ≡ path_of word.now) }
+    ensures found { IfOk result (λ path. IfSome path (λ parts. IsPath parts × (word.now ≡ path_word parts))) }
+    ensures only { (parts : List (List ℕ)) → IsPath parts → word.now ≡ path_word parts → IfOk result (λ path. path ≡ Some parts) }
+{
+    path_parts(alloc, word)
 }

@@ -1,5 +1,8 @@
-use Rattle.text_words.proofs.WordLaws.{not_utf8, read_none, read_some}
+use Rattle.text_words.proofs.WordLaws.{path_found, path_only}
 use Rattle.text_words.proofs.words.read_path.Goals as goal
 
-pub returns-in_default : goal.returns-in_default
-returns-in_default c = not_utf8 c.args.word.now c.in_default.ensures.cases.0
+pub returns-clause-found : goal.returns-clause-found
+returns-clause-found c = path_found c.args.word.now c.path_parts.result c.path_parts.ensures
+
+pub returns-clause-only : goal.returns-clause-only
+returns-clause-only c = path_only c.args.word.now c.path_parts.result c.path_parts.ensures

@@ -1,0 +1,3 @@
+pub mod TowerLaws
+pub mod LineLaws
+pub mod PhaseLaws
