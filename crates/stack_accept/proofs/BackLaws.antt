@@ -1,19 +1,17 @@
 -- The lines of an accepted text, the last of them first: what later lines leave as it was.
-use Rattle.std.proofs.Common.{◌≡◌, ℕ, List, [], ◌∷◌, ◌++◌, length, reverse, Bool, true, false, not, ◌&&◌, ◌||◌, cond, refl, sym, ap, subst, ◌∙◌, inl, inr}
-use Rattle.std.specs.List.{list_any, AllByRecursion, find}
+use Rattle.std.proofs.Common.{◌≡◌, ℕ, List, [], ◌∷◌, ◌++◌, reverse, Bool, true, false, ◌&&◌, refl, sym, ap, subst, ◌∙◌, inl, inr}
+use Rattle.std.specs.List.{list_any, AllByRecursion}
 use Rattle.std.specs.Str.{bytes_eq}
 use Rattle.std.proofs.lemmas.Slice.Eq.{bytes_eq-Decides}
-use Rattle.std.proofs.lemmas.Bool.{cases_Bool, or_cases, or_parts, or_from, or_left, or_right, and_parts, and_from, and_right, both_ways, false≢true, not-true, not-false, false_from_ne_true, cond-false, cond-true}
+use Rattle.std.proofs.lemmas.Bool.{or_cases, or_right, and_parts, and_right, both_ways, false_from_ne_true, cond-false}
 use Rattle.std.proofs.lemmas.List.{append-nil, append_assoc, reverse-append, reverse-reverse}
 use Rattle.std.proofs.lemmas.List.Sorted.{list_any-IsPermutation, IsPermutation-reverse}
 use Rattle.stack_text.specs.declared.stack.StackLine.{StackLine}
-use Rattle.stack_text.specs.declared.stack.StackLine.TheVariants.{Page, File, Disk, Mirror, Coherency, Dfs, Vmm}
 use Rattle.stack_accept.specs.declared.rule.Rule.{Rule}
-use Rattle.stack_accept.specs.declared.rule.Rule.TheVariants.{NewName, EarlierLayer, CoherentFirst}
-use Rattle.stack_accept.specs.Lines.{is_layer, is_storage, is_mirror, name_of, is_named, is_layer_named, stands_on, is_declared, is_storage_name, is_used, is_side}
+use Rattle.stack_accept.specs.declared.rule.Rule.TheVariants.{NewName}
+use Rattle.stack_accept.specs.Lines.{is_layer, is_storage, name_of, is_named, is_layer_named, is_declared, is_storage_name}
 use Rattle.stack_accept.specs.Rules.{keeps, is_taken, KeepsRules}
 use Rattle.stack_accept.specs.Plan.{plan_back, plan_on}
-use Rattle.stack_accept.proofs.Lists.{list_any_weaker}
 use Rattle.stack_accept.proofs.NodeLaws.{new_none, declared_taken}
 
 -- each line keeps every rule, after those behind it

@@ -1,26 +1,19 @@
 -- The ground of an accepted text has each disk once. The parts of storage that stand under nothing yet have, together, each
 -- disk so far once; at the end the first node is the only part left.
-use Rattle.std.proofs.Common.{◌≡◌, ℕ, zero, suc, ◌+◌, ◌<◌, ◌≤◌, List, [], ◌∷◌, ◌++◌, length, reverse, count_by, Bool, true, false, not, ◌&&◌, ◌||◌, cond, eqb, Option, Some, None, refl, sym, ap, subst, ◌∙◌, inl, inr, arith, append_assoc}
-use Rattle.std.specs.List.{list_any, list_all, filter, flat_map, find, AllByRecursion}
+use Rattle.std.proofs.Common.{◌≡◌, ℕ, List, [], ◌∷◌, ◌++◌, reverse, Bool, true, false, not, ◌&&◌, ◌||◌, cond, refl, sym, ap, subst, ◌∙◌, inl, inr, append_assoc}
+use Rattle.std.specs.List.{list_any, filter, flat_map, AllByRecursion}
 use Rattle.std.specs.List.Sorted.{IsPermutation}
 use Rattle.std.specs.Str.{bytes_eq}
 use Rattle.std.proofs.lemmas.Slice.Eq.{bytes_eq-Decides}
-use Rattle.std.proofs.lemmas.Bool.{cases_Bool, or_cases, or_parts, or_from, or_left, or_right, and_parts, and_from, and_left, and_right, both_ways, false≢true, true≢false, not-true, not-false, not_from_true, not_from_false, false_from_ne_true, cond-false, cond-true, cond_both, eqb-true}
-use Rattle.std.proofs.lemmas.List.{append-nil, reverse-append}
-use Rattle.std.proofs.lemmas.List.Sorted.{IsPermutation-refl, IsPermutation-cons, IsPermutation-trans, IsPermutation-append_left, IsPermutation-append_right, IsPermutation-append_comm}
+use Rattle.std.proofs.lemmas.Bool.{cases_Bool, or_cases, or_parts, or_from, or_left, or_right, and_parts, and_from, both_ways, false≢true, not_from_true, not_from_false, false_from_ne_true, cond-false, cond-true, cond_both}
+use Rattle.std.proofs.lemmas.List.Sorted.{IsPermutation-refl, IsPermutation-trans, IsPermutation-append_left, IsPermutation-append_right, IsPermutation-append_comm}
 use Rattle.stack_text.specs.declared.stack.StackLine.{StackLine}
 use Rattle.stack_text.specs.declared.stack.StackLine.TheVariants.{Page, File, Disk, Mirror, Coherency, Dfs, Vmm}
-use Rattle.stack_accept.specs.declared.rule.Rule.{Rule}
-use Rattle.stack_accept.specs.declared.rule.Rule.TheVariants.{NewName, EarlierLayer, MirrorSides, OneUser, OneGround, CoherentFirst}
-use Rattle.stack_accept.specs.Lines.{is_disk, is_mirror, is_storage, is_layer, name_of, is_word, is_named, is_layer_named, stands_on, is_declared, is_storage_name, is_used, is_side, is_coherent_storage}
-use Rattle.stack_accept.specs.Rules.{keeps, is_taken, may_be_side, may_use, is_unused, is_shared_layer, is_both_sides, has_user, is_node, is_first_node, IsAccepted, KeepsRules}
-use Rattle.stack_accept.specs.Plan.{Plan, OnDisk, OnMirror, OnCoherency, disks_in, plan_back, plan_on, numbers_below}
-use Rattle.stack_accept.specs.Mount.{base_of, ground_name}
-use Rattle.stack_accept.proofs.Lists.{count_by_cons, count_by_none, count_by_reverse, list_any_filter, list_any_weaker}
-use Rattle.stack_accept.proofs.Kept.{kept_at_end}
-use Rattle.stack_accept.proofs.NodeLaws.{word_is, new_none}
-use Rattle.stack_accept.proofs.MountLaws.{kept, first_node, ground_storage}
-use Rattle.stack_accept.proofs.BackLaws.{KeepsBack, keeps_back, any_reverse, tail_back, new_back, declared_back, taken_more, old_storage, storage_more, plan_same, old_plan, bytes_same, bytes_turn, all_reverse}
+use Rattle.stack_accept.specs.declared.rule.Rule.TheVariants.{EarlierLayer}
+use Rattle.stack_accept.specs.Lines.{is_storage, is_named, stands_on, is_declared, is_storage_name, is_used, is_coherent_storage}
+use Rattle.stack_accept.specs.Rules.{keeps, is_taken}
+use Rattle.stack_accept.proofs.Lists.{list_any_filter}
+use Rattle.stack_accept.proofs.BackLaws.{KeepsBack, any_reverse, tail_back, declared_back, old_storage, bytes_turn}
 
 -- a part of storage: a disk, a mirror, or a coherency layer on one
 abbrev pub is_part : List StackLine → StackLine → Bool
@@ -70,7 +63,7 @@ pub distinct_filter : (keep : List ℕ → Bool) (names : List (List ℕ)) → A
 distinct_filter keep [] h = tt
 distinct_filter keep (name ∷ names) h =
     cond_both (keep name) (name ∷ filter keep names) (filter keep names) AreDistinct
-      (λ _. (list_any_filter (λ own. bytes_eq own name) keep names h.0, distinct_filter keep names h.1)) (λ _. distinct_filter keep names h.1)
+    (λ _. (list_any_filter (λ own. bytes_eq own name) keep names h.0, distinct_filter keep names h.1)) (λ _. distinct_filter keep names h.1)
 
 pub has_filter : (keep : List ℕ → Bool) (names : List (List ℕ)) (name : List ℕ) → has names name ≡ true → keep name ≡ true → has (filter keep names) name ≡ true
 has_filter keep [] name e k = absurd (false≢true e)
@@ -107,26 +100,26 @@ filter_both p q [] = refl
 filter_both p q (name ∷ names) = cases (p name) (q name) refl refl (filter_both p q names) where
   cases : (a b : Bool) → p name ≡ a → q name ≡ b → filter (λ n. not (p n || q n)) names ≡ filter (λ n. not (p n)) (filter (λ n. not (q n)) names) → filter (λ n. not (p n || q n)) (name ∷ names) ≡ filter (λ n. not (p n)) (filter (λ n. not (q n)) (name ∷ names))
   cases a true e f rest =
-    let dropped : filter (λ n. not (q n)) (name ∷ names) ≡ filter (λ n. not (q n)) names = ap (λ t. cond (not t) (name ∷ filter (λ n. not (q n)) names) (filter (λ n. not (q n)) names)) f in
-    let both : not (p name || q name) ≡ false = ap not (or_right (p name) (q name) f) in
-    cond-false (not (p name || q name)) (name ∷ filter (λ n. not (p n || q n)) names) (filter (λ n. not (p n || q n)) names) both ∙ rest ∙ ap (filter (λ n. not (p n))) (sym dropped)
+      let dropped : filter (λ n. not (q n)) (name ∷ names) ≡ filter (λ n. not (q n)) names = ap (λ t. cond (not t) (name ∷ filter (λ n. not (q n)) names) (filter (λ n. not (q n)) names)) f in
+      let both : not (p name || q name) ≡ false = ap not (or_right (p name) (q name) f) in
+      cond-false (not (p name || q name)) (name ∷ filter (λ n. not (p n || q n)) names) (filter (λ n. not (p n || q n)) names) both ∙ rest ∙ ap (filter (λ n. not (p n))) (sym dropped)
   cases true false e f rest =
-    let held : filter (λ n. not (q n)) (name ∷ names) ≡ name ∷ filter (λ n. not (q n)) names = ap (λ t. cond (not t) (name ∷ filter (λ n. not (q n)) names) (filter (λ n. not (q n)) names)) f in
-    let both : not (p name || q name) ≡ false = ap not (or_left (p name) (q name) e) in
-    cond-false (not (p name || q name)) (name ∷ filter (λ n. not (p n || q n)) names) (filter (λ n. not (p n || q n)) names) both ∙ rest
-    ∙ sym (ap (filter (λ n. not (p n))) held ∙ cond-false (not (p name)) (name ∷ filter (λ n. not (p n)) (filter (λ n. not (q n)) names)) (filter (λ n. not (p n)) (filter (λ n. not (q n)) names)) (ap not e))
+      let held : filter (λ n. not (q n)) (name ∷ names) ≡ name ∷ filter (λ n. not (q n)) names = ap (λ t. cond (not t) (name ∷ filter (λ n. not (q n)) names) (filter (λ n. not (q n)) names)) f in
+      let both : not (p name || q name) ≡ false = ap not (or_left (p name) (q name) e) in
+      cond-false (not (p name || q name)) (name ∷ filter (λ n. not (p n || q n)) names) (filter (λ n. not (p n || q n)) names) both ∙ rest
+      ∙ sym (ap (filter (λ n. not (p n))) held ∙ cond-false (not (p name)) (name ∷ filter (λ n. not (p n)) (filter (λ n. not (q n)) names)) (filter (λ n. not (p n)) (filter (λ n. not (q n)) names)) (ap not e))
   cases false false e f rest =
-    let held : filter (λ n. not (q n)) (name ∷ names) ≡ name ∷ filter (λ n. not (q n)) names = ap (λ t. cond (not t) (name ∷ filter (λ n. not (q n)) names) (filter (λ n. not (q n)) names)) f in
-    let both : not (p name || q name) ≡ true = ap not (or_from (p name) (q name) e f) in
-    cond-true (not (p name || q name)) (name ∷ filter (λ n. not (p n || q n)) names) (filter (λ n. not (p n || q n)) names) both ∙ ap (λ ns. name ∷ ns) (rest)
-    ∙ sym (ap (filter (λ n. not (p n))) held ∙ cond-true (not (p name)) (name ∷ filter (λ n. not (p n)) (filter (λ n. not (q n)) names)) (filter (λ n. not (p n)) (filter (λ n. not (q n)) names)) (ap not e))
+      let held : filter (λ n. not (q n)) (name ∷ names) ≡ name ∷ filter (λ n. not (q n)) names = ap (λ t. cond (not t) (name ∷ filter (λ n. not (q n)) names) (filter (λ n. not (q n)) names)) f in
+      let both : not (p name || q name) ≡ true = ap not (or_from (p name) (q name) e f) in
+      cond-true (not (p name || q name)) (name ∷ filter (λ n. not (p n || q n)) names) (filter (λ n. not (p n || q n)) names) both ∙ ap (λ ns. name ∷ ns) (rest)
+      ∙ sym (ap (filter (λ n. not (p n))) held ∙ cond-true (not (p name)) (name ∷ filter (λ n. not (p n)) (filter (λ n. not (q n)) names)) (filter (λ n. not (p n)) (filter (λ n. not (q n)) names)) (ap not e))
 
 -- one name taken out of a list
 
 swap_front : (a b c : List ℕ) → IsPermutation (a ++ (b ++ c)) (b ++ (a ++ c))
 swap_front a b c =
     subst (λ xs. IsPermutation xs (b ++ (a ++ c))) (append_assoc a b c)
-      (subst (λ ys. IsPermutation ((a ++ b) ++ c) ys) (append_assoc b a c) (IsPermutation-append_left c (a ++ b) (b ++ a) (IsPermutation-append_comm a b)))
+    (subst (λ ys. IsPermutation ((a ++ b) ++ c) ys) (append_assoc b a c) (IsPermutation-append_left c (a ++ b) (b ++ a) (IsPermutation-append_comm a b)))
 
 abbrev pub without : List ℕ → List (List ℕ) → List (List ℕ)
 without name names = filter (λ own. not (bytes_eq name own)) names
@@ -145,17 +138,17 @@ take_out g (own ∷ names) name d e =
           let same = (bytes_eq-Decides own name).0 here in
           let none : has names name ≡ false = ap (λ n. has names n) (sym same) ∙ d.0 in
           let gone : without name (own ∷ names) ≡ names =
-            cond-false (not (bytes_eq name own)) (own ∷ without name names) (without name names) (not_from_true (bytes_eq name own) ((bytes_eq-Decides name own).1 (sym same))) ∙ without_none name names none in
+          cond-false (not (bytes_eq name own)) (own ∷ without name names) (without name names) (not_from_true (bytes_eq name own) ((bytes_eq-Decides name own).1 (sym same))) ∙ without_none name names none in
           subst (λ ns. IsPermutation (flat_map g (own ∷ names)) (g name ++ flat_map g ns)) (sym gone)
-            (subst (λ n. IsPermutation (flat_map g (own ∷ names)) (g n ++ flat_map g names)) same (IsPermutation-refl (flat_map g (own ∷ names))))
+          (subst (λ n. IsPermutation (flat_map g (own ∷ names)) (g n ++ flat_map g names)) same (IsPermutation-refl (flat_map g (own ∷ names))))
       | inr not_here ↦
           let later : has names name ≡ true = elim (or_cases (bytes_eq own name) (has names name) e) [ inl here ↦ absurd (both_ways (bytes_eq own name) not_here here) | inr l ↦ l ] in
           let held : without name (own ∷ names) ≡ own ∷ without name names =
-            cond-true (not (bytes_eq name own)) (own ∷ without name names) (without name names) (not_from_false (bytes_eq name own) (bytes_turn own name not_here)) in
+          cond-true (not (bytes_eq name own)) (own ∷ without name names) (without name names) (not_from_false (bytes_eq name own) (bytes_turn own name not_here)) in
           let rest = take_out g names name d.1 later in
           subst (λ ns. IsPermutation (flat_map g (own ∷ names)) (g name ++ flat_map g ns)) (sym held)
-            (IsPermutation-trans (flat_map g (own ∷ names)) (g own ++ (g name ++ flat_map g (without name names))) (g name ++ (g own ++ flat_map g (without name names)))
-              (IsPermutation-append_right (g own) (flat_map g names) (g name ++ flat_map g (without name names)) rest) (swap_front (g own) (g name) (flat_map g (without name names))))
+          (IsPermutation-trans (flat_map g (own ∷ names)) (g own ++ (g name ++ flat_map g (without name names))) (g name ++ (g own ++ flat_map g (without name names)))
+          (IsPermutation-append_right (g own) (flat_map g names) (g name ++ flat_map g (without name names)) rest) (swap_front (g own) (g name) (flat_map g (without name names))))
     ]
 
 -- what a line takes is declared behind it, and used
@@ -243,5 +236,5 @@ side_part newer (line ∷ back) name keeps e =
           or_left (is_part back line && is_named name line) (part_named back name) (and_from _ _ part both.1)
       | inr later ↦
           or_right (is_part back line && is_named name line) (part_named back name)
-            (side_part (newer ++ line ∷ []) back name (subst KeepsBack regrouped keeps) (subst (λ ls. list_any (λ l. (is_storage l || is_coherent_storage ls l) && is_named name l) back ≡ true) regrouped later))
+          (side_part (newer ++ line ∷ []) back name (subst KeepsBack regrouped keeps) (subst (λ ls. list_any (λ l. (is_storage l || is_coherent_storage ls l) && is_named name l) back ≡ true) regrouped later))
     ]

@@ -11,7 +11,7 @@ mod rule;
 pub use entries::{FileEntry, GroundPlan, Kind, NodeEntry};
 pub use mounted::{Mounted, accept};
 pub use report::put_check;
-pub use rule::{Rule, Unfit};
+pub use rule::{Rule, Unfit, accepted_by_every_rule};
 
 #[cfg(test)]
 mod tests;

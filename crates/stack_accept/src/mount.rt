@@ -334,7 +334,8 @@ fn count_disks(lines: &[StackLine]) -> usize
     count
 }
 
-/// The plan of the layer of the name.
+/// The plan of the layer of the name. A name that no line declares, and a layer that is no part of
+/// a ground, have no plan of their own: disk 0 stands for it, and no accepted text asks for it.
 pub fn plan(alloc: Global, lines: &[StackLine], name: &str) -> Result<GroundPlan, AllocError>
     requires { length lines.now ≤ MAX_LINES }
     ensures { IfOk result (λ p. plan_of p ≡ plan_back (reverse lines.now) name.now) }

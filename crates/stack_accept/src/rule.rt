@@ -1,9 +1,10 @@
 //! The rules that a stack text has to keep.
 
-ghost use Rattle.std.specs.Prelude.{◌≡◌, ◌≤◌, ◌<◌, ◌+◌, MatchResult, reverse, length, count_by};
+ghost use Rattle.std.specs.Prelude.{◌≡◌, ◌≤◌, ◌<◌, ◌+◌, MatchResult, List, [], ◌↔◌, reverse, length, count_by};
 ghost use Rattle.std.specs.Option.{option_map};
 ghost use Rattle.stack_accept.specs.Lines.{is_upper, is_file, is_disk};
-ghost use Rattle.stack_accept.specs.Rules.{is_page_first, is_new_name, is_taken, may_be_side, has_fit_sides, is_both_sides, is_shared_layer, is_unused, may_use, is_coherent_first, is_near, reaches, depth_back, depth_of, has_room, is_count, is_page_size, is_within_limits, keeps, has_user, is_node, is_first_node, keeps_at_end, rules_in_order, number_of, broken_by, broken_at_end, first_breach, IsAccepted};
+ghost use Rattle.stack_accept.specs.Rules.{is_page_first, is_new_name, is_taken, may_be_side, has_fit_sides, is_both_sides, is_shared_layer, is_unused, may_use, is_coherent_first, is_near, reaches, depth_back, depth_of, has_room, is_count, is_page_size, is_within_limits, keeps, has_user, is_node, is_first_node, keeps_at_end, rules_in_order, number_of, broken_by, broken_at_end, first_breach, IsAccepted, KeepsRules};
+ghost use Rattle.stack_text.specs.declared.stack.StackLine.{StackLine};
 ghost use Rattle.stack_accept.specs.Unfit.{IsUnfit};
 
 use crate::line::{
@@ -432,6 +433,12 @@ fn broken_at_end(lines: &[StackLine]) -> Option<Rule>
         .copied()
         .find(|rule| !rule.is_kept_at_end(lines))
 }
+
+/// A law: the lines are accepted exactly where each line, after those before it, keeps every rule,
+/// and so does the end of the text.
+pub fn accepted_by_every_rule()
+    ensures { (lines : List StackLine) → IsAccepted lines ↔ KeepsRules [] lines }
+{}
 
 /// A broken rule, and the number of the line after so many.
 fn refusal(rule: Rule, before: usize) -> Unfit
