@@ -1,12 +1,12 @@
 -- An accepted text keeps every rule, and a text that keeps every rule is accepted.
-use Rattle.std.proofs.Common.{◌≡◌, ℕ, ◌+◌, List, [], ◌∷◌, ◌++◌, length, Bool, true, false, not, cond, Option, Some, None, refl, sym, ap, subst, ◌∙◌}
+use Rattle.std.proofs.Common.{◌≡◌, List, [], ◌∷◌, ◌++◌, Bool, true, false, not, cond, Option, Some, None, refl, sym, ap, subst, ◌∙◌}
 use Rattle.std.specs.List.{find}
 use Rattle.std.proofs.lemmas.Bool.{not-false, not_from_true}
 use Rattle.std.proofs.lemmas.List.{append-nil, append_assoc}
 use Rattle.stack_text.specs.declared.stack.StackLine.{StackLine}
 use Rattle.stack_accept.specs.declared.rule.Rule.{Rule}
 use Rattle.stack_accept.specs.declared.rule.Rule.TheVariants.{PageFirst, NewName, EarlierLayer, MirrorSides, OneUser, OneGround, CoherentFirst, ManagerOnTop, SameMachine, Limits}
-use Rattle.stack_accept.specs.Rules.{Breach, keeps, keeps_at_end, rules_in_order, broken_by, broken_at_end, breach_or, breach_after, first_breach, IsAccepted, KeepsRules}
+use Rattle.stack_accept.specs.Rules.{Breach, keeps, keeps_at_end, rules_in_order, broken_by, broken_at_end, breach_or, breach_after, KeepsRules}
 
 head_none : (t : Bool) (rule : Rule) (rest : Option Rule) → cond t (Some rule) rest ≡ None → (t ≡ false) × (rest ≡ None)
 head_none true rule rest e = absurd cc

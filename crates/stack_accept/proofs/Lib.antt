@@ -3,5 +3,8 @@ pub mod TreeLaws
 pub mod Kept
 pub mod NodeLaws
 pub mod MountLaws
+pub mod BackLaws
+pub mod DiskLaws
+pub mod GroundLaws
 pub mod SoundLaws
 mod Rows

@@ -1,5 +1,5 @@
 -- Lists: their reverses, counts, tests and places.
-use Rattle.std.proofs.Common.{◌≡◌, ℕ, ◌+◌, ◌<◌, ◌≤◌, List, [], ◌∷◌, ◌++◌, length, map, reverse, Bool, true, false, not, ◌||◌, cond, count_by, Option, Some, None, refl, sym, ap, ◌∙◌, inl, inr, arith}
+use Rattle.std.proofs.Common.{◌≡◌, ℕ, ◌+◌, ◌<◌, ◌≤◌, List, [], ◌∷◌, ◌++◌, length, map, reverse, Bool, true, false, not, ◌||◌, cond, count_by, Some, None, refl, ap, ◌∙◌, inl, inr, arith}
 use Rattle.std.specs.Prelude.{nat_lt, position, ◌⊎◌}
 use Rattle.std.specs.List.{position_or_len, list_any, filter, find}
 use Rattle.std.proofs.lemmas.Bool.{cases_Bool, or_cases, or_left, or_right, or_parts, or_from, cond_both, cond-true, cond-false, both_ways, false≢true, not_from_true, not_from_false}

@@ -1,8 +1,8 @@
 -- The tree of an accepted text is a tree, of at most 32 nodes.
-use Rattle.std.proofs.Common.{◌≡◌, ℕ, zero, suc, ◌+◌, ◌<◌, ◌≤◌, List, [], ◌∷◌, ◌++◌, length, map, count_by, Bool, true, false, not, ◌&&◌, ◌||◌, cond, ltb, eqb, Option, Some, None, refl, sym, ap, subst, ◌∙◌, inl, inr, arith}
+use Rattle.std.proofs.Common.{◌≡◌, ℕ, ◌+◌, ◌≤◌, List, [], ◌∷◌, ◌++◌, length, map, count_by, Bool, true, ◌&&◌, cond, ltb, Some, refl, sym, ap, subst, ◌∙◌, inl, inr, arith}
 use Rattle.std.specs.Option.{option_map_or, option_to_list}
 use Rattle.std.specs.List.{list_any, filter, filter_map, cons_option, find}
-use Rattle.std.proofs.lemmas.Bool.{cases_Bool, false≢true, not-false, not-true, and_parts, eqb-true, ltb-true, cond_both, cond-true, cond-false, or_left, or_right}
+use Rattle.std.proofs.lemmas.Bool.{cases_Bool, false≢true, not-false, not-true, and_parts, eqb-true, ltb-true, cond_both, or_left, or_right}
 use Rattle.std.proofs.lemmas.List.{append-nil, append_assoc, length-map}
 use Rattle.std.proofs.lemmas.List.Sums.{length-filter}
 use Rattle.stack_text.specs.declared.stack.StackLine.{StackLine}
@@ -11,11 +11,11 @@ use Rattle.tower_core.specs.TreeShape.{IsTree}
 use Rattle.stack_accept.specs.declared.rule.Rule.TheVariants.{OneGround, Limits}
 use Rattle.stack_accept.specs.declared.entries.NodeEntry.{NodeEntry}
 use Rattle.stack_accept.specs.Lines.{is_layer, is_storage, is_upper, is_named, is_storage_name}
-use Rattle.stack_accept.specs.Rules.{keeps, is_node, is_first_node, has_room, is_count, depth_of, IsAccepted, KeepsRules}
+use Rattle.stack_accept.specs.Rules.{keeps, is_node, is_first_node, has_room, is_count, IsAccepted, KeepsRules}
 use Rattle.stack_accept.specs.Mount.{base_of, ground_name, ground_line, node_lines, node_of, nodes_of, machines_of, tree_of}
 use Rattle.stack_accept.proofs.Lists.{find_some, list_any_weaker, count_by_none, count_by_push, count_by_weaker}
 use Rattle.stack_accept.proofs.Kept.{kept_after, kept_at_end}
-use Rattle.stack_accept.proofs.TreeLaws.{EachPlaced, ArePlaced, placed_tree}
+use Rattle.stack_accept.proofs.TreeLaws.{ArePlaced, placed_tree}
 use Rattle.stack_accept.proofs.NodeLaws.{line_frames, leafless_first, placed_after}
 
 pub kept : (lines : List StackLine) → IsAccepted lines → KeepsRules [] lines
@@ -131,8 +131,8 @@ has_nodes lines keeps =
     let all : nodes_of lines ≡ bare.node ∷ rest = ap (λ ls. filter_map (λ l. node_of machines nodes l) ls) are ∙ ap (λ o. cons_option o rest) bare.is in
     let layers : AreLayers (found.0 ∷ others) = (or_left (is_storage found.0) (is_upper found.0) found.2, node_layers lines lines) in
     let frames : map (λ node. node.frames) (bare.node ∷ rest) ≡ map (λ l. line_frames l) nodes =
-      ap (λ ns. map (λ (node : NodeEntry). node.frames) ns) (sym (ap (λ o. cons_option o rest) bare.is))
-      ∙ frames_are machines nodes (found.0 ∷ others) layers ∙ ap (λ ls. map (λ l. line_frames l) ls) (sym are) in
+    ap (λ ns. map (λ (node : NodeEntry). node.frames) ns) (sym (ap (λ o. cons_option o rest) bare.is))
+    ∙ frames_are machines nodes (found.0 ∷ others) layers ∙ ap (λ ls. map (λ l. line_frames l) ls) (sym are) in
     record {
       line = found.0;
       ground = bare.node;
@@ -175,10 +175,10 @@ few_nodes lines keeps =
     let has = has_nodes lines keeps in
     let others = filter (λ l. is_node lines l) lines in
     let same : length has.rest ≡ length others =
-      ap length has.others
-      ∙ sym (length-map (filter_map (λ l. node_of (machines_of lines) (node_lines lines) l) others) (λ node. node.frames))
-      ∙ ap length (frames_are (machines_of lines) (node_lines lines) others (node_layers lines lines))
-      ∙ length-map others (λ line. line_frames line) in
+    ap length has.others
+    ∙ sym (length-map (filter_map (λ l. node_of (machines_of lines) (node_lines lines) l) others) (λ node. node.frames))
+    ∙ ap length (frames_are (machines_of lines) (node_lines lines) others (node_layers lines lines))
+    ∙ length-map others (λ line. line_frames line) in
     let counted = length-filter (λ l. is_node lines l) lines in
     let fewer = count_by_weaker (λ l. is_node lines l) (λ l. is_upper l) (λ line is. node_upper lines line is) lines in
     let few = few_by (λ l. is_upper l) 31 upper_step [] lines keeps (omega arith) in

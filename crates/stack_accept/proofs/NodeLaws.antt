@@ -1,31 +1,30 @@
 -- The nodes of an accepted text: each stands on an earlier one that is no memory manager.
-use Rattle.std.proofs.Common.{◌≡◌, ℕ, zero, suc, ◌+◌, ◌<◌, ◌≤◌, List, [], ◌∷◌, ◌++◌, length, map, Bool, true, false, not, ◌&&◌, ◌||◌, cond, ltb, Option, Some, None, refl, sym, ap, subst, ◌∙◌, inl, inr, arith}
-use Rattle.std.specs.Prelude.{slice_index, position, unwrap_or, ◌⊎◌}
-use Rattle.std.specs.List.{position_or_len, list_any, filter, filter_map, cons_option, find}
-use Rattle.std.specs.Str.{bytes_eq}
+use Rattle.std.proofs.Common.{◌≡◌, ℕ, suc, ◌+◌, ◌<◌, List, [], ◌∷◌, ◌++◌, length, map, true, false, not, ◌&&◌, cond, ltb, Option, Some, None, refl, sym, ap, subst, ◌∙◌, inl, inr, arith}
+use Rattle.std.specs.Prelude.{slice_index, unwrap_or}
+use Rattle.std.specs.List.{position_or_len, list_any, filter, filter_map, cons_option}
 use Rattle.std.proofs.lemmas.Slice.Eq.{bytes_eq-Decides}
-use Rattle.std.proofs.lemmas.Bool.{cases_Bool, or_parts, or_from, both_ways, false≢true, true≢false, not-true, not-false, and_parts, and_from, false_from_ne_true, cond_both, cond-true, cond-false, lt-ltb, le-ltb, or_left}
-use Rattle.std.proofs.lemmas.List.{append-nil, append_assoc, length-append}
+use Rattle.std.proofs.lemmas.Bool.{cases_Bool, or_parts, or_from, both_ways, false≢true, true≢false, not-true, and_parts, and_from, false_from_ne_true, cond-true, cond-false, lt-ltb, le-ltb, or_left}
+use Rattle.std.proofs.lemmas.List.{append_assoc, length-append}
 use Rattle.stack_text.specs.declared.stack.StackLine.{StackLine}
 use Rattle.stack_text.specs.declared.stack.StackLine.TheVariants.{Page, File, Disk, Mirror, Coherency, Dfs, Vmm}
 use Rattle.stack_accept.specs.declared.rule.Rule.TheVariants.{NewName, EarlierLayer, ManagerOnTop}
 use Rattle.stack_accept.specs.declared.entries.NodeEntry.{NodeEntry}
-use Rattle.stack_accept.specs.Lines.{is_vmm, is_layer, is_storage, is_upper, name_of, is_word, is_named, is_layer_named, is_declared, is_vmm_name}
+use Rattle.stack_accept.specs.Lines.{is_vmm, is_layer, name_of, is_word, is_named, is_layer_named, is_declared, is_vmm_name}
 use Rattle.stack_accept.specs.Rules.{is_taken, is_new_name, keeps, is_node, KeepsRules}
 use Rattle.stack_accept.specs.Mount.{node_number, node_of}
 use Rattle.stack_accept.proofs.Lists.{list_any_weaker, list_any_filter, list_any_push, place_front}
-use Rattle.stack_accept.proofs.TreeLaws.{frames_at, IsPlaced, EachPlaced}
+use Rattle.stack_accept.proofs.TreeLaws.{frames_at, EachPlaced}
 
 pub word_is : (own : Option (List ℕ)) (word : List ℕ) → is_word own word ≡ true → own ≡ Some word
 word_is None word e = absurd (false≢true e)
 word_is (Some own) word e = ap (λ (w : List ℕ). Some w) ((bytes_eq-Decides own word).0 e)
 
-new_none : (earlier : List StackLine) (name : Option (List ℕ)) (word : List ℕ) → is_new_name earlier name ≡ true → is_taken earlier word ≡ true → is_word name word ≡ false
+pub new_none : (earlier : List StackLine) (name : Option (List ℕ)) (word : List ℕ) → is_new_name earlier name ≡ true → is_taken earlier word ≡ true → is_word name word ≡ false
 new_none earlier name word new taken =
     false_from_ne_true _ (λ same.
-      let is = word_is name word same in
-      let free : is_new_name earlier (Some word) ≡ true = subst (λ n. is_new_name earlier n ≡ true) is new in
-      both_ways (is_taken earlier word) (not-true (is_taken earlier word) free) taken)
+    let is = word_is name word same in
+    let free : is_new_name earlier (Some word) ≡ true = subst (λ n. is_new_name earlier n ≡ true) is new in
+    both_ways (is_taken earlier word) (not-true (is_taken earlier word) free) taken)
 
 -- a name that was taken is not declared again
 pub taken_later : (earlier lines : List StackLine) (name : List ℕ) → KeepsRules earlier lines → is_taken earlier name ≡ true → list_any (λ line. is_named name line) lines ≡ false
@@ -77,7 +76,7 @@ at_place name (line ∷ lines) h =
           ∙ h.0 here
       | inr not_here ↦
           let step : position_or_len (λ l. is_named name l) (line ∷ lines) ≡ suc (position_or_len (λ l. is_named name l) lines) =
-            cond-true (not (is_named name line)) (1 + position_or_len (λ l. is_named name l) lines) 0 (ap not not_here) ∙ omega arith in
+          cond-true (not (is_named name line)) (1 + position_or_len (λ l. is_named name l) lines) 0 (ap not not_here) ∙ omega arith in
           ap (λ n. slice_index (map (λ l. line_frames l) (line ∷ lines)) n) step ∙ at_place name lines h.1
     ]
 
@@ -154,14 +153,17 @@ placed_after text machines all nodes first earlier front [] kept are frames bare
 placed_after text machines all nodes first earlier front (line ∷ lines) kept are frames bare leafless =
     let rest = filter (λ l. is_node text l) lines in
     let low : (base : List ℕ) → is_declared earlier base ≡ true → not (is_vmm_name earlier base) ≡ true → IsLowNumber (first ∷ front) (filter (λ l. is_node text l) (line ∷ lines)) base =
-      λ base declared manager.
-        low_number first front (filter (λ l. is_node text l) (line ∷ lines)) base bare (leafless base (not-true (is_vmm_name earlier base) manager))
-          (list_any_filter (λ l. is_named base l) (λ l. is_node text l) (line ∷ lines) (taken_later earlier (line ∷ lines) base kept (declared_taken earlier base declared))) in
+    λ base declared manager.
+    low_number first front (filter (λ l. is_node text l) (line ∷ lines)) base bare (leafless base (not-true (is_vmm_name earlier base) manager))
+    (list_any_filter (λ l. is_named base l) (λ l. is_node text l) (line ∷ lines) (taken_later earlier (line ∷ lines) base kept (declared_taken earlier base declared))) in
     let based : IsBased earlier nodes all (length (first ∷ front)) =
-      record { at = λ base declared manager.
-        let h = low base declared manager in
-        (subst (λ ns. node_number ns base < length (first ∷ front)) (sym are) h.low,
-          ap (λ fs. slice_index fs (node_number nodes base)) frames ∙ subst (λ ns. slice_index (map (λ l. line_frames l) ns) (node_number ns base) ≡ 0) (sym are) h.bare) } in
+    record {
+      at = λ base declared manager.
+          let h = low base declared manager in (
+            subst (λ ns. node_number ns base < length (first ∷ front)) (sym are) h.low,
+            ap (λ fs. slice_index fs (node_number nodes base)) frames ∙ subst (λ ns. slice_index (map (λ l. line_frames l) ns) (node_number ns base) ≡ 0) (sym are) h.bare,
+          );
+    } in
     elim (cases_Bool (is_node text line)) [
       | inl yes_node ↦
           let kept_lines : filter (λ l. is_node text l) (line ∷ lines) ≡ line ∷ rest = cond-true (is_node text line) (line ∷ rest) rest yes_node in
@@ -169,11 +171,11 @@ placed_after text machines all nodes first earlier front (line ∷ lines) kept a
           let more = placed_after text machines all nodes first (earlier ++ line ∷ []) (front ++ line ∷ []) lines kept.1 regrouped frames bare (leafless_push earlier (first ∷ front) line leafless) in
           let longer : length (first ∷ (front ++ line ∷ [])) ≡ suc (length (first ∷ front)) = omega (arith, length-append front (line ∷ [])) in
           subst (λ ls. EachPlaced all (length (first ∷ front)) (filter_map (λ l. node_of machines nodes l) ls)) (sym kept_lines)
-            (entry_placed text earlier nodes machines all (length (first ∷ front)) line (filter_map (λ l. node_of machines nodes l) rest) yes_node (kept.0 EarlierLayer) (kept.0 ManagerOnTop) based
-              (subst (λ k. EachPlaced all k (filter_map (λ l. node_of machines nodes l) rest)) longer more))
+          (entry_placed text earlier nodes machines all (length (first ∷ front)) line (filter_map (λ l. node_of machines nodes l) rest) yes_node (kept.0 EarlierLayer) (kept.0 ManagerOnTop) based
+          (subst (λ k. EachPlaced all k (filter_map (λ l. node_of machines nodes l) rest)) longer more))
       | inr no_node ↦
           let kept_lines : filter (λ l. is_node text l) (line ∷ lines) ≡ rest = cond-false (is_node text line) (line ∷ rest) rest no_node in
           let regrouped : nodes ≡ (first ∷ front) ++ rest = are ∙ ap (λ ls. (first ∷ front) ++ ls) kept_lines in
           subst (λ ls. EachPlaced all (length (first ∷ front)) (filter_map (λ l. node_of machines nodes l) ls)) (sym kept_lines)
-            (placed_after text machines all nodes first (earlier ++ line ∷ []) front lines kept.1 regrouped frames bare (leafless_more earlier (first ∷ front) line leafless))
+          (placed_after text machines all nodes first (earlier ++ line ∷ []) front lines kept.1 regrouped frames bare (leafless_more earlier (first ∷ front) line leafless))
     ]

@@ -3,8 +3,10 @@ use Rattle.std.proofs.Common.{◌≡◌, ℕ, List, [], ◌∷◌, ◌++◌, cod
 use Rattle.stack_text.specs.declared.stack.StackLine.{StackLine}
 use Rattle.stack_text.specs.declared.stack.StackLine.TheVariants.{Page, File, Disk, Mirror, Coherency, Dfs, Vmm}
 use Rattle.stack_accept.specs.Rules.{Breach, first_breach}
-use Rattle.stack_accept.specs.Plan.{OnDisk, OnMirror, OnCoherency}
+use Rattle.stack_accept.specs.Plan.{OnDisk, OnMirror}
 use Rattle.stack_accept.specs.Mount.{mounted}
+use Rattle.std.specs.Fmt.{digits}
+use Rattle.stack_accept.specs.Check.{check_text}
 
 abbrev a_disk : List StackLine
 a_disk = Page 64 ∷ File (codes "f") 2 ∷ Disk (codes "d") (codes "m") ∷ []
@@ -37,6 +39,10 @@ spread_fits = refl
 
 spread_parents : (mounted spread).tree.parents ≡ 0 ∷ 0 ∷ 1 ∷ 1 ∷ 3 ∷ 1 ∷ []
 spread_parents = refl
+
+spread_text : check_text (mounted spread) ≡ codes "0 d disk m\n1 c coherency m 0\n2 v vmm m 1\n3 r dfs m 1\n4 w vmm n 3\n5 u vmm m 1\n"
+unfolding digits
+spread_text = refl
 
 spread_machines : (mounted spread).machines ≡ codes "m" ∷ codes "n" ∷ []
 spread_machines = refl

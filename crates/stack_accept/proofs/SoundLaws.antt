@@ -1,10 +1,10 @@
 -- An accepted text makes a sound mount.
-use Rattle.std.proofs.Common.{◌≡◌, ℕ, zero, suc, ◌+◌, ◌^◌, ◌<◌, ◌≤◌, List, [], ◌∷◌, ◌++◌, length, map, reverse, count_by, get_or, Bool, true, false, not, ◌&&◌, ◌||◌, cond, eqb, ltb, leb, Option, Some, None, refl, sym, ap, subst, ◌∙◌, inl, inr, arith, lit≤}
-use Rattle.std.specs.Prelude.{position, unwrap_or, ◌⊎◌}
+use Rattle.std.proofs.Common.{◌≡◌, ℕ, zero, suc, ◌+◌, ◌^◌, ◌<◌, ◌≤◌, List, [], ◌∷◌, ◌++◌, length, reverse, count_by, get_or, Bool, true, cond, eqb, ltb, leb, Option, Some, None, refl, sym, ap, subst, ◌∙◌, inl, inr, arith, lit≤}
+use Rattle.std.specs.Prelude.{unwrap_or}
 use Rattle.std.specs.List.{AllByRecursion, list_any, filter, filter_map, cons_option, position_or_len, fold}
 use Rattle.std.specs.Str.{bytes_eq}
 use Rattle.std.proofs.lemmas.Bool.{cases_Bool, false≢true, and_parts, or_cases, ltb-true, leb-true, eqb-true, cond_both, cond-true, cond-false}
-use Rattle.std.proofs.lemmas.List.{append-nil, append_assoc, length-append}
+use Rattle.std.proofs.lemmas.List.{length-append}
 use Rattle.hist_plain.specs.Plain.{IsPageSize}
 use Rattle.stack_text.specs.declared.stack.StackLine.{StackLine}
 use Rattle.stack_text.specs.declared.stack.StackLine.TheVariants.{Page, File, Disk, Mirror, Coherency, Dfs, Vmm}
@@ -14,13 +14,16 @@ use Rattle.stack_accept.specs.declared.entries.NodeEntry.{NodeEntry}
 use Rattle.stack_accept.specs.Lines.{is_page, is_file, is_disk, is_storage, machine_of}
 use Rattle.stack_accept.specs.Rules.{keeps, is_node, is_count, is_page_size, has_room, IsAccepted, KeepsRules}
 use Rattle.stack_accept.specs.Mount.{Mount, mounted, number_in, page_size_of, file_of, disk_of, with_machine, machines_of, ground_name, node_lines, node_of, nodes_of, tree_of}
-use Rattle.stack_accept.specs.Plan.{Plan, plan_back}
+use Rattle.stack_accept.specs.Plan.{Plan, OnDisk, OnMirror, OnCoherency, disks_in, mirror_levels, numbers_below, plan_back}
+use Rattle.std.specs.List.Sorted.{IsPermutation}
+use Rattle.std.proofs.lemmas.List.Sorted.{length_permutation}
+use Rattle.stack_accept.proofs.GroundLaws.{ground_disks}
 use Rattle.tower_core.specs.TreeShape.{TreeShape}
-use Rattle.stack_accept.specs.Sound.{IsInLimits, IsStorageKind, IsLayerKind, IsGroundNode, IsLayerNode, IsMount}
-use Rattle.stack_accept.proofs.Lists.{count_by_cons, count_by_push, count_by_none}
+use Rattle.stack_accept.specs.Sound.{IsInLimits, IsGroundNode, IsLayerNode, IsMount}
+use Rattle.stack_accept.proofs.Lists.{count_by_cons}
 use Rattle.stack_accept.proofs.Kept.{kept_at_end}
-use Rattle.stack_accept.proofs.TreeLaws.{IsPlaced, EachPlaced, ArePlaced}
-use Rattle.stack_accept.proofs.MountLaws.{kept, has_nodes, HasNodes, mounted_tree, few_nodes, few_by, ground_storage}
+use Rattle.stack_accept.proofs.TreeLaws.{EachPlaced, ArePlaced}
+use Rattle.stack_accept.proofs.MountLaws.{kept, has_nodes, mounted_tree, few_nodes, few_by, ground_storage}
 
 in_limits : (n : ℕ) → is_count n ≡ true → IsInLimits n
 in_limits n e = let h = and_parts (leb 1 n) (leb n 1024) e in (leb-true 1 n h.0, leb-true n 1024 h.1)
@@ -38,7 +41,7 @@ any_power size (k ∷ powers) h e =
 power_size : (size : ℕ) → is_page_size size ≡ true → IsPageSize size
 power_size size e =
     any_power size (6 ∷ 7 ∷ 8 ∷ 9 ∷ 10 ∷ 11 ∷ 12 ∷ [])
-      ((lit≤ tt, lit≤ tt), ((lit≤ tt, lit≤ tt), ((lit≤ tt, lit≤ tt), ((lit≤ tt, lit≤ tt), ((lit≤ tt, lit≤ tt), ((lit≤ tt, lit≤ tt), ((lit≤ tt, lit≤ tt), tt))))))) e
+    ((lit≤ tt, lit≤ tt), ((lit≤ tt, lit≤ tt), ((lit≤ tt, lit≤ tt), ((lit≤ tt, lit≤ tt), ((lit≤ tt, lit≤ tt), ((lit≤ tt, lit≤ tt), ((lit≤ tt, lit≤ tt), tt))))))) e
 
 first_page : (line : StackLine) (lines : List StackLine) → is_page line ≡ true → keeps Limits [] line ≡ true → IsPageSize (page_size_of (line ∷ lines))
 first_page (Page size) lines is e = power_size size e
@@ -215,7 +218,7 @@ each_layer text nodes machines earlier (line ∷ lines) some keeps =
     let others = filter (λ l. is_node text l) lines in
     let rest = each_layer text nodes machines (earlier ++ line ∷ []) lines some keeps.1 in
     cond_both (is_node text line) (line ∷ others) others (λ ls. AllByRecursion (IsLayerNode machines) (filter_map (λ l. node_of machines nodes l) ls))
-      (λ is. layer_is text earlier nodes machines line (filter_map (λ l. node_of machines nodes l) others) some is (keeps.0 Limits) rest) (λ _. rest)
+    (λ is. layer_is text earlier nodes machines line (filter_map (λ l. node_of machines nodes l) others) some is (keeps.0 Limits) rest) (λ _. rest)
 
 pub all_at : {X : Type 0} (P : X → Type 0) (xs : List X) (i : ℕ) (d : X) → AllByRecursion P xs → i < length xs → P (get_or xs i d)
 all_at P [] i d h lt = absurd (omega (arith, lt))
@@ -236,6 +239,22 @@ below_at : (ground : NodeEntry) (rest : List NodeEntry) → ArePlaced ground res
 below_at ground rest are zero d above inside = absurd (omega (arith, above))
 below_at ground rest are (suc i) d above inside = let low = placed_below (ground ∷ rest) rest 1 i d are.each (omega (arith, inside)) in omega (arith, low)
 
+-- the ground's disks
+
+length_below : (n : ℕ) → length (numbers_below n) ≡ n
+length_below zero = refl
+length_below (suc n) = let rest = length_below n in omega (arith, rest)
+
+-- more disks than mirrors on one another
+levels_low : (plan : Plan) → mirror_levels plan + 1 ≤ length (disks_in plan)
+levels_low (OnDisk disk) = omega arith
+levels_low (OnMirror left right) =
+    let one = levels_low left in
+    let other = levels_low right in
+    let both = length-append (disks_in left) (disks_in right) in
+    omega (arith, one, other, both)
+levels_low (OnCoherency below) = levels_low below
+
 pub mounted_is : (lines : List StackLine) → IsAccepted lines → IsMount (mounted lines)
 mounted_is lines accepted =
     let keeps = kept lines accepted in
@@ -248,12 +267,20 @@ mounted_is lines accepted =
     let few_files = few_by (λ l. is_file l) 16 file_step [] lines keeps (omega arith) in
     let disk_count = count_disks lines in
     let few_disks = few_by (λ l. is_disk l) 4 disk_step [] lines keeps (omega arith) in
+    let ground = plan_back (reverse lines) (ground_name lines) in
+    let each = ground_disks lines keeps in
+    let disks : IsPermutation (disks_in ground) (numbers_below (length (filter_map (λ line. disk_of line) lines))) = subst (λ n. IsPermutation (disks_in ground) (numbers_below n)) (sym disk_count) each in
+    let levels = levels_low ground in
+    let counted = length_permutation (disks_in ground) (numbers_below (count_by (λ l. is_disk l) lines)) each in
+    let below = length_below (count_by (λ l. is_disk l) lines) in
     record {
       page_size = page_size_is lines keeps;
       some_file = omega (arith, files, file_count);
       few_files = omega (arith, few_files, file_count);
       pages = each_pages [] lines keeps;
       few_disks = omega (arith, few_disks, disk_count);
+      disks = disks;
+      levels = omega (arith, few_disks, levels, counted, below);
       tree = mounted_tree lines accepted;
       served = refl;
       few_nodes = few_nodes lines keeps;

@@ -1,9 +1,8 @@
 -- Nodes of which each stands on an earlier one that is no leaf make a tree.
-use Rattle.std.proofs.Common.{◌≡◌, ℕ, zero, suc, ◌+◌, ◌<◌, ◌≤◌, List, [], ◌∷◌, length, map, Bool, true, false, cond, Option, Some, None, refl, sym, ap, subst, ◌∙◌, arith, inl, inr}
+use Rattle.std.proofs.Common.{◌≡◌, ℕ, zero, suc, ◌+◌, ◌<◌, ◌≤◌, List, [], ◌∷◌, map, Bool, true, false, cond, Option, Some, None, refl, sym, ap, subst, ◌∙◌, arith}
 use Rattle.std.specs.Prelude.{slice_get, slice_index}
-use Rattle.std.proofs.lemmas.Bool.{cases_Bool}
 use Rattle.std.proofs.lemmas.List.{length-map}
-use Rattle.tower_core.specs.TreeShape.{TreeShape, IsTree, IsUpper, IsChild, parent, frames_of, nodes}
+use Rattle.tower_core.specs.TreeShape.{IsTree, IsUpper, IsChild, parent, frames_of}
 use Rattle.stack_accept.specs.declared.entries.NodeEntry.{NodeEntry}
 use Rattle.stack_accept.specs.Mount.{via, via_in, goes_round, below_of, tree_of}
 
@@ -80,7 +79,7 @@ via_leafless : (ground : NodeEntry) (rest : List NodeEntry) → ArePlaced ground
 via_leafless ground rest are zero view machine h = h
 via_leafless ground rest are (suc steps) view machine h =
     either (goes_round (slice_get (ground ∷ rest) view) machine) _ _ (λ n. frames_at (ground ∷ rest) n ≡ 0)
-      (via_leafless ground rest are steps (below_of (slice_get (ground ∷ rest) view)) machine (below_leafless ground rest are view)) h
+    (via_leafless ground rest are steps (below_of (slice_get (ground ∷ rest) view)) machine (below_leafless ground rest are view)) h
 
 abbrev parent_of : List NodeEntry → NodeEntry → ℕ
 parent_of all node = via all node.below node.machine
@@ -105,7 +104,7 @@ leafless : (ground : NodeEntry) (rest : List NodeEntry) → ArePlaced ground res
 leafless ground rest are zero node is = absurd (omega (arith, is.upper.above))
 leafless ground rest are (suc place) node is =
     subst (λ n. frames_at (ground ∷ rest) n ≡ 0) (sym (parent_at (ground ∷ rest) (suc place)) ∙ is.hangs)
-      (parent_leafless ground rest are place (slice_get rest place) (upper_at ground rest are place))
+    (parent_leafless ground rest are place (slice_get rest place) (upper_at ground rest are place))
 
 pub placed_tree : (ground : NodeEntry) (rest : List NodeEntry) → ArePlaced ground rest → IsTree (tree_of (ground ∷ rest))
 placed_tree ground rest are =

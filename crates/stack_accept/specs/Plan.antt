@@ -1,5 +1,5 @@
 -- What a ground is made of, without where it lies in memory.
-use Rattle.std.specs.Prelude.{◌≡◌, ℕ, List, [], ◌∷◌, ◌++◌, zero, suc, if◌then◌else◌, count_by, refl}
+use Rattle.std.specs.Prelude.{◌≡◌, ℕ, List, [], ◌∷◌, ◌++◌, ◌+◌, zero, suc, max, if◌then◌else◌, count_by, refl}
 use Rattle.std.specs.Coded.{Coded, code_by, coded_list, coded_ℕ}
 use Rattle.std.proofs.Common.{◌∙◌}
 use Rattle.stack_text.specs.declared.stack.StackLine.{StackLine}
@@ -49,6 +49,17 @@ abbrev pub disks_in : Plan → List ℕ
 disks_in (OnDisk disk) = disk ∷ []
 disks_in (OnMirror left right) = disks_in left ++ disks_in right
 disks_in (OnCoherency below) = disks_in below
+
+-- how many mirrors stand on one another
+abbrev pub mirror_levels : Plan → ℕ
+mirror_levels (OnDisk disk) = 0
+mirror_levels (OnMirror left right) = max (mirror_levels left) (mirror_levels right) + 1
+mirror_levels (OnCoherency below) = mirror_levels below
+
+-- the numbers below n, the greatest first
+abbrev pub numbers_below : ℕ → List ℕ
+numbers_below zero = []
+numbers_below (suc n) = n ∷ numbers_below n
 
 -- the plan of a layer, given the plan of each earlier one and the lines before it
 abbrev pub plan_on : List StackLine → StackLine → (List ℕ → Plan) → Plan

@@ -1,12 +1,12 @@
 -- The rules of a stack, each as a test of a line with the lines before it, or of the whole text at its end.
-use Rattle.std.specs.Prelude.{◌≡◌, ℕ, suc, ◌+◌, ◌^◌, List, [], ◌∷◌, ◌++◌, length, reverse, count_by, Bool, true, false, not, ◌&&◌, ◌||◌, ◌==◌, nat_lt, nat_le, if◌then◌else◌, Option, Some, None}
+use Rattle.std.specs.Prelude.{◌≡◌, ℕ, ◌+◌, ◌^◌, List, [], ◌∷◌, ◌++◌, length, reverse, count_by, Bool, true, false, not, ◌&&◌, ◌||◌, ◌==◌, nat_lt, nat_le, if◌then◌else◌, Option, Some, None}
 use Rattle.std.specs.List.{list_any, list_all, find}
 use Rattle.std.specs.Str.{bytes_eq}
 use Rattle.stack_text.specs.declared.stack.StackLine.{StackLine}
 use Rattle.stack_text.specs.declared.stack.StackLine.TheVariants.{Page, File, Disk, Mirror, Coherency, Dfs, Vmm}
 use Rattle.stack_accept.specs.declared.rule.Rule.{Rule}
 use Rattle.stack_accept.specs.declared.rule.Rule.TheVariants.{PageFirst, NewName, EarlierLayer, MirrorSides, OneUser, OneGround, CoherentFirst, ManagerOnTop, SameMachine, Limits}
-use Rattle.stack_accept.specs.Lines.{is_file, is_disk, is_mirror, is_coherency, is_dfs, is_page, is_storage, is_upper, name_of, machine_of, is_word, is_named, is_layer_named, all_bases, stands_on, is_declared, is_storage_name, is_vmm_name, is_used, is_side, is_coherent_storage}
+use Rattle.stack_accept.specs.Lines.{is_file, is_disk, is_mirror, is_dfs, is_page, is_storage, is_upper, name_of, machine_of, is_word, is_named, is_layer_named, all_bases, is_declared, is_storage_name, is_vmm_name, is_used, is_side, is_coherent_storage}
 
 -- The page line is first and alone.
 abbrev pub is_page_first : List StackLine → StackLine → Bool

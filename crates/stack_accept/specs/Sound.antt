@@ -5,9 +5,10 @@ use Rattle.hist_plain.specs.Plain.{IsPageSize}
 use Rattle.tower_core.specs.TreeShape.{IsTree}
 use Rattle.stack_accept.specs.declared.entries.Kind.{Kind}
 use Rattle.stack_accept.specs.declared.entries.Kind.TheVariants.{Disk, Mirror, Coherency, Dfs, Vmm}
-use Rattle.stack_accept.specs.declared.entries.FileEntry.{FileEntry}
 use Rattle.stack_accept.specs.declared.entries.NodeEntry.{NodeEntry}
 use Rattle.stack_accept.specs.Mount.{Mount, tree_of}
+use Rattle.stack_accept.specs.Plan.{disks_in, mirror_levels, numbers_below}
+use Rattle.std.specs.List.Sorted.{IsPermutation}
 
 abbrev pub IsInLimits : ℕ → Type 0
 IsInLimits n = (1 ≤ n) × (n ≤ 1024)
@@ -42,6 +43,9 @@ pub record IsMount (m : Mount) : Type 0 where
   pub few_files : length m.files ≤ 16
   pub pages : AllByRecursion (λ file. IsInLimits file.pages) m.files
   pub few_disks : length m.disks ≤ 4
+  -- the ground has each disk once, in any order
+  pub disks : IsPermutation (disks_in m.ground) (numbers_below (length m.disks))
+  pub levels : mirror_levels m.ground ≤ 3
   pub tree : IsTree m.tree
   pub served : m.tree ≡ tree_of m.nodes
   pub few_nodes : length m.nodes ≤ 32

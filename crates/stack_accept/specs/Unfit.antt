@@ -1,5 +1,5 @@
 -- What `accept` says of a stack that breaks a rule.
-use Rattle.std.specs.Prelude.{◌≡◌, Option, Some, None}
+use Rattle.std.specs.Prelude.{◌≡◌, Option, Some}
 use Rattle.stack_accept.specs.declared.rule.Unfit.{Unfit}
 use Rattle.stack_accept.specs.declared.rule.Unfit.TheVariants as unfit
 use Rattle.stack_accept.specs.Rules.{Breach}

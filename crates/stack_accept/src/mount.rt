@@ -9,8 +9,8 @@ ghost use Rattle.stack_accept.specs.Rules.{is_node, is_first_node};
 ghost use Rattle.stack_accept.specs.Plan.{plan_of, plan_back};
 ghost use Rattle.stack_accept.specs.Mount.{number_in, page_size_of, file_of, disk_of, with_machine, machines_of, ground_name, node_lines, node_number, node_of, nodes_of, goes_round, below_of, via, tree_of};
 
-use crate::line::{is_disk, is_layer_named, is_named, is_storage, machine};
 use crate::entries::{FileEntry, GroundPlan, Kind, NodeEntry};
+use crate::line::{is_disk, is_layer_named, is_named, is_storage, machine};
 use crate::rule::{is_first_node, is_node};
 use hist_plain::Text;
 use stack_text::{MAX_LINES, StackLine};
@@ -177,7 +177,11 @@ fn node_number(nodes: &[&StackLine], name: &str) -> u32
 }
 
 /// The node of a layer's line.
-fn node_of(machines: &[Text], nodes: &[&StackLine], line: &StackLine) -> Result<Option<NodeEntry>, AllocError>
+fn node_of(
+    machines: &[Text],
+    nodes: &[&StackLine],
+    line: &StackLine,
+) -> Result<Option<NodeEntry>, AllocError>
     requires machines { length machines.now ≤ MAX_LINES }
     requires nodes { length nodes.now ≤ MAX_LINES + 1 }
     ensures { IfOk result (λ node. node ≡ node_of machines.now (map (λ line. line.now) nodes.now) line.now) }
@@ -186,14 +190,45 @@ fn node_of(machines: &[Text], nodes: &[&StackLine], line: &StackLine) -> Result<
         StackLine::Page { .. } | StackLine::File { .. } => return Ok(None),
         StackLine::Disk { name, machine } => (name, Kind::Disk, machine, 0, 0),
         StackLine::Mirror { name, machine, .. } => (name, Kind::Mirror, machine, 0, 0),
-        StackLine::Coherency { name, machine, below } => {
-            (name, Kind::Coherency, machine, node_number(nodes, below.as_str()), 0)
+        StackLine::Coherency {
+            name,
+            machine,
+            below,
+        } => {
+            (
+                name,
+                Kind::Coherency,
+                machine,
+                node_number(nodes, below.as_str()),
+                0,
+            )
         }
-        StackLine::Dfs { name, machine, below } => {
-            (name, Kind::Dfs, machine, node_number(nodes, below.as_str()), 0)
+        StackLine::Dfs {
+            name,
+            machine,
+            below,
+        } => {
+            (
+                name,
+                Kind::Dfs,
+                machine,
+                node_number(nodes, below.as_str()),
+                0,
+            )
         }
-        StackLine::Vmm { name, machine, below, frames } => {
-            (name, Kind::Vmm, machine, node_number(nodes, below.as_str()), *frames)
+        StackLine::Vmm {
+            name,
+            machine,
+            below,
+            frames,
+        } => {
+            (
+                name,
+                Kind::Vmm,
+                machine,
+                node_number(nodes, below.as_str()),
+                *frames,
+            )
         }
     };
     Ok(Some(NodeEntry {
@@ -299,7 +334,8 @@ fn count_disks(lines: &[StackLine]) -> usize
     count
 }
 
-/// The plan of the layer of the name.
+/// The plan of the layer of the name. A name that no line declares, and a layer that is no part of
+/// a ground, have no plan of their own: disk 0 stands for it, and no accepted text asks for it.
 pub fn plan(alloc: Global, lines: &[StackLine], name: &str) -> Result<GroundPlan, AllocError>
     requires { length lines.now ≤ MAX_LINES }
     ensures { IfOk result (λ p. plan_of p ≡ plan_back (reverse lines.now) name.now) }

@@ -1,15 +1,16 @@
 //! The rules that a stack text has to keep.
 
-ghost use Rattle.std.specs.Prelude.{◌≡◌, ◌≤◌, ◌<◌, ◌+◌, MatchResult, reverse, length, count_by};
+ghost use Rattle.std.specs.Prelude.{◌≡◌, ◌≤◌, ◌<◌, ◌+◌, MatchResult, List, [], ◌↔◌, reverse, length, count_by};
 ghost use Rattle.std.specs.Option.{option_map};
 ghost use Rattle.stack_accept.specs.Lines.{is_upper, is_file, is_disk};
-ghost use Rattle.stack_accept.specs.Rules.{is_page_first, is_new_name, is_taken, may_be_side, has_fit_sides, is_both_sides, is_shared_layer, is_unused, may_use, is_coherent_first, is_near, reaches, depth_back, depth_of, has_room, is_count, is_page_size, is_within_limits, keeps, has_user, is_node, is_first_node, keeps_at_end, rules_in_order, number_of, broken_by, broken_at_end, first_breach, IsAccepted};
+ghost use Rattle.stack_accept.specs.Rules.{is_page_first, is_new_name, is_taken, may_be_side, has_fit_sides, is_both_sides, is_shared_layer, is_unused, may_use, is_coherent_first, is_near, reaches, depth_back, depth_of, has_room, is_count, is_page_size, is_within_limits, keeps, has_user, is_node, is_first_node, keeps_at_end, rules_in_order, number_of, broken_by, broken_at_end, first_breach, IsAccepted, KeepsRules};
+ghost use Rattle.stack_text.specs.declared.stack.StackLine.{StackLine};
 ghost use Rattle.stack_accept.specs.Unfit.{IsUnfit};
 
 use crate::line::{
     is_coherent_storage, is_declared, is_dfs, is_disk, is_file, is_layer_named, is_mirror,
-    is_named, is_page, is_side, is_storage, is_storage_name, is_upper, is_used, is_vmm_name, is_word,
-    machine, name, stands_on,
+    is_named, is_page, is_side, is_storage, is_storage_name, is_upper, is_used, is_vmm_name,
+    is_word, machine, name, stands_on,
 };
 use stack_text::{MAX_LINES, StackLine};
 use std::alloc::AllocError;
@@ -166,9 +167,7 @@ fn is_near(machine_sought: Option<&str>, line: &StackLine) -> bool
 fn reaches(earlier: &[StackLine], machine: Option<&str>, base: &str) -> bool
     ensures { result ≡ reaches earlier.now (option_map (λ n. n.now) machine.entry) base.now }
 {
-    earlier
-        .iter()
-        .any(|line| is_layer_named(base, line) && is_near(machine, line))
+    earlier.iter().any(|line| is_layer_named(base, line) && is_near(machine, line))
 }
 
 /// How many upper layers there are from the layer of the name down to a disk or a mirror.
@@ -434,6 +433,12 @@ fn broken_at_end(lines: &[StackLine]) -> Option<Rule>
         .copied()
         .find(|rule| !rule.is_kept_at_end(lines))
 }
+
+/// A law: the lines are accepted exactly where each line, after those before it, keeps every rule,
+/// and so does the end of the text.
+pub fn accepted_by_every_rule()
+    ensures { (lines : List StackLine) → IsAccepted lines ↔ KeepsRules [] lines }
+{}
 
 /// A broken rule, and the number of the line after so many.
 fn refusal(rule: Rule, before: usize) -> Unfit

@@ -1,19 +1,17 @@
 -- What is read is spelled so, and what is spelled so is read.
 use Rattle.std.proofs.Common.{◌≡◌, ℕ, ◌+◌, ◌<◌, ◌≤◌, List, [], ◌∷◌, ◌++◌, length, map, codes, Bool, true, false, cond, ltb, Option, Some, None, Result, Ok, Err, refl, sym, ap, subst, ◌∙◌, arith}
 use Rattle.std.specs.Fmt.{decimal}
-use Rattle.std.specs.Char.{is_ascii_digit}
 use Rattle.std.specs.List.{AllByRecursion, flat_map}
 use Rattle.std.specs.Str.{bytes_eq}
-use Rattle.std.proofs.lemmas.Bool.{and_from, ltb-false, lt-ltb, le-ltb}
-use Rattle.std.proofs.lemmas.Bool.Decides.{nat_tests}
+use Rattle.std.proofs.lemmas.Bool.{ltb-false, le-ltb}
 use Rattle.std.proofs.lemmas.Slice.Eq.{bytes_eq-Decides}
 use Rattle.text_words.specs.declared.lines.LineWhy.{LineWhy}
-use Rattle.text_words.specs.Lines.{Row, row_bytes, rows_of, words_at, has_bytes, is_word_byte, IsWord, AreWords, line_of, text_of}
-use Rattle.text_words.specs.Words.{is_name, is_name_char, IsName}
+use Rattle.text_words.specs.Lines.{Row, row_bytes, rows_of, words_at, IsWord, AreWords, line_of, text_of, words_row}
+use Rattle.text_words.specs.Words.{is_name, IsName}
 use Rattle.text_words.specs.Numbers.{number_of}
-use Rattle.text_words.proofs.Bytes.{list_all-weaker, name_chars}
-use Rattle.text_words.proofs.LineLaws.{words_row, words_are, words_again, rows_joined, rows_again}
-use Rattle.text_words.proofs.NumberLaws.{number_is, number_again, decimal_again, decimal_parts}
+use Rattle.text_words.proofs.LineLaws.{words_bytes, words_again, rows_joined, rows_again}
+use Rattle.text_words.proofs.Spellings.{name_word, decimal_word}
+use Rattle.text_words.proofs.NumberLaws.{number_is, number_again}
 use Rattle.stack_text.specs.declared.stack.StackLine.{StackLine}
 use Rattle.stack_text.specs.declared.stack.StackLine.TheVariants.{Page, File, Disk, Mirror, Coherency, Dfs, Vmm}
 use Rattle.stack_text.specs.declared.why.StackWhy.{StackWhy}
@@ -260,25 +258,10 @@ line_again (Coherency name machine below) h = coherency_again name machine below
 line_again (Dfs name machine below) h = dfs_again name machine below h
 line_again (Vmm name machine below frames) h = vmm_again name machine below frames h
 
--- a name, and a number in digits, can stand in a line
-char_word : (c : ℕ) → is_name_char c ≡ true → is_word_byte c ≡ true
-char_word c h = grind (arith, nat_tests, h)
-
-digit_word : (c : ℕ) → is_ascii_digit c ≡ true → is_word_byte c ≡ true
-digit_word c h = grind (arith, nat_tests, h)
-
-name_some : (word : List ℕ) → is_name word ≡ true → has_bytes word ≡ true
-name_some [] h = absurd cc
-name_some (c ∷ cs) h = lt-ltb 0 (length (c ∷ cs)) (omega arith)
-
-name_word : (word : List ℕ) → IsName word → IsWord word
-name_word word h = and_from _ _ (name_some word h) (list_all-weaker is_name_char is_word_byte char_word word (name_chars word h))
-
 number_word : (n : ℕ) → n < 4294967296 → IsWord (decimal n)
-number_word n h =
-    let parts = decimal_parts (decimal n) (decimal_again n (omega (arith, h))) in
-    and_from _ _ (lt-ltb 0 (length (decimal n)) parts.1) (list_all-weaker is_ascii_digit is_word_byte digit_word (decimal n) parts.0)
+number_word n h = decimal_word n (omega (arith, h))
 
+-- the words of a line can stand in one
 pub are_words : (line : StackLine) → IsStackLine line → AreWords (line_words line)
 are_words (Page size) h = (refl, (number_word size h, tt))
 are_words (File name pages) h = (refl, (name_word name h.0, (number_word pages h.1, tt)))
@@ -308,8 +291,8 @@ line_at_is number row line e =
     let words = bind_ok (as_stack_why (words_at row)) (λ words. cond (ltb 128 number) (Err why.Long) (words_line words)) line e in
     let short = not_long (ltb 128 number) (words_line words.0) line words.2 in
     let is = words_line_is words.0 line short.1 in
-    let bytes = words_are row words.0 (as_why_ok (words_at row) words.0 words.1) in
-    record { fit = is.0; bytes = bytes.1 ∙ ap line_of is.1; few = ltb-false 128 number short.0 }
+    let bytes = words_bytes row words.0 (as_why_ok (words_at row) words.0 words.1) in
+    record { fit = is.0; bytes = bytes ∙ ap line_of is.1; few = ltb-false 128 number short.0 }
 
 pub line_at_again : (number : ℕ) (line : StackLine) → IsStackLine line → number ≤ 128 → line_at number (words_row (line_words line)) ≡ Ok line
 unfolding line_at

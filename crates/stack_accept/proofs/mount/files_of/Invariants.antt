@@ -1,6 +1,5 @@
 use Rattle.std.proofs.Common.{◌≡◌, ◌++◌, drop}
-use Rattle.std.specs.List.{filter_map, fold}
-use Rattle.stack_accept.specs.Lines.{name_of, machine_of}
+use Rattle.std.specs.List.{filter_map}
 use Rattle.stack_accept.specs.Mount.{file_of}
 use Rattle.stack_accept.proofs.mount.files_of.Given as goal
 

@@ -1,5 +1,4 @@
-use Rattle.std.proofs.Common.{◌≡◌, ◌++◌, drop, take, map}
-use Rattle.std.specs.List.{filter_map}
+use Rattle.std.proofs.Common.{◌≡◌, take, map}
 use Rattle.stack_accept.proofs.mount.frames_of.Given as goal
 
 abbrev pub invariant-loop-node : goal.invariant-loop-node

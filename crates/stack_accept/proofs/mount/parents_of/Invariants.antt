@@ -1,5 +1,4 @@
-use Rattle.std.proofs.Common.{◌≡◌, ◌++◌, drop, take, map}
-use Rattle.std.specs.List.{filter_map}
+use Rattle.std.proofs.Common.{◌≡◌, take, map}
 use Rattle.stack_accept.specs.Mount.{via}
 use Rattle.stack_accept.proofs.mount.parents_of.Given as goal
 

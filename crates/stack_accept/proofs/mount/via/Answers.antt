@@ -18,5 +18,5 @@ pub loop-preserved : goal.loop-preserved
 loop-preserved c =
     let nodes = c.args.nodes.now in
     down nodes c.args.machine c.args.view c.loop.counter c.loop.at c.below_of-at.result _ (omega arith) c.loop.invariant
-      (ap (λ n. goes_round n c.args.machine) (sym c.node_at-node.ensures) ∙ sym c.goes_round.ensures ∙ c.if-not-goes_round.false)
-      (c.below_of-at.ensures ∙ ap below_of c.node_at-node.ensures)
+    (ap (λ n. goes_round n c.args.machine) (sym c.node_at-node.ensures) ∙ sym c.goes_round.ensures ∙ c.if-not-goes_round.false)
+    (c.below_of-at.ensures ∙ ap below_of c.node_at-node.ensures)

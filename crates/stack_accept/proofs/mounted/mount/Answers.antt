@@ -16,4 +16,4 @@ pub invariant_of-result : goal.invariant_of-result
 invariant_of-result c =
     let lines = c.args.lines.now in
     sound_parts lines _ c.page_size_of.ensures c.in_ok-files.ensures (c.in_ok-tree.ensures ∙ ap tree_of (c.deref-2.ensures.value ∙ c.in_ok-nodes.ensures)) c.in_ok-nodes.ensures
-      (c.in_ok-ground.ensures ∙ ap (plan_back (reverse lines)) c.ground_name.ensures) c.in_ok-disks.ensures c.in_ok-machines.ensures.value c.requires.accepted
+    (c.in_ok-ground.ensures ∙ ap (plan_back (reverse lines)) c.ground_name.ensures) c.in_ok-disks.ensures c.in_ok-machines.ensures.value c.requires.accepted
