@@ -55,6 +55,13 @@ impl Plain {
         })
     }
 
+    /// The size of a page, in bytes.
+    pub fn page_size(&self) -> u32
+        ensures { result ≡ self.now.shape.page_size }
+    {
+        self.page_size
+    }
+
     /// How many events it has taken.
     pub fn len(&self) -> u64
         ensures { result ≡ self.now.len }

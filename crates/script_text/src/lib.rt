@@ -1,6 +1,21 @@
-//! Scripts: their texts, and what they say.
+//! Scripts: their texts, what they say, and the answers to their lines.
 #![tactic(auto)]
 
+mod answer;
+mod args;
+mod calls;
+mod lines;
+mod parse;
+mod print;
 mod script;
+mod verb;
+mod why;
 
+pub use answer::put_reply;
+pub use parse::parse_script;
+pub use print::print_script;
 pub use script::{Call, CallLine, ClientLine, Reply, Said, Script, Sub};
+pub use why::{Refused, ScriptWhy};
+
+#[cfg(test)]
+mod tests;

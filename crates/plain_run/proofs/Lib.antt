@@ -1,0 +1,4 @@
+pub mod TowerLaws
+pub mod LineLaws
+pub mod PhaseLaws
+pub mod ClosingLaws

@@ -1,0 +1,125 @@
+-- Towers and their histories, by file.
+use Rattle.std.proofs.Common.{◌≡◌, ◌≢◌, ℕ, zero, suc, ◌+◌, ◌<◌, ◌≤◌, List, [], ◌∷◌, ◌++◌, length, map, set, get_or, Option, Some, None, Result, Ok, Err, refl, sym, ap, subst, ◌∙◌, arith, get_or-set_other, get_or-set_same, length-set}
+use Rattle.std.specs.Prelude.{slice_get, unwrap_or}
+use Rattle.std.specs.Option.{option_map}
+use Rattle.std.proofs.lemmas.Option.{slice_get-map, slice_get-get_or, unwrap_or-slice_get, slice_get_within}
+use Rattle.std.proofs.lemmas.List.{map-set}
+use Rattle.std.proofs.Math.Seq.{map-set_same}
+use Rattle.hist_plain.specs.File.{Shape}
+use Rattle.run_defs.specs.declared.log.History.{History}
+use Rattle.run_defs.specs.declared.call.Answered.{Answered}
+use Rattle.run_defs.specs.declared.call.CallErr.{CallErr}
+use Rattle.run_defs.specs.declared.setting.Setting.{Setting}
+use Rattle.run_defs.specs.declared.setting.FileEntry.{FileEntry}
+use Rattle.run_defs.specs.Setting.{shape_of, pages_of}
+use Rattle.run_defs.specs.Log.{history_at}
+use Rattle.run_defs.specs.Plan.{Ask, asking}
+use Rattle.run_defs.specs.Calls.{Called, CalledAt}
+use Rattle.plain_tower.specs.Tower.{TowerSeen}
+use Rattle.plain_run.specs.Towers.{Frame, frame_of, frames, histories, AreFrames, AreTowers}
+
+abbrev none : History
+none = record { opening = []; log = [] }
+
+history_at-get_or : (hs : List History) (k : ℕ) → history_at hs k ≡ get_or hs k none
+history_at-get_or hs k = unwrap_or-slice_get hs k none
+
+-- the history of a tower
+pub history_at-tower : (ts : List TowerSeen) (k : ℕ) (t : TowerSeen) → slice_get ts k ≡ Some t → history_at (histories ts) k ≡ t.log.history
+history_at-tower ts k t there =
+    ap (λ (o : Option History). unwrap_or o none) (slice_get-map (λ (x : TowerSeen). x.log.history) ts k ∙ ap (λ (o : Option TowerSeen). option_map (λ (x : TowerSeen). x.log.history) o) there)
+
+histories-set : (ts : List TowerSeen) (k : ℕ) (t' : TowerSeen) → histories (set ts k t') ≡ set (histories ts) k t'.log.history
+histories-set ts k t' = map-set (λ (x : TowerSeen). x.log.history) ts k t'
+
+length-histories : (ts : List TowerSeen) → length (histories ts) ≡ length ts
+length-histories [] = refl
+length-histories (t ∷ ts) = ap suc (length-histories ts)
+
+pub history_at-set : (ts : List TowerSeen) (k : ℕ) (t' : TowerSeen) → k < length ts → history_at (histories (set ts k t')) k ≡ t'.log.history
+history_at-set ts k t' lt =
+    let within : k < length (histories ts) = let e = length-histories ts in omega arith in
+    ap (λ (hs : List History). history_at hs k) (histories-set ts k t') ∙ (history_at-get_or (set (histories ts) k t'.log.history) k ∙ rw get_or-set_same refl)
+
+pub history_at-other : (ts : List TowerSeen) (k file : ℕ) (t' : TowerSeen) → file ≢ k → history_at (histories (set ts k t')) file ≡ history_at (histories ts) file
+history_at-other ts k file t' ne =
+    ap (λ (hs : List History). history_at hs file) (histories-set ts k t') ∙ (history_at-get_or (set (histories ts) k t'.log.history) file ∙ (rw get_or-set_other refl ∙ sym (history_at-get_or (histories ts) file)))
+
+some_is : (a b : TowerSeen) → Some a ≡ Some b → a ≡ b
+some_is a b e = cc
+
+-- a call of one tower is a call at its file
+pub called-at : (ts : List TowerSeen) (k caller : ℕ) (ask : Ask) (d t' t : TowerSeen) (out : List ℕ) (r : Result Answered CallErr) → k < length ts
+    → Called (get_or ts k d).log.shape caller ask (get_or ts k d).log.history t'.log.history out r → slice_get ts k ≡ Some t
+    → CalledAt t.log.shape caller (asking k ask) (histories ts) (histories (set ts k t')) out r
+called-at ts k caller ask d t' t out r lt called there =
+    let is : get_or ts k d ≡ t = some_is (get_or ts k d) t (sym (slice_get-get_or ts k d lt) ∙ there) in
+    let here : Called t.log.shape caller ask t.log.history t'.log.history out r = subst (λ (x : TowerSeen). Called x.log.shape caller ask x.log.history t'.log.history out r) is called in
+    record {
+      here = subst (λ (h : History). Called t.log.shape caller ask h (history_at (histories (set ts k t')) k) out r) (sym (history_at-tower ts k t there))
+          (subst (λ (h : History). Called t.log.shape caller ask t.log.history h out r) (sym (history_at-set ts k t' lt)) here);
+      others = λ file ne. history_at-other ts k file t' ne;
+    }
+
+-- what holds of the tower that is there holds of the one that is read
+pub read-tower : (P : TowerSeen → Type 0) (ts : List TowerSeen) (k : ℕ) (d : TowerSeen) → k < length ts → ((t : TowerSeen) → slice_get ts k ≡ Some t → P t) → P (get_or ts k d)
+read-tower P ts k d lt h = h (get_or ts k d) (slice_get-get_or ts k d lt)
+
+-- a call keeps what a tower is
+pub frames-set : (ts : List TowerSeen) (k : ℕ) (d t' : TowerSeen) → frame_of t' ≡ frame_of (get_or ts k d) → frames (set ts k t') ≡ frames ts
+frames-set ts k d t' same = map-set_same frame_of ts k t' d same
+
+no-frame : (k : ℕ) (f : Frame) → slice_get {X = Frame} [] k ≡ Some f → ⊥
+no-frame k f e = cc
+
+same-frame : (x f : Frame) → Some x ≡ Some f → x ≡ f
+same-frame x f e = cc
+
+-- what the frame of a file is
+pub record FrameAt (setting : Setting) (caller : ℕ) (files : List FileEntry) (k : ℕ) (f : Frame) : Type 0 where
+  pub entry : FileEntry
+  pub there : slice_get files k ≡ Some entry
+  pub shape : f.shape ≡ shape_of setting
+  pub pages : f.pages ≡ entry.pages
+  pub callers : caller < f.callers
+
+pub frame-at : (setting : Setting) (caller : ℕ) (files : List FileEntry) (fs : List Frame) (k : ℕ) (f : Frame) → AreFrames setting caller files fs → slice_get fs k ≡ Some f → FrameAt setting caller files k f
+frame-at setting caller [] [] k f h there = absurd (no-frame k f there)
+frame-at setting caller [] (x ∷ xs) k f h there = absurd h
+frame-at setting caller (e ∷ es) [] k f h there = absurd h
+frame-at setting caller (e ∷ es) (x ∷ xs) zero f h there =
+    let is : x ≡ f = same-frame x f there in
+    record {
+      entry = e;
+      there = refl;
+      shape = subst (λ (y : Frame). y.shape ≡ shape_of setting) is h.0;
+      pages = subst (λ (y : Frame). y.pages ≡ e.pages) is h.1;
+      callers = subst (λ (y : Frame). caller < y.callers) is h.2;
+    }
+frame-at setting caller (e ∷ es) (x ∷ xs) (suc k) f h there =
+    let r = frame-at setting caller es xs k f h.3 there in
+    record { entry = r.entry; there = r.there; shape = r.shape; pages = r.pages; callers = r.callers }
+
+pub length-frames : (setting : Setting) (caller : ℕ) (files : List FileEntry) (fs : List Frame) → AreFrames setting caller files fs → length fs ≡ length files
+length-frames setting caller [] [] h = refl
+length-frames setting caller [] (x ∷ xs) h = absurd h
+length-frames setting caller (e ∷ es) [] h = absurd h
+length-frames setting caller (e ∷ es) (x ∷ xs) h = ap suc (length-frames setting caller es xs h.3)
+
+length-map-frames : (ts : List TowerSeen) → length (frames ts) ≡ length ts
+length-map-frames [] = refl
+length-map-frames (t ∷ ts) = ap suc (length-map-frames ts)
+
+-- a tower for each file
+pub length-towers : (setting : Setting) (caller : ℕ) (ts : List TowerSeen) → AreTowers setting caller ts → length ts ≡ length setting.files
+length-towers setting caller ts h = sym (length-map-frames ts) ∙ length-frames setting caller setting.files (frames ts) h
+
+-- the tower of a file
+pub tower-at : (setting : Setting) (caller : ℕ) (ts : List TowerSeen) (k : ℕ) (t : TowerSeen) → AreTowers setting caller ts → slice_get ts k ≡ Some t → FrameAt setting caller setting.files k (frame_of t)
+tower-at setting caller ts k t h there = frame-at setting caller setting.files (frames ts) k (frame_of t) h (slice_get-map frame_of ts k ∙ ap (λ (o : Option TowerSeen). option_map frame_of o) there)
+
+-- the tower that is there
+pub tower-there : (ts : List TowerSeen) (k : ℕ) → k < length ts → (t : TowerSeen) × (slice_get ts k ≡ Some t)
+tower-there [] k lt = absurd (omega arith)
+tower-there (t ∷ ts) zero lt = (t, refl)
+tower-there (t ∷ ts) (suc k) lt = tower-there ts k (omega arith)

@@ -1,0 +1,31 @@
+use Rattle.std.proofs.Common.{◌≡◌, ◌<◌, ℕ, List, refl, sym, ◌∙◌}
+use Rattle.std.proofs.lemmas.List.{with_items_is}
+use Rattle.hist_plain.specs.Plain.{Told}
+use Rattle.run_defs.specs.Plan.{Request, ends, asking, access, plan_call, reply_of}
+use Rattle.plain_run.proofs.LineLaws.{done-lacks, done-answered, done-refused, may-access, file-lt}
+use Rattle.plain_run.proofs.client.access_object.Goals as goal
+
+pub returns-in_default : goal.returns-in_default
+returns-in_default g c = done-lacks c.args.setting.now c.args.client.now.caller c.args.client.now.objects.items _ c.args.towers.now
+
+pub access_at-requires-clause-file : goal.access_at-requires-clause-file
+access_at-requires-clause-file g c κs within = file-lt c.args.setting.now c.args.client.now.caller c.args.towers.now c.args.object.now.file c.requires.towers c.requires.object.file
+
+pub access_at-requires-clause-call : goal.access_at-requires-clause-call
+access_at-requires-clause-call g c κs within =
+    may-access c.args.setting.now c.args.client.now.caller c.args.towers.now c.args.object.now.file c.args.object.now.node c.args.op c.requires.towers c.requires.object.node c.requires.fits
+
+pub returns-in-Ok-access_at : goal.returns-in-Ok-access_at
+returns-in-Ok-access_at g c =
+    let ask : Request = asking c.args.object.now.file (access c.args.object.now.node c.args.object.now.life c.args.op) in
+    let out : List ℕ = c.access_at.new.out in
+    let items = with_items_is c.in-Ok.out out (c.access_at.auto.out ∙ c.deref_mut.ensures.len) in
+    done-answered c.args.setting.now c.args.client.now.caller c.args.client.now.objects.items ask c.args.client.now.objects.items c.args.towers.now c.access_at.new.towers out c.in-Ok-access_at.answered c.reply_to.result
+    c.requires.towers c.requires.object.file c.in-Ok-access_at.ensures.called (λ t answer bytes. c.reply_to.ensures t answer (λ read. bytes read ∙ sym items)) c.access_at.ensures.same
+
+pub returns-in-Err : goal.returns-in-Err
+returns-in-Err g c =
+    let ask : Request = asking c.args.object.now.file (access c.args.object.now.node c.args.object.now.life c.args.op) in
+    let objects = c.args.client.now.objects.items in
+    done-refused c.args.setting.now c.args.client.now.caller objects (plan_call objects ask) ask objects (λ (t : Told). ends (reply_of t) objects) c.args.towers.now c.access_at.new.towers c.access_at.new.out c.in-Err.err c.refused.result
+    c.requires.towers c.requires.object.file refl c.in-Err.ensures.called c.refused.ensures c.access_at.ensures.same

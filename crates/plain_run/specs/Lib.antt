@@ -1,0 +1,3 @@
+pub mod Towers
+pub mod Lines
+pub mod Phases

@@ -1,0 +1,4 @@
+pub mod LogSteps
+pub mod PageSteps
+pub mod Calls
+pub mod TowerSteps

@@ -1,0 +1,6 @@
+pub mod Logs
+pub mod Parts
+pub mod CallLaws
+pub mod Numbers
+pub mod Histories
+pub mod Keeping

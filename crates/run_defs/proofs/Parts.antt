@@ -1,0 +1,260 @@
+-- How what a caller did is put together.
+use Rattle.std.proofs.Common.{◌≡◌, ℕ, zero, suc, ◌+◌, ◌≤◌, ◌<◌, ◌==◌, Bool, true, false, cond, List, [], ◌∷◌, ◌++◌, length, Option, Some, None, refl, sym, ap, subst, ◌∙◌, arith, append_assoc, filter, ◌⊎◌, inl, inr, ⊎_elim}
+use Rattle.std.proofs.lemmas.List.{append-nil}
+use Rattle.hist_plain.specs.declared.event.Event.{Event}
+use Rattle.hist_plain.specs.declared.event.Event.TheVariants as events
+use Rattle.hist_plain.specs.File.{Shape, File}
+use Rattle.hist_plain.specs.Plain.{Told, applied}
+use Rattle.hist_plain.specs.History.{Entry, is_by}
+use Rattle.script_text.specs.declared.script.CallLine.{CallLine}
+use Rattle.script_text.specs.declared.script.Said.{Said}
+use Rattle.script_text.specs.declared.script.Reply.{Reply}
+use Rattle.script_text.specs.declared.script.Reply.TheVariants as replies
+use Rattle.run_defs.specs.declared.log.Logged.{Logged}
+use Rattle.run_defs.specs.declared.log.Logged.TheVariants.{Entered, Noted}
+use Rattle.run_defs.specs.declared.object.OpenObject.{OpenObject}
+use Rattle.run_defs.specs.declared.setting.Setting.{Setting}
+use Rattle.run_defs.specs.Setting.{shape_of}
+use Rattle.run_defs.specs.declared.log.History.{History}
+use Rattle.run_defs.specs.Log.{events_of, items_from, items, first_file, Item, entered, noted, who, by_caller, place_of, history_at, IsFull}
+use Rattle.run_defs.specs.Plan.{Plan, ends, calls, unknown, Request, Ask, Made, Makes, Asks, Goes, Refuses, plan}
+use Rattle.run_defs.specs.Fits.{made_on, SyncsFrom, SyncsInOrder, GoesOn, Did, Went, Worked, Does, Line, Lacks, Acts, InOrder, last_cut, lines_of}
+use Rattle.run_defs.proofs.Logs.{length-events_of-append}
+
+pub goes_on_same : (h k : History) → k ≡ h → GoesOn h k
+goes_on_same h k e = record { opening = ap (λ (x : History). x.opening) e; more = []; log = ap (λ (x : History). x.log) e ∙ sym (append-nil h.log) }
+
+pub goes_on_then : (a b c : History) → GoesOn a b → GoesOn b c → GoesOn a c
+goes_on_then a b c f g = record {
+  opening = g.opening ∙ f.opening;
+  more = f.more ++ g.more;
+  log = g.log ∙ (ap (λ (l : List Logged). l ++ g.more) f.log ∙ append_assoc a.log f.more g.more);
+}
+
+pub place_later : (a b : History) → GoesOn a b → place_of a ≤ place_of b
+place_later a b g =
+    let e : length (events_of b.log) ≡ length (events_of a.log) + length (events_of g.more) = ap (λ (l : List Logged). length (events_of l)) g.log ∙ length-events_of-append a.log g.more in
+    omega arith
+
+pub full_later : (old new : List History) → ((file : ℕ) → GoesOn (history_at old file) (history_at new file)) → (file : ℕ) → IsFull old file → IsFull new file
+full_later old new g file full = let e = place_later (history_at old file) (history_at new file) (g file) in omega arith
+
+pub made_on-append : (file : ℕ) (xs ys : List Made) → made_on file (xs ++ ys) ≡ made_on file xs ++ made_on file ys
+made_on-append file [] ys = refl
+made_on-append file (x ∷ xs) ys = let here : List Item = cond (x.file == file) (x.item ∷ []) [] in
+    ap (λ (is : List Item). here ++ is) (made_on-append file xs ys) ∙ sym (append_assoc here (made_on file xs) (made_on file ys))
+
+-- each entry stands before this place
+abbrev Before : ℕ → List Item → Type 0
+Before n [] = Unit {0}
+Before n (entered e ∷ is) = (e.place < n) × Before n is
+Before n (noted caller disk count ∷ is) = Before n is
+
+before_items : (shape : Shape) (file : File) (place n : ℕ) (log : List Logged) → place + length (events_of log) ≤ n → Before n (items_from shape file place log)
+before_items shape file place n [] le = tt
+before_items shape file place n (Entered event ∷ log) le = (omega arith, before_items shape (applied shape file event) (suc place) n log (omega arith))
+before_items shape file place n (Noted note ∷ log) le = before_items shape file place n log le
+
+before_cond : (n : ℕ) (b : Bool) (i : Item) (is : List Item) → Before n (i ∷ []) → Before n is → Before n (cond b (i ∷ is) is)
+before_cond n true (entered e) is h t = (h.0, t)
+before_cond n true (noted caller disk count) is h t = t
+before_cond n false i is h t = t
+
+before_by : (n c : ℕ) (is : List Item) → Before n is → Before n (by_caller c is)
+before_by n c [] h = tt
+before_by n c (entered e ∷ is) h = before_cond n (is_by c (who (entered e))) (entered e) (by_caller c is) (h.0, tt) (before_by n c is h.1)
+before_by n c (noted caller disk count ∷ is) h = before_cond n (is_by c (Some caller)) (noted caller disk count) (by_caller c is) tt (before_by n c is h)
+
+before_right : (n : ℕ) (xs ys : List Item) → Before n (xs ++ ys) → Before n ys
+before_right n [] ys h = h
+before_right n (entered e ∷ xs) ys h = before_right n xs ys h.1
+before_right n (noted caller disk count ∷ xs) ys h = before_right n xs ys h
+
+-- what was made stands before the end of the history
+made_before : (shape : Shape) (c : ℕ) (old new : List History) (made : List Made) → Did shape c old new made → (file : ℕ) → Before (place_of (history_at new file)) (made_on file made)
+made_before shape c old new made did file =
+    let h : History = history_at new file in
+    let all : Before (place_of h) (by_caller c (items shape h)) = before_by (place_of h) c (items shape h) (before_items shape (first_file shape h) 0 (place_of h) h.log (omega arith)) in
+    before_right (place_of h) (by_caller c (items shape (history_at old file))) (made_on file made) (subst (Before (place_of h)) (did.part file) all)
+
+pub syncs_from_le : (least least' : ℕ) (event : Event) → least' ≤ least → SyncsFrom least event → SyncsFrom least' event
+syncs_from_le least least' (events.Synced caller number node from keep) le h = omega (arith, le, h)
+syncs_from_le least least' _ le h = tt
+
+syncs_le : (least least' : ℕ) (is : List Item) → least' ≤ least → SyncsInOrder least is → SyncsInOrder least' is
+syncs_le least least' [] le h = tt
+syncs_le least least' (entered e ∷ is) le h = (syncs_from_le least least' e.event le h.0, h.1)
+syncs_le least least' (noted caller disk count ∷ is) le h = syncs_le least least' is le h
+
+syncs_then : (least mid : ℕ) (xs ys : List Item) → least ≤ mid → Before mid xs → SyncsInOrder least xs → SyncsInOrder mid ys → SyncsInOrder least (xs ++ ys)
+syncs_then least mid [] ys le b h k = syncs_le mid least ys le k
+syncs_then least mid (entered e ∷ xs) ys le b h k = (h.0, syncs_then (suc e.place) mid xs ys (omega (arith, b.0)) b.1 h.1 k)
+syncs_then least mid (noted caller disk count ∷ xs) ys le b h k = syncs_then least mid xs ys le b h k
+
+-- one thing after another
+pub did_then : (shape : Shape) (c : ℕ) (old mid new : List History) (xs ys : List Made) → Did shape c old mid xs → Did shape c mid new ys → Did shape c old new (xs ++ ys)
+did_then shape c old mid new xs ys f g = record {
+  later = λ file. goes_on_then (history_at old file) (history_at mid file) (history_at new file) (f.later file) (g.later file);
+  part = λ file. g.part file ∙ (ap (λ (is : List Item). is ++ made_on file ys) (f.part file)
+      ∙ (append_assoc (by_caller c (items shape (history_at old file))) (made_on file xs) (made_on file ys) ∙ ap (λ (is : List Item). by_caller c (items shape (history_at old file)) ++ is) (sym (made_on-append file xs ys))));
+  syncs = λ file. subst (SyncsInOrder (place_of (history_at old file))) (sym (made_on-append file xs ys))
+      (syncs_then (place_of (history_at old file)) (place_of (history_at mid file)) (made_on file xs) (made_on file ys) (place_later (history_at old file) (history_at mid file) (f.later file)) (made_before shape c old mid xs f file) (f.syncs file) (g.syncs file));
+}
+
+pub did_nothing : (shape : Shape) (c : ℕ) (old new : List History) → new ≡ old → Did shape c old new []
+did_nothing shape c old new e = record {
+  later = λ file. goes_on_same (history_at old file) (history_at new file) (ap (λ (hs : List History). history_at hs file) e);
+  part = λ file. ap (λ (hs : List History). by_caller c (items shape (history_at hs file))) e ∙ sym (append-nil (by_caller c (items shape (history_at old file))));
+  syncs = λ file. tt;
+}
+
+-- what a caller did, and then nothing
+pub did_after : (shape : Shape) (c : ℕ) (old mid new : List History) (made : List Made) → Did shape c old mid made → Did shape c mid new [] → Did shape c old new made
+did_after shape c old mid new made f g = subst (Did shape c old new) (append-nil made) (did_then shape c old mid new made [] f g)
+
+refuses_later : (A B : Type 0) (said : Reply) → (A → B) → Refuses A said → Refuses B said
+refuses_later A B replies.TrailFull f h = f h
+refuses_later A B replies.Memory f h = tt
+refuses_later A B _ f h = h
+
+makes_later : (c : ℕ) (ask : Ask) (item : Item) (T T' : Told → Type 0) (E : Reply → Type 0) → ((t : Told) → T t → T' t) → Makes c ask item T E → Makes c ask item T' E
+makes_later c ask (entered e) T T' E f h = (h.0, (h.1.0, h.1.1, f h.1.0 h.1.2))
+makes_later c ask (noted by disk count) T T' E f h = h
+
+pub goes_later : (F G : ℕ → Type 0) → ((file : ℕ) → F file → G file) → (c : ℕ) (p : Plan) (made : List Made) (said : Reply) (left : List OpenObject) → Goes F c p made said left → Goes G c p made said left
+goes_later F G f c (ends reply objects) [] said left h = h
+goes_later F G f c (ends reply objects) (m ∷ made) said left h = h
+goes_later F G f c (calls request objects go_on) [] said left h = (refuses_later (F request.file) (G request.file) said (f request.file) h.0, h.1)
+goes_later F G f c (calls request objects go_on) (m ∷ made) said left h =
+    (h.0, makes_later c request.ask m.item _ _ _ (λ t k. goes_later F G f c (go_on t) made said left k) h.1)
+goes_later F G f c unknown made said left h = h
+
+line_later : (F G : ℕ → Type 0) → ((file : ℕ) → F file → G file) → (c : ℕ) (kept : List OpenObject) (p : Plan) (made : List Made) (said : Reply) (left : List OpenObject) → Line F c kept p made said left → Line G c kept p made said left
+line_later F G f c kept p made said left h = ⊎_elim (λ goes. inl (goes_later F G f c p made said left goes)) (λ lacks. inr lacks) h
+
+does_later : (setting : Setting) (F G : ℕ → Type 0) → ((file : ℕ) → F file → G file) → (c : ℕ) (objects : List OpenObject) (lines : List CallLine) (made : List Made) (said : List Said) (left : List OpenObject) → Does setting F c objects lines made said left → Does setting G c objects lines made said left
+does_later setting F G f c objects [] made said left h = h
+does_later setting F G f c objects (line ∷ lines) made [] left h = h
+does_later setting F G f c objects (line ∷ lines) made (s ∷ said) left h =
+    (h.0, h.1, h.2, h.3, h.4, line_later F G f c objects (plan setting objects line.call) h.0 s.reply h.2 h.5, does_later setting F G f c h.2 lines h.1 said left h.6)
+
+-- a plan that makes no call
+pub went_none : (shape : Shape) (c : ℕ) (kept : List OpenObject) (p : Plan) (old : List History) (reply : Reply) (left : List OpenObject) → p ≡ ends reply left → Went shape c kept p old old reply left
+went_none shape c kept p old reply left is = record {
+  made = [];
+  did = did_nothing shape c old old refl;
+  goes = inl (subst (λ (q : Plan). Goes (IsFull old) c q [] reply left) (sym is) (refl, refl));
+}
+
+-- a line for which memory lacked
+pub went_lacks : (shape : Shape) (c : ℕ) (kept : List OpenObject) (p : Plan) (old : List History) → Went shape c kept p old old replies.Memory kept
+went_lacks shape c kept p old = record { made = []; did = did_nothing shape c old old refl; goes = inr (record { nothing = refl; memory = refl; same = refl }) }
+
+-- a call that was answered, and what the plan does then
+pub went_call : (shape : Shape) (c : ℕ) (kept : List OpenObject) (p : Plan) (request : Request) (objects : List OpenObject) (go_on : Told → Plan) (old mid new : List History) (e : Entry) (told : Told) (rest : List Made) (reply : Reply) (left : List OpenObject)
+    → p ≡ calls request objects go_on → Did shape c old mid (record { file = request.file; item = entered e } ∷ []) → Asks c request.ask e.event → e.told ≡ Some told
+    → Did shape c mid new rest → Goes (IsFull new) c (go_on told) rest reply left → Went shape c kept p old new reply left
+went_call shape c kept p request objects go_on old mid new e told rest reply left is did asks answered more goes = record {
+  made = record { file = request.file; item = entered e } ∷ rest;
+  did = did_then shape c old mid new (record { file = request.file; item = entered e } ∷ []) rest did more;
+  goes = inl (subst (λ (q : Plan). Goes (IsFull new) c q (record { file = request.file; item = entered e } ∷ rest) reply left) (sym is) (refl, (asks, (told, answered, goes))));
+}
+
+-- a call whose store failed
+pub went_fault : (shape : Shape) (c : ℕ) (kept : List OpenObject) (p : Plan) (request : Request) (objects : List OpenObject) (go_on : Told → Plan) (old new : List History) (disk count : ℕ)
+    → p ≡ calls request objects go_on → Did shape c old new (record { file = request.file; item = noted c disk count } ∷ []) → Went shape c kept p old new (replies.Store disk count) objects
+went_fault shape c kept p request objects go_on old new disk count is did = record {
+  made = record { file = request.file; item = noted c disk count } ∷ [];
+  did = did;
+  goes = inl (subst (λ (q : Plan). Goes (IsFull new) c q (record { file = request.file; item = noted c disk count } ∷ []) (replies.Store disk count) objects) (sym is) (refl, (refl, (refl, refl, refl))));
+}
+
+-- a call that did nothing
+pub went_refused : (shape : Shape) (c : ℕ) (kept : List OpenObject) (p : Plan) (request : Request) (objects : List OpenObject) (go_on : Told → Plan) (old new : List History) (reply : Reply)
+    → p ≡ calls request objects go_on → Did shape c old new [] → Refuses (IsFull new request.file) reply → Went shape c kept p old new reply objects
+went_refused shape c kept p request objects go_on old new reply is did refused = record {
+  made = [];
+  did = did;
+  goes = inl (subst (λ (q : Plan). Goes (IsFull new) c q [] reply objects) (sym is) (refused, refl));
+}
+
+-- no line yet
+pub worked_none : (setting : Setting) (c : ℕ) (objects : List OpenObject) (old : List History) → Worked setting c objects [] old old [] objects
+worked_none setting c objects old = record { made = []; did = did_nothing (shape_of setting) c old old refl; does = (refl, refl, refl) }
+
+-- lines done, and one more
+does_more : (setting : Setting) (F : ℕ → Type 0) (c : ℕ) (objects : List OpenObject) (lines : List CallLine) (made : List Made) (said : List Said) (mid : List OpenObject) (line : CallLine) (next : List Made) (reply : Reply) (left : List OpenObject)
+    → Does setting F c objects lines made said mid → Line F c mid (plan setting mid line.call) next reply left
+    → Does setting F c objects (lines ++ line ∷ []) (made ++ next) (said ++ record { line = line.line; reply = reply } ∷ []) left
+does_more setting F c objects [] made said mid line next reply left does goes =
+    rw (does.0, does.1) (next, [], left, sym (append-nil next), refl, subst (λ (os : List OpenObject). Line F c os (plan setting os line.call) next reply left) does.2 goes, (refl, refl, refl))
+does_more setting F c objects (l ∷ lines) made [] mid line next reply left does goes = absurd does
+does_more setting F c objects (l ∷ lines) made (s ∷ said) mid line next reply left does goes =
+    (does.0, does.1 ++ next, does.2, ap (λ (ms : List Made). ms ++ next) does.3 ∙ append_assoc does.0 does.1 next, does.4, does.5, does_more setting F c does.2 lines does.1 said mid line next reply left does.6 goes)
+
+pub worked_more : (setting : Setting) (c : ℕ) (objects : List OpenObject) (lines : List CallLine) (old mid new : List History) (said : List Said) (kept : List OpenObject) (line : CallLine) (reply : Reply) (left : List OpenObject)
+    → Worked setting c objects lines old mid said kept → Went (shape_of setting) c kept (plan setting kept line.call) mid new reply left
+    → Worked setting c objects (lines ++ line ∷ []) old new (said ++ record { line = line.line; reply = reply } ∷ []) left
+worked_more setting c objects lines old mid new said kept line reply left worked went = record {
+  made = worked.made ++ went.made;
+  did = did_then (shape_of setting) c old mid new worked.made went.made worked.did went.did;
+  does = does_more setting (IsFull new) c objects lines worked.made said kept line went.made reply left
+      (does_later setting (IsFull mid) (IsFull new) (full_later mid new went.did.later) c objects lines worked.made said kept worked.does) went.goes;
+}
+
+does_append : (setting : Setting) (F : ℕ → Type 0) (c : ℕ) (objects : List OpenObject) (xs ys : List CallLine) (made made' : List Made) (said said' : List Said) (mid left : List OpenObject)
+    → Does setting F c objects xs made said mid → Does setting F c mid ys made' said' left → Does setting F c objects (xs ++ ys) (made ++ made') (said ++ said') left
+does_append setting F c objects [] ys made made' said said' mid left f g =
+    rw (f.0, f.1) (subst (λ (os : List OpenObject). Does setting F c os ys made' said' left) f.2 g)
+does_append setting F c objects (l ∷ xs) ys made made' [] said' mid left f g = absurd f
+does_append setting F c objects (l ∷ xs) ys made made' (s ∷ said) said' mid left f g =
+    (f.0, f.1 ++ made', f.2, ap (λ (ms : List Made). ms ++ made') f.3 ∙ append_assoc f.0 f.1 made', f.4, f.5, does_append setting F c f.2 xs ys f.1 made' said said' mid left f.6 g)
+
+-- lines done, and then more lines
+pub worked_append : (setting : Setting) (c : ℕ) (objects : List OpenObject) (xs ys : List CallLine) (old mid new : List History) (said said' : List Said) (kept left : List OpenObject)
+    → Worked setting c objects xs old mid said kept → Worked setting c kept ys mid new said' left → Worked setting c objects (xs ++ ys) old new (said ++ said') left
+worked_append setting c objects xs ys old mid new said said' kept left f g = record {
+  made = f.made ++ g.made;
+  did = did_then (shape_of setting) c old mid new f.made g.made f.did g.did;
+  does = does_append setting (IsFull new) c objects xs ys f.made g.made said said' kept left
+      (does_later setting (IsFull mid) (IsFull new) (full_later mid new g.did.later) c objects xs f.made said kept f.does) g.does;
+}
+
+-- nothing, and then lines done
+pub worked_before : (setting : Setting) (c : ℕ) (objects : List OpenObject) (lines : List CallLine) (old mid new : List History) (said : List Said) (left : List OpenObject)
+    → Did (shape_of setting) c old mid [] → Worked setting c objects lines mid new said left → Worked setting c objects lines old new said left
+worked_before setting c objects lines old mid new said left did worked = record {
+  made = worked.made;
+  did = did_then (shape_of setting) c old mid new [] worked.made did worked.did;
+  does = worked.does;
+}
+
+-- lines done, and nothing more
+pub worked_then : (setting : Setting) (c : ℕ) (objects : List OpenObject) (lines : List CallLine) (old mid new : List History) (said : List Said) (left : List OpenObject)
+    → Worked setting c objects lines old mid said left → Did (shape_of setting) c mid new [] → Worked setting c objects lines old new said left
+worked_then setting c objects lines old mid new said left worked did = record {
+  made = worked.made;
+  did = did_after (shape_of setting) c old mid new worked.made worked.did did;
+  does = does_later setting (IsFull mid) (IsFull new) (full_later mid new did.later) c objects lines worked.made said left worked.does;
+}
+
+-- phases done, and one more
+pub acts_more : (setting : Setting) (c : ℕ) (objects : List OpenObject) (phases : List (List CallLine)) (start : List History) (cuts : List (List History)) (said : List Said) (mid : List OpenObject)
+    (phase : List CallLine) (last cut : List History) (one : List Said) (left : List OpenObject)
+    → Acts setting c objects phases start cuts said mid → last ≡ last_cut start cuts → Worked setting c mid (lines_of c phase) last cut one left
+    → Acts setting c objects (phases ++ phase ∷ []) start (cuts ++ cut ∷ []) (said ++ one) left
+acts_more setting c objects [] start [] said mid phase last cut one left acts is worked =
+    rw acts.0 (one, [], left, sym (append-nil one), subst (λ (os : List OpenObject). Worked setting c os (lines_of c phase) start cut one left) acts.1 (subst (λ (hs : List History). Worked setting c mid (lines_of c phase) hs cut one left) is worked), (refl, refl))
+acts_more setting c objects [] start (k ∷ cuts) said mid phase last cut one left acts is worked = absurd acts
+acts_more setting c objects (p ∷ phases) start [] said mid phase last cut one left acts is worked = absurd acts
+acts_more setting c objects (p ∷ phases) start (k ∷ cuts) said mid phase last cut one left acts is worked =
+    (acts.0, acts.1 ++ one, acts.2, ap (λ (s : List Said). s ++ one) acts.3 ∙ append_assoc acts.0 acts.1 one, acts.4, acts_more setting c acts.2 phases k cuts acts.1 mid phase last cut one left acts.5 is worked)
+
+pub in_order_more : (start : List History) (cuts : List (List History)) (last cut : List History) → InOrder start cuts → last ≡ last_cut start cuts
+    → ((file : ℕ) → GoesOn (history_at last file) (history_at cut file)) → InOrder start (cuts ++ cut ∷ [])
+in_order_more start [] last cut h is g = (subst (λ (hs : List History). (file : ℕ) → GoesOn (history_at hs file) (history_at cut file)) is g, tt)
+in_order_more start (k ∷ cuts) last cut h is g = (h.0, in_order_more k cuts last cut h.1 is g)
+
+pub last_cut-more : (start : List History) (cuts : List (List History)) (cut : List History) → cut ≡ last_cut start (cuts ++ cut ∷ [])
+last_cut-more start [] cut = refl
+last_cut-more start (k ∷ cuts) cut = last_cut-more k cuts cut

@@ -1,0 +1,143 @@
+-- The text that a run writes which reached its phases.
+use Rattle.std.specs.Prelude.{ℕ, List, [], ◌∷◌, ◌++◌, map, codes, Option, Some, None}
+use Rattle.std.specs.List.{flat_map}
+use Rattle.std.specs.Fmt.{decimal}
+use Rattle.hex.specs.Hex.{encode_lower}
+use Rattle.hist_plain.specs.declared.event.Op.{Op}
+use Rattle.hist_plain.specs.declared.event.Op.TheVariants as ops
+use Rattle.hist_plain.specs.declared.event.Keep.{Keep}
+use Rattle.hist_plain.specs.declared.event.Keep.TheVariants as keeps
+use Rattle.hist_plain.specs.declared.event.Event.{Event}
+use Rattle.hist_plain.specs.declared.event.Event.TheVariants as events
+use Rattle.hist_plain.specs.declared.event.Answer.{Answer}
+use Rattle.hist_plain.specs.declared.event.Answer.TheVariants as answers
+use Rattle.hist_plain.specs.Plain.{Told}
+use Rattle.hist_plain.specs.History.{Entry, entries_from}
+use Rattle.script_text.specs.declared.script.Said.{Said}
+use Rattle.script_text.specs.declared.script.Script.{Script}
+use Rattle.script_text.specs.declared.script.ClientLine.{ClientLine}
+use Rattle.script_text.specs.declared.script.Reply.{Reply}
+use Rattle.script_text.specs.declared.script.Reply.TheVariants as replies
+use Rattle.run_defs.specs.declared.object.LostStore.{LostStore}
+use Rattle.run_defs.specs.declared.setting.Setting.{Setting}
+use Rattle.run_defs.specs.declared.setting.FileEntry.{FileEntry}
+use Rattle.run_defs.specs.Line.{line, name_in}
+use Rattle.run_defs.specs.Setting.{shape_of}
+use Rattle.run_defs.specs.declared.log.History.{History}
+use Rattle.run_defs.specs.Log.{first_file, trail_of}
+
+-- the words of an answer to a line
+abbrev pub reply_words : List (List ℕ) → Reply → List (List ℕ)
+reply_words disks replies.Done = codes "done" ∷ []
+reply_words disks (replies.Names names) = codes "names" ∷ names
+reply_words disks (replies.Life life) = codes "life" ∷ decimal life ∷ []
+reply_words disks (replies.Bytes bytes) = encode_lower bytes ∷ []
+reply_words disks replies.NoObject = codes "no" ∷ codes "object" ∷ []
+reply_words disks replies.BadObject = codes "bad" ∷ codes "object" ∷ []
+reply_words disks replies.ObjectExists = codes "object" ∷ codes "exists" ∷ []
+reply_words disks replies.NotOnePage = codes "not" ∷ codes "one" ∷ codes "page" ∷ []
+reply_words disks (replies.NotBound part) = codes "not" ∷ codes "bound" ∷ part ∷ []
+reply_words disks (replies.AlreadyBound part) = codes "already" ∷ codes "bound" ∷ part ∷ []
+reply_words disks (replies.NotContext part) = codes "not" ∷ codes "context" ∷ part ∷ []
+reply_words disks (replies.NotObject part) = codes "not" ∷ codes "object" ∷ part ∷ []
+reply_words disks (replies.Revoked life) = codes "revoked" ∷ decimal life ∷ []
+reply_words disks replies.NoManager = codes "no" ∷ codes "manager" ∷ []
+reply_words disks replies.RegionExists = codes "region" ∷ codes "exists" ∷ []
+reply_words disks replies.Unaligned = codes "unaligned" ∷ []
+reply_words disks replies.TooLong = codes "too" ∷ codes "long" ∷ []
+reply_words disks replies.Overlap = codes "overlap" ∷ []
+reply_words disks replies.NoRegion = codes "no" ∷ codes "region" ∷ []
+reply_words disks (replies.Unmapped address) = codes "unmapped" ∷ decimal address ∷ []
+reply_words disks replies.CrossesPage = codes "crosses" ∷ codes "page" ∷ []
+reply_words disks replies.NotWritable = codes "not" ∷ codes "writable" ∷ []
+reply_words disks (replies.Store disk count) = codes "store" ∷ name_in disks disk ∷ decimal count ∷ []
+reply_words disks replies.TrailFull = codes "trail" ∷ codes "full" ∷ []
+reply_words disks replies.Memory = codes "memory" ∷ []
+
+-- a client's line: the number of the script's line, and the answer
+abbrev pub said_line : List (List ℕ) → Said → List ℕ
+said_line disks said = line (decimal said.line ∷ reply_words disks said.reply)
+
+abbrev pub client_part : List (List ℕ) → List ℕ → List Said → List ℕ
+client_part disks name said = line (codes "client" ∷ name ∷ []) ++ flat_map (said_line disks) said
+
+-- a part for each client
+abbrev pub client_parts : List (List ℕ) → List ClientLine → List (List Said) → List ℕ
+client_parts disks (client ∷ clients) (said ∷ more) = client_part disks client.name said ++ client_parts disks clients more
+client_parts disks clients more = []
+
+-- the words of an answer of the plain file
+abbrev pub told_words : Told → List (List ℕ)
+told_words told = by_answer told.answer told.bytes where
+  by_answer : Answer → List ℕ → List (List ℕ)
+  by_answer answers.Bytes bytes = encode_lower bytes ∷ []
+  by_answer answers.Done bytes = codes "done" ∷ []
+  by_answer (answers.Life life) bytes = codes "life" ∷ decimal life ∷ []
+  by_answer (answers.Revoked life) bytes = codes "revoked" ∷ decimal life ∷ []
+
+abbrev pub op_words : Op → List (List ℕ)
+op_words ops.Open = codes "open" ∷ []
+op_words (ops.Read page off len) = codes "read" ∷ decimal page ∷ decimal off ∷ decimal len ∷ []
+op_words (ops.Write page off bytes) = codes "write" ∷ decimal page ∷ decimal off ∷ encode_lower bytes ∷ []
+op_words (ops.Clear page) = codes "clear" ∷ decimal page ∷ []
+
+abbrev pub keep_word : Keep → List ℕ
+keep_word keeps.Write = codes "synced"
+keep_word keeps.Read = codes "cleaned"
+
+-- the words of an event between its place and its answer; a page message has none
+abbrev pub event_words : List (List ℕ) → List (List ℕ) → Event → List (List ℕ)
+event_words callers nodes (events.Access caller number node life op) = name_in callers caller ∷ decimal number ∷ name_in nodes node ∷ decimal life ∷ op_words op
+event_words callers nodes (events.DestroyCache caller number node) = name_in callers caller ∷ decimal number ∷ name_in nodes node ∷ codes "destroy_cache" ∷ []
+event_words callers nodes (events.DonePager caller number node) = name_in callers caller ∷ decimal number ∷ name_in nodes node ∷ codes "done_with_pager_object" ∷ []
+event_words callers nodes (events.Synced caller number node from keep) = name_in callers caller ∷ decimal number ∷ name_in nodes node ∷ keep_word keep ∷ decimal from ∷ []
+event_words callers nodes event = []
+
+-- the line of an entry; one without an answer has none
+abbrev pub entry_line : List (List ℕ) → List (List ℕ) → Entry → List ℕ
+entry_line callers nodes entry = by_told entry.told where
+  by_told : Option Told → List ℕ
+  by_told None = []
+  by_told (Some told) = line (decimal entry.place ∷ (event_words callers nodes entry.event ++ told_words told))
+
+-- each event of a history, with the plain file's answer at its place
+abbrev pub entries_of : Setting → History → List Entry
+entries_of setting history = entries_from (shape_of setting) (first_file (shape_of setting) history) 0 (trail_of history)
+
+abbrev pub file_part : List (List ℕ) → Setting → FileEntry → History → List ℕ
+file_part callers setting file history =
+    line (codes "file" ∷ file.name ∷ []) ++ flat_map (entry_line callers (map (λ n. n.name) setting.nodes)) (entries_of setting history)
+
+-- a part for each file
+abbrev pub file_parts : List (List ℕ) → Setting → List FileEntry → List History → List ℕ
+file_parts callers setting (file ∷ files) (history ∷ histories) = file_part callers setting file history ++ file_parts callers setting files histories
+file_parts callers setting files histories = []
+
+-- the names of the callers: the clients, and then mount
+abbrev pub callers_of : List ClientLine → List (List ℕ)
+callers_of clients = map (λ c. c.name) clients ++ codes "mount" ∷ []
+
+-- the line of a closing sync that failed; one that is done has none
+abbrev pub closing_line : List (List ℕ) → List ℕ → Reply → List ℕ
+closing_line disks file replies.Done = []
+closing_line disks file reply = line (codes "closing" ∷ file ∷ reply_words disks reply)
+
+abbrev pub closing_lines : List (List ℕ) → List FileEntry → List Reply → List ℕ
+closing_lines disks (file ∷ files) (reply ∷ more) = closing_line disks file.name reply ++ closing_lines disks files more
+closing_lines disks files more = []
+
+-- the line of a store that could not be given back
+abbrev pub lost_line : Setting → LostStore → List ℕ
+lost_line setting lost = line (codes "bay" ∷ name_in setting.disks lost.disk ∷ name_in (map (λ f. f.name) setting.files) lost.file ∷ [])
+
+abbrev pub status_line : ℕ → List ℕ
+status_line status = line (codes "status" ∷ decimal status ∷ [])
+
+-- the whole text
+abbrev pub report : Setting → Script → List History → List (List Said) → List Reply → List LostStore → ℕ → List ℕ
+report setting script histories said closing lost status =
+    client_parts setting.disks script.clients said
+    ++ file_parts (callers_of script.clients) setting setting.files histories
+    ++ closing_lines setting.disks setting.files closing
+    ++ flat_map (lost_line setting) lost
+    ++ status_line status

@@ -1,0 +1,4 @@
+pub mod Why
+pub mod Grammar
+pub mod Reading
+pub mod Answer

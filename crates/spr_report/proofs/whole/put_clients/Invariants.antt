@@ -1,0 +1,7 @@
+use Rattle.std.proofs.Common.{◌≡◌, ◌++◌, drop, map}
+use Rattle.run_defs.specs.Report.{client_parts}
+use Rattle.spr_report.proofs.whole.put_clients.Given as goal
+
+-- what is written and what is left to write are the whole
+abbrev pub invariant-loop-i : goal.invariant-loop-i
+invariant-loop-i l = l.out.items ++ client_parts (map (λ d. d.now) l.disks) (drop l.i l.clients) (map (λ v. v.items) (drop l.i l.said)) ≡ l.fn.out.items ++ client_parts (map (λ d. d.now) l.disks) l.clients (map (λ v. v.items) l.said)

@@ -1,0 +1,282 @@
+-- An accepted text makes a sound mount.
+use Rattle.std.proofs.Common.{◌≡◌, ℕ, zero, suc, ◌+◌, ◌^◌, ◌<◌, ◌≤◌, List, [], ◌∷◌, ◌++◌, length, map, reverse, count_by, get_or, Bool, true, false, not, ◌&&◌, ◌||◌, cond, eqb, ltb, leb, Option, Some, None, refl, sym, ap, subst, ◌∙◌, inl, inr, arith, lit≤}
+use Rattle.std.specs.Prelude.{position, unwrap_or, ◌⊎◌}
+use Rattle.std.specs.List.{AllByRecursion, list_any, filter, filter_map, cons_option, position_or_len, fold}
+use Rattle.std.specs.Str.{bytes_eq}
+use Rattle.std.proofs.lemmas.Bool.{cases_Bool, false≢true, and_parts, or_cases, ltb-true, leb-true, eqb-true, cond_both, cond-true, cond-false}
+use Rattle.std.proofs.lemmas.List.{append-nil, append_assoc, length-append}
+use Rattle.hist_plain.specs.Plain.{IsPageSize}
+use Rattle.stack_text.specs.declared.stack.StackLine.{StackLine}
+use Rattle.stack_text.specs.declared.stack.StackLine.TheVariants.{Page, File, Disk, Mirror, Coherency, Dfs, Vmm}
+use Rattle.stack_accept.specs.declared.rule.Rule.TheVariants.{PageFirst, Limits}
+use Rattle.stack_accept.specs.declared.entries.FileEntry.{FileEntry}
+use Rattle.stack_accept.specs.declared.entries.NodeEntry.{NodeEntry}
+use Rattle.stack_accept.specs.Lines.{is_page, is_file, is_disk, is_storage, machine_of}
+use Rattle.stack_accept.specs.Rules.{keeps, is_node, is_count, is_page_size, has_room, IsAccepted, KeepsRules}
+use Rattle.stack_accept.specs.Mount.{Mount, mounted, number_in, page_size_of, file_of, disk_of, with_machine, machines_of, ground_name, node_lines, node_of, nodes_of, tree_of}
+use Rattle.stack_accept.specs.Plan.{Plan, plan_back}
+use Rattle.tower_core.specs.TreeShape.{TreeShape}
+use Rattle.stack_accept.specs.Sound.{IsInLimits, IsStorageKind, IsLayerKind, IsGroundNode, IsLayerNode, IsMount}
+use Rattle.stack_accept.proofs.Lists.{count_by_cons, count_by_push, count_by_none}
+use Rattle.stack_accept.proofs.Kept.{kept_at_end}
+use Rattle.stack_accept.proofs.TreeLaws.{IsPlaced, EachPlaced, ArePlaced}
+use Rattle.stack_accept.proofs.MountLaws.{kept, has_nodes, HasNodes, mounted_tree, few_nodes, few_by, ground_storage}
+
+in_limits : (n : ℕ) → is_count n ≡ true → IsInLimits n
+in_limits n e = let h = and_parts (leb 1 n) (leb n 1024) e in (leb-true 1 n h.0, leb-true n 1024 h.1)
+
+-- the page size
+
+any_power : (size : ℕ) (powers : List ℕ) → AllByRecursion (λ k. (6 ≤ k) × (k ≤ 12)) powers → list_any (λ k. eqb size (2 ^ k)) powers ≡ true → IsPageSize size
+any_power size [] h e = absurd (false≢true e)
+any_power size (k ∷ powers) h e =
+    elim (or_cases (eqb size (2 ^ k)) (list_any (λ p. eqb size (2 ^ p)) powers) e) [
+      | inl here ↦ (k, h.0.0, h.0.1, eqb-true size (2 ^ k) here)
+      | inr later ↦ any_power size powers h.1 later
+    ]
+
+power_size : (size : ℕ) → is_page_size size ≡ true → IsPageSize size
+power_size size e =
+    any_power size (6 ∷ 7 ∷ 8 ∷ 9 ∷ 10 ∷ 11 ∷ 12 ∷ [])
+      ((lit≤ tt, lit≤ tt), ((lit≤ tt, lit≤ tt), ((lit≤ tt, lit≤ tt), ((lit≤ tt, lit≤ tt), ((lit≤ tt, lit≤ tt), ((lit≤ tt, lit≤ tt), ((lit≤ tt, lit≤ tt), tt))))))) e
+
+first_page : (line : StackLine) (lines : List StackLine) → is_page line ≡ true → keeps Limits [] line ≡ true → IsPageSize (page_size_of (line ∷ lines))
+first_page (Page size) lines is e = power_size size e
+first_page (File name pages) lines is e = absurd (false≢true is)
+first_page (Disk name machine) lines is e = absurd (false≢true is)
+first_page (Mirror name machine left right) lines is e = absurd (false≢true is)
+first_page (Coherency name machine below) lines is e = absurd (false≢true is)
+first_page (Dfs name machine below) lines is e = absurd (false≢true is)
+first_page (Vmm name machine below frames) lines is e = absurd (false≢true is)
+
+page_size_is : (lines : List StackLine) → KeepsRules [] lines → IsPageSize (page_size_of lines)
+page_size_is [] keeps = absurd (false≢true (keeps PageFirst))
+page_size_is (line ∷ lines) keeps = first_page line lines (keeps.0 PageFirst) (keeps.0 Limits)
+
+-- the files and the disks
+
+file_step : (earlier : List StackLine) (line : StackLine) → keeps Limits earlier line ≡ true → count_by (λ l. is_file l) earlier ≤ 16 → count_by (λ l. is_file l) earlier + cond (is_file line) 1 0 ≤ 16
+file_step earlier (Page size) e few = omega arith
+file_step earlier (File name pages) e few = let low = ltb-true _ 16 (and_parts (ltb (count_by (λ l. is_file l) earlier) 16) (is_count pages) e).0 in omega (arith, low)
+file_step earlier (Disk name machine) e few = omega arith
+file_step earlier (Mirror name machine left right) e few = omega arith
+file_step earlier (Coherency name machine below) e few = omega arith
+file_step earlier (Dfs name machine below) e few = omega arith
+file_step earlier (Vmm name machine below frames) e few = omega arith
+
+disk_step : (earlier : List StackLine) (line : StackLine) → keeps Limits earlier line ≡ true → count_by (λ l. is_disk l) earlier ≤ 4 → count_by (λ l. is_disk l) earlier + cond (is_disk line) 1 0 ≤ 4
+disk_step earlier (Page size) e few = omega arith
+disk_step earlier (File name pages) e few = omega arith
+disk_step earlier (Disk name machine) e few = let low = ltb-true _ 4 e in omega (arith, low)
+disk_step earlier (Mirror name machine left right) e few = omega arith
+disk_step earlier (Coherency name machine below) e few = omega arith
+disk_step earlier (Dfs name machine below) e few = omega arith
+disk_step earlier (Vmm name machine below frames) e few = omega arith
+
+more_files : (line : StackLine) (rest : List FileEntry) → length (cons_option (file_of line) rest) ≡ cond (is_file line) 1 0 + length rest
+more_files (Page size) rest = omega arith
+more_files (File name pages) rest = omega arith
+more_files (Disk name machine) rest = omega arith
+more_files (Mirror name machine left right) rest = omega arith
+more_files (Coherency name machine below) rest = omega arith
+more_files (Dfs name machine below) rest = omega arith
+more_files (Vmm name machine below frames) rest = omega arith
+
+count_files : (lines : List StackLine) → length (filter_map (λ line. file_of line) lines) ≡ count_by (λ line. is_file line) lines
+count_files [] = refl
+count_files (line ∷ lines) =
+    let here = more_files line (filter_map (λ l. file_of l) lines) in
+    let counted = count_by_cons (λ l. is_file l) line lines in
+    let rest = count_files lines in
+    omega (arith, here, counted, rest)
+
+more_disks : (line : StackLine) (rest : List (List ℕ)) → length (cons_option (disk_of line) rest) ≡ cond (is_disk line) 1 0 + length rest
+more_disks (Page size) rest = omega arith
+more_disks (File name pages) rest = omega arith
+more_disks (Disk name machine) rest = omega arith
+more_disks (Mirror name machine left right) rest = omega arith
+more_disks (Coherency name machine below) rest = omega arith
+more_disks (Dfs name machine below) rest = omega arith
+more_disks (Vmm name machine below frames) rest = omega arith
+
+pub count_disks : (lines : List StackLine) → length (filter_map (λ line. disk_of line) lines) ≡ count_by (λ line. is_disk line) lines
+count_disks [] = refl
+count_disks (line ∷ lines) =
+    let here = more_disks line (filter_map (λ l. disk_of l) lines) in
+    let counted = count_by_cons (λ l. is_disk l) line lines in
+    let rest = count_disks lines in
+    omega (arith, here, counted, rest)
+
+file_pages : (earlier : List StackLine) (line : StackLine) (rest : List FileEntry) → keeps Limits earlier line ≡ true → AllByRecursion (λ file. IsInLimits file.pages) rest → AllByRecursion (λ file. IsInLimits file.pages) (cons_option (file_of line) rest)
+file_pages earlier (Page size) rest e h = h
+file_pages earlier (File name pages) rest e h = (in_limits pages (and_parts (ltb (count_by (λ l. is_file l) earlier) 16) (is_count pages) e).1, h)
+file_pages earlier (Disk name machine) rest e h = h
+file_pages earlier (Mirror name machine left right) rest e h = h
+file_pages earlier (Coherency name machine below) rest e h = h
+file_pages earlier (Dfs name machine below) rest e h = h
+file_pages earlier (Vmm name machine below frames) rest e h = h
+
+each_pages : (earlier lines : List StackLine) → KeepsRules earlier lines → AllByRecursion (λ file. IsInLimits file.pages) (filter_map (λ line. file_of line) lines)
+each_pages earlier [] keeps = tt
+each_pages earlier (line ∷ lines) keeps = file_pages earlier line (filter_map (λ l. file_of l) lines) (keeps.0 Limits) (each_pages (earlier ++ line ∷ []) lines keeps.1)
+
+some_count : {X : Type 0} (p : X → Bool) (xs : List X) → list_any p xs ≡ true → 1 ≤ count_by p xs
+some_count p [] e = absurd (false≢true e)
+some_count p (x ∷ xs) e =
+    let counted = count_by_cons p x xs in
+    elim (or_cases (p x) (list_any p xs) e) [
+      | inl here ↦ let one = cond-true {A = ℕ} (p x) 1 0 here in omega (arith, counted, one)
+      | inr later ↦ let rest = some_count p xs later in omega (arith, counted, rest)
+    ]
+
+-- the machines
+
+longer : (names : List (List ℕ)) (machine : Option (List ℕ)) → length names ≤ length (with_machine names machine)
+longer names None = omega arith
+longer names (Some name) =
+    let grown = length-append names (name ∷ []) in
+    cond_both (list_any (λ own. bytes_eq own name) names) names (names ++ name ∷ []) (λ ns. length names ≤ length ns) (λ _. omega arith) (λ _. omega (arith, grown))
+
+some_name : (names : List (List ℕ)) (name : List ℕ) → 0 < length (with_machine names (Some name))
+some_name [] name = omega arith
+some_name (own ∷ names) name = let h = longer (own ∷ names) (Some name) in omega (arith, h)
+
+abbrev machines_onto : List (List ℕ) → List StackLine → List (List ℕ)
+machines_onto names lines = fold (λ ns line. with_machine ns (machine_of line)) names lines
+
+onto_longer : (names : List (List ℕ)) (lines : List StackLine) → length names ≤ length (machines_onto names lines)
+onto_longer names [] = omega arith
+onto_longer names (line ∷ lines) =
+    let here = longer names (machine_of line) in
+    let rest = onto_longer (with_machine names (machine_of line)) lines in
+    omega (arith, here, rest)
+
+has_machine : (line : StackLine) → is_storage line ≡ true → (machine : List ℕ) × (machine_of line ≡ Some machine)
+has_machine (Page size) e = absurd (false≢true e)
+has_machine (File name pages) e = absurd (false≢true e)
+has_machine (Disk name machine) e = (machine, refl)
+has_machine (Mirror name machine left right) e = (machine, refl)
+has_machine (Coherency name machine below) e = absurd (false≢true e)
+has_machine (Dfs name machine below) e = absurd (false≢true e)
+has_machine (Vmm name machine below frames) e = absurd (false≢true e)
+
+some_machine : (names : List (List ℕ)) (lines : List StackLine) → list_any (λ line. is_storage line) lines ≡ true → 0 < length (machines_onto names lines)
+some_machine names [] e = absurd (false≢true e)
+some_machine names (line ∷ lines) e =
+    elim (or_cases (is_storage line) (list_any (λ l. is_storage l) lines) e) [
+      | inl here ↦
+          let m = has_machine line here in
+          let grown : 0 < length (with_machine names (machine_of line)) = subst (λ o. 0 < length (with_machine names o)) (sym m.1) (some_name names m.0) in
+          let rest = onto_longer (with_machine names (machine_of line)) lines in
+          omega (arith, grown, rest)
+      | inr later ↦ some_machine (with_machine names (machine_of line)) lines later
+    ]
+
+low_place : (place len : ℕ) → 0 < len → unwrap_or (cond (ltb place len) (Some place) None) 0 < len
+low_place place len some =
+    elim (cases_Bool (ltb place len)) [
+      | inl low ↦ subst (λ n. n < len) (sym (ap (λ o. unwrap_or o 0) (cond-true (ltb place len) (Some place) None low))) (ltb-true place len low)
+      | inr past ↦ subst (λ n. n < len) (sym (ap (λ o. unwrap_or o 0) (cond-false (ltb place len) (Some place) None past))) some
+    ]
+
+low_number : (names : List (List ℕ)) (name : List ℕ) → 0 < length names → number_in names name < length names
+low_number names name some = low_place (position_or_len (λ own. bytes_eq own name) names) (length names) some
+
+-- the nodes
+
+ground_is : (machines : List (List ℕ)) (nodes : List StackLine) (line : StackLine) (node : NodeEntry) → 0 < length machines → is_storage line ≡ true → node_of machines nodes line ≡ Some node → IsGroundNode machines node
+ground_is machines nodes (Page size) node some e is = absurd (false≢true e)
+ground_is machines nodes (File name pages) node some e is = absurd (false≢true e)
+ground_is machines nodes (Disk name machine) node some e is = subst (IsGroundNode machines) (same _ node is) (record { kind = tt; low = refl; bare = refl; machine = low_number machines machine some }) where
+  same : (a b : NodeEntry) → Some a ≡ Some b → a ≡ b
+  same a b f = cc
+ground_is machines nodes (Mirror name machine left right) node some e is = subst (IsGroundNode machines) (same _ node is) (record { kind = tt; low = refl; bare = refl; machine = low_number machines machine some }) where
+  same : (a b : NodeEntry) → Some a ≡ Some b → a ≡ b
+  same a b f = cc
+ground_is machines nodes (Coherency name machine below) node some e is = absurd (false≢true e)
+ground_is machines nodes (Dfs name machine below) node some e is = absurd (false≢true e)
+ground_is machines nodes (Vmm name machine below frames) node some e is = absurd (false≢true e)
+
+layer_is : (text earlier nodes : List StackLine) (machines : List (List ℕ)) (line : StackLine) (rest : List NodeEntry) → 0 < length machines → is_node text line ≡ true → keeps Limits earlier line ≡ true
+    → AllByRecursion (IsLayerNode machines) rest → AllByRecursion (IsLayerNode machines) (cons_option (node_of machines nodes line) rest)
+layer_is text earlier nodes machines (Page size) rest some is e h = absurd (false≢true is)
+layer_is text earlier nodes machines (File name pages) rest some is e h = absurd (false≢true is)
+layer_is text earlier nodes machines (Disk name machine) rest some is e h = absurd (false≢true is)
+layer_is text earlier nodes machines (Mirror name machine left right) rest some is e h = absurd (false≢true is)
+layer_is text earlier nodes machines (Coherency name machine below) rest some is e h = (record { kind = refl; machine = low_number machines machine some }, h)
+layer_is text earlier nodes machines (Dfs name machine below) rest some is e h = (record { kind = refl; machine = low_number machines machine some }, h)
+layer_is text earlier nodes machines (Vmm name machine below frames) rest some is e h =
+    (record { kind = in_limits frames (and_parts (has_room earlier below) (is_count frames) e).1; machine = low_number machines machine some }, h)
+
+each_layer : (text nodes : List StackLine) (machines : List (List ℕ)) (earlier lines : List StackLine) → 0 < length machines → KeepsRules earlier lines
+    → AllByRecursion (IsLayerNode machines) (filter_map (λ line. node_of machines nodes line) (filter (λ line. is_node text line) lines))
+each_layer text nodes machines earlier [] some keeps = tt
+each_layer text nodes machines earlier (line ∷ lines) some keeps =
+    let others = filter (λ l. is_node text l) lines in
+    let rest = each_layer text nodes machines (earlier ++ line ∷ []) lines some keeps.1 in
+    cond_both (is_node text line) (line ∷ others) others (λ ls. AllByRecursion (IsLayerNode machines) (filter_map (λ l. node_of machines nodes l) ls))
+      (λ is. layer_is text earlier nodes machines line (filter_map (λ l. node_of machines nodes l) others) some is (keeps.0 Limits) rest) (λ _. rest)
+
+pub all_at : {X : Type 0} (P : X → Type 0) (xs : List X) (i : ℕ) (d : X) → AllByRecursion P xs → i < length xs → P (get_or xs i d)
+all_at P [] i d h lt = absurd (omega (arith, lt))
+all_at P (x ∷ xs) zero d h lt = h.0
+all_at P (x ∷ xs) (suc i) d h lt = all_at P xs i d h.1 (omega (arith, lt))
+
+placed_below : (all rest : List NodeEntry) (first i : ℕ) (d : NodeEntry) → EachPlaced all first rest → i < length rest → (get_or rest i d).below < first + i
+placed_below all [] first i d h lt = absurd (omega (arith, lt))
+placed_below all (node ∷ rest) first zero d h lt = let low = h.0.lower in omega (arith, low)
+placed_below all (node ∷ rest) first (suc i) d h lt = let low = placed_below all rest (suc first) i d h.1 (omega (arith, lt)) in omega (arith, low)
+
+layer_at : (machines : List (List ℕ)) (ground : NodeEntry) (rest : List NodeEntry) → AllByRecursion (IsLayerNode machines) rest
+    → (node : ℕ) (d : NodeEntry) → 0 < node → node < length (ground ∷ rest) → IsLayerNode machines (get_or (ground ∷ rest) node d)
+layer_at machines ground rest h zero d above inside = absurd (omega (arith, above))
+layer_at machines ground rest h (suc i) d above inside = all_at (IsLayerNode machines) rest i d h (omega (arith, inside))
+
+below_at : (ground : NodeEntry) (rest : List NodeEntry) → ArePlaced ground rest → (node : ℕ) (d : NodeEntry) → 0 < node → node < length (ground ∷ rest) → (get_or (ground ∷ rest) node d).below < node
+below_at ground rest are zero d above inside = absurd (omega (arith, above))
+below_at ground rest are (suc i) d above inside = let low = placed_below (ground ∷ rest) rest 1 i d are.each (omega (arith, inside)) in omega (arith, low)
+
+pub mounted_is : (lines : List StackLine) → IsAccepted lines → IsMount (mounted lines)
+mounted_is lines accepted =
+    let keeps = kept lines accepted in
+    let has = has_nodes lines keeps in
+    let machines = machines_of lines in
+    let some = some_machine [] lines (ground_storage lines keeps) in
+    let layers : AllByRecursion (IsLayerNode machines) has.rest = subst (AllByRecursion (IsLayerNode machines)) (sym has.others) (each_layer lines (node_lines lines) machines [] lines some keeps) in
+    let files = some_count (λ l. is_file l) lines (kept_at_end [] lines keeps Limits) in
+    let file_count = count_files lines in
+    let few_files = few_by (λ l. is_file l) 16 file_step [] lines keeps (omega arith) in
+    let disk_count = count_disks lines in
+    let few_disks = few_by (λ l. is_disk l) 4 disk_step [] lines keeps (omega arith) in
+    record {
+      page_size = page_size_is lines keeps;
+      some_file = omega (arith, files, file_count);
+      few_files = omega (arith, few_files, file_count);
+      pages = each_pages [] lines keeps;
+      few_disks = omega (arith, few_disks, disk_count);
+      tree = mounted_tree lines accepted;
+      served = refl;
+      few_nodes = few_nodes lines keeps;
+      ground_node = λ d. subst (λ ns. IsGroundNode machines (get_or ns 0 d)) (sym has.all) (ground_is machines (node_lines lines) has.line has.ground some has.storage has.named);
+      layer_node = λ node d above inside. subst (λ ns. IsLayerNode machines (get_or ns node d)) (sym has.all) (layer_at machines has.ground has.rest layers node d above (subst (λ ns. node < length ns) has.all inside));
+      ordered = λ node d above inside. subst (λ ns. (get_or ns node d).below < node) (sym has.all) (below_at has.ground has.rest has.placed node d above (subst (λ ns. node < length ns) has.all inside));
+    }
+
+mount_of : ℕ → List FileEntry → TreeShape → List NodeEntry → Plan → List (List ℕ) → List (List ℕ) → Mount
+mount_of page_size files tree nodes ground disks machines = record { page_size = page_size; files = files; tree = tree; nodes = nodes; ground = ground; disks = disks; machines = machines }
+
+same_mount : (p p' : ℕ) (f f' : List FileEntry) (t t' : TreeShape) (n n' : List NodeEntry) (g g' : Plan) (d d' m m' : List (List ℕ)) → p ≡ p' → f ≡ f' → t ≡ t' → n ≡ n' → g ≡ g' → d ≡ d' → m ≡ m'
+    → mount_of p f t n g d m ≡ mount_of p' f' t' n' g' d' m'
+same_mount p p' f f' t t' n n' g g' d d' m m' a b c e h i j = cc
+
+made_of : (m : Mount) → mount_of m.page_size m.files m.tree m.nodes m.ground m.disks m.machines ≡ m
+unfolding mount_of
+made_of m = refl
+
+-- the same, of what has the parts of the mounted stack
+pub sound_parts : (lines : List StackLine) (m : Mount) → m.page_size ≡ page_size_of lines → m.files ≡ filter_map (λ line. file_of line) lines → m.tree ≡ tree_of (nodes_of lines) → m.nodes ≡ nodes_of lines
+    → m.ground ≡ plan_back (reverse lines) (ground_name lines) → m.disks ≡ filter_map (λ line. disk_of line) lines → m.machines ≡ machines_of lines → IsAccepted lines → IsMount m
+sound_parts lines m page_size files tree nodes ground disks machines accepted =
+    let made = mounted lines in
+    let same : m ≡ made = sym (made_of m) ∙ same_mount m.page_size made.page_size m.files made.files m.tree made.tree m.nodes made.nodes m.ground made.ground m.disks made.disks m.machines made.machines page_size files tree nodes ground disks machines ∙ made_of made in
+    subst IsMount (sym same) (mounted_is lines accepted)

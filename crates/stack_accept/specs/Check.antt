@@ -1,0 +1,2 @@
+-- What the command `check` writes.
+use Rattle.std.specs.Prelude.{ℕ}

@@ -1,0 +1,125 @@
+-- The tree that an accepted stack makes.
+use Rattle.std.specs.Prelude.{ℕ, zero, suc, List, [], ◌∷◌, ◌++◌, reverse, filter, map, fold, position, slice_get, Bool, true, false, ◌&&◌, ◌==◌, if◌then◌else◌, Option, Some, None, unwrap_or}
+use Rattle.std.specs.Option.{option_map_or, option_to_list}
+use Rattle.std.specs.List.{list_any, find, filter_map}
+use Rattle.std.specs.Str.{bytes_eq}
+use Rattle.stack_text.specs.declared.stack.StackLine.{StackLine}
+use Rattle.stack_text.specs.declared.stack.StackLine.TheVariants.{Page, File, Disk, Mirror, Coherency, Dfs, Vmm}
+use Rattle.stack_accept.specs.declared.entries.Kind.{Kind}
+use Rattle.stack_accept.specs.declared.entries.Kind.TheVariants as kinds
+use Rattle.stack_accept.specs.declared.entries.FileEntry.{FileEntry}
+use Rattle.stack_accept.specs.declared.entries.NodeEntry.{NodeEntry}
+use Rattle.tower_core.specs.TreeShape.{TreeShape}
+use Rattle.stack_accept.specs.Lines.{machine_of, is_named, is_storage}
+use Rattle.stack_accept.specs.Rules.{is_node, is_first_node}
+use Rattle.stack_accept.specs.Plan.{Plan, plan_back}
+
+-- a mounted stack, seen as its lists
+pub record Mount : Type 0 where
+  pub page_size : ℕ
+  pub files : List FileEntry
+  pub tree : TreeShape
+  pub nodes : List NodeEntry
+  pub ground : Plan
+  pub disks : List (List ℕ)
+  pub machines : List (List ℕ)
+
+-- the place of a name in a list of names
+abbrev pub number_in : List (List ℕ) → List ℕ → ℕ
+number_in names name = unwrap_or (position (λ own. bytes_eq own name) names) 0
+
+abbrev pub page_size_of : List StackLine → ℕ
+page_size_of (Page size ∷ lines) = size
+page_size_of lines = 0
+
+abbrev pub file_of : StackLine → Option FileEntry
+file_of (File name pages) = Some (record { name = name; pages = pages })
+file_of _ = None
+
+abbrev pub disk_of : StackLine → Option (List ℕ)
+disk_of (Disk name machine) = Some name
+disk_of _ = None
+
+-- the names with one more, unless it is there already
+abbrev pub with_machine : List (List ℕ) → Option (List ℕ) → List (List ℕ)
+with_machine names None = names
+with_machine names (Some name) = if list_any (λ own. bytes_eq own name) names then names else names ++ name ∷ []
+
+-- the machines in the order in which their names first occur
+abbrev pub machines_of : List StackLine → List (List ℕ)
+machines_of lines = fold (λ names line. with_machine names (machine_of line)) [] lines
+
+-- what an upper layer stands on
+abbrev pub base_of : StackLine → List ℕ
+base_of (Coherency name machine below) = below
+base_of (Dfs name machine below) = below
+base_of (Vmm name machine below frames) = below
+base_of _ = []
+
+-- The ground is what the first node stands on.
+abbrev pub ground_name : List StackLine → List ℕ
+ground_name lines = option_map_or (λ line. base_of line) (find (λ line. is_first_node lines line) lines) []
+
+abbrev pub ground_line : List StackLine → Option StackLine
+ground_line lines = find (λ line. is_storage line && is_named (ground_name lines) line) lines
+
+-- the ground, and then the other nodes in the order of their lines
+abbrev pub node_lines : List StackLine → List StackLine
+node_lines lines = option_to_list (ground_line lines) ++ filter (λ line. is_node lines line) lines
+
+-- the number of the node of the name
+abbrev pub node_number : List StackLine → List ℕ → ℕ
+node_number nodes name = unwrap_or (position (λ line. is_named name line) nodes) 0
+
+-- the node of a layer's line, given the machines and the nodes' lines
+abbrev pub node_of : List (List ℕ) → List StackLine → StackLine → Option NodeEntry
+node_of machines nodes (Page size) = None
+node_of machines nodes (File name pages) = None
+node_of machines nodes (Disk name machine) = Some (record { name = name; kind = kinds.Disk; machine = number_in machines machine; below = 0; frames = 0 })
+node_of machines nodes (Mirror name machine left right) = Some (record { name = name; kind = kinds.Mirror; machine = number_in machines machine; below = 0; frames = 0 })
+node_of machines nodes (Coherency name machine below) = Some (record { name = name; kind = kinds.Coherency; machine = number_in machines machine; below = node_number nodes below; frames = 0 })
+node_of machines nodes (Dfs name machine below) = Some (record { name = name; kind = kinds.Dfs; machine = number_in machines machine; below = node_number nodes below; frames = 0 })
+node_of machines nodes (Vmm name machine below frames) = Some (record { name = name; kind = kinds.Vmm; machine = number_in machines machine; below = node_number nodes below; frames = frames })
+
+abbrev pub nodes_of : List StackLine → List NodeEntry
+nodes_of lines = filter_map (λ line. node_of (machines_of lines) (node_lines lines) line) (node_lines lines)
+
+abbrev pub is_dfs_node : Kind → Bool
+is_dfs_node kinds.Dfs = true
+is_dfs_node _ = false
+
+-- local traffic goes round a distributed layer of its own machine
+abbrev pub goes_round : Option NodeEntry → ℕ → Bool
+goes_round None machine = false
+goes_round (Some node) machine = is_dfs_node node.kind && (node.machine == machine)
+
+abbrev pub below_of : Option NodeEntry → ℕ
+below_of None = 0
+below_of (Some node) = node.below
+
+-- where so many steps down from a view lead, for the machine
+abbrev pub via_in : ℕ → List NodeEntry → ℕ → ℕ → ℕ
+via_in zero nodes view machine = view
+via_in (suc steps) nodes view machine = if goes_round (slice_get nodes view) machine then via_in steps nodes (below_of (slice_get nodes view)) machine else view
+
+-- The node that serves a view's pages on a machine: the view, unless it is a distributed layer of this machine; then
+-- the node that serves what it stands on. Each step goes to a lower node.
+abbrev pub via : List NodeEntry → ℕ → ℕ → ℕ
+via nodes view machine = via_in view nodes view machine
+
+-- the parent of a node is the node that serves on its machine what it stands on
+abbrev pub tree_of : List NodeEntry → TreeShape
+tree_of nodes = record { parents = map (λ node. via nodes node.below node.machine) nodes; frames = map (λ node. node.frames) nodes }
+
+-- the mounted stack of the lines of an accepted text
+abbrev pub mounted : List StackLine → Mount
+mounted lines =
+    record {
+      page_size = page_size_of lines;
+      files = filter_map (λ line. file_of line) lines;
+      tree = tree_of (nodes_of lines);
+      nodes = nodes_of lines;
+      ground = plan_back (reverse lines) (ground_name lines);
+      disks = filter_map (λ line. disk_of line) lines;
+      machines = machines_of lines;
+    }

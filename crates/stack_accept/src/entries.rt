@@ -1,0 +1,65 @@
+//! What a mounted stack consists of.
+
+use hist_plain::Text;
+use std::boxed::Box;
+
+/// What a node is.
+#[derive(Clone, Copy, Debug, PartialEq, Eq)]
+pub enum Kind {
+    /// A disk. Only the ground is one.
+    Disk,
+    /// A mirror. Only the ground is one.
+    Mirror,
+    /// A coherency layer.
+    Coherency,
+    /// A distributed layer.
+    Dfs,
+    /// A virtual memory manager.
+    Vmm,
+}
+
+/// A file of the stack.
+#[derive(Debug, Drop)]
+pub struct FileEntry {
+    /// Its name.
+    pub name: Text,
+    /// How many pages it has, from 1 to 1,024.
+    pub pages: u32,
+}
+
+/// A node of the tree.
+#[derive(Debug, Drop)]
+pub struct NodeEntry {
+    /// The layer's name.
+    pub name: Text,
+    /// What it is.
+    pub kind: Kind,
+    /// The number of its machine.
+    pub machine: u32,
+    /// The node that it stands on by the text; 0 for the ground.
+    pub below: u32,
+    /// How many pages of a file a memory manager holds; 0 for any other node.
+    pub frames: u32,
+}
+
+/// What the ground is made of.
+#[derive(Debug, Drop)]
+pub enum GroundPlan {
+    /// A disk, by its number.
+    Disk {
+        /// The disk's number, in the order of the text.
+        disk: u32,
+    },
+    /// A mirror.
+    Mirror {
+        /// Its left side.
+        left: Box<GroundPlan>,
+        /// Its right side.
+        right: Box<GroundPlan>,
+    },
+    /// A coherency layer that is a mirror's side, and writes through.
+    Coherency {
+        /// What it stands on.
+        below: Box<GroundPlan>,
+    },
+}

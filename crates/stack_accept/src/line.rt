@@ -1,0 +1,171 @@
+//! What the lines of a stack say.
+
+ghost use Rattle.std.specs.Prelude.{◌≡◌, map, count_by};
+ghost use Rattle.std.specs.Option.{option_map};
+ghost use Rattle.std.specs.Str.{bytes_eq};
+ghost use Rattle.stack_accept.specs.Lines.{is_page, is_file, is_disk, is_mirror, is_coherency, is_dfs, is_vmm, is_storage, is_upper, is_layer, name_of, machine_of, is_word, is_named, is_layer_named, stands_on, is_declared, is_storage_name, is_vmm_name, is_used, is_side, is_coherent_storage};
+
+use stack_text::StackLine;
+
+pub fn is_page(line: &StackLine) -> bool
+    ensures { result ≡ is_page line.now }
+{
+    matches!(line, StackLine::Page { .. })
+}
+
+pub fn is_file(line: &StackLine) -> bool
+    ensures { result ≡ is_file line.now }
+{
+    matches!(line, StackLine::File { .. })
+}
+
+pub fn is_disk(line: &StackLine) -> bool
+    ensures { result ≡ is_disk line.now }
+{
+    matches!(line, StackLine::Disk { .. })
+}
+
+pub fn is_mirror(line: &StackLine) -> bool
+    ensures { result ≡ is_mirror line.now }
+{
+    matches!(line, StackLine::Mirror { .. })
+}
+
+pub fn is_dfs(line: &StackLine) -> bool
+    ensures { result ≡ is_dfs line.now }
+{
+    matches!(line, StackLine::Dfs { .. })
+}
+
+pub fn is_vmm(line: &StackLine) -> bool
+    ensures { result ≡ is_vmm line.now }
+{
+    matches!(line, StackLine::Vmm { .. })
+}
+
+/// A disk or a mirror.
+pub fn is_storage(line: &StackLine) -> bool
+    ensures { result ≡ is_storage line.now }
+{
+    matches!(line, StackLine::Disk { .. } | StackLine::Mirror { .. })
+}
+
+/// A coherency layer, a distributed layer or a memory manager.
+pub fn is_upper(line: &StackLine) -> bool
+    ensures { result ≡ is_upper line.now }
+{
+    matches!(
+        line,
+        StackLine::Coherency { .. } | StackLine::Dfs { .. } | StackLine::Vmm { .. }
+    )
+}
+
+/// The name that the line declares.
+pub fn name(line: &StackLine) -> Option<&str>
+    ensures { option_map (λ n. n.now) result ≡ name_of line.now }
+{
+    match line {
+        StackLine::Page { .. } => None,
+        StackLine::File { name, .. } => Some(name.as_str()),
+        StackLine::Disk { name, .. } => Some(name.as_str()),
+        StackLine::Mirror { name, .. } => Some(name.as_str()),
+        StackLine::Coherency { name, .. } => Some(name.as_str()),
+        StackLine::Dfs { name, .. } => Some(name.as_str()),
+        StackLine::Vmm { name, .. } => Some(name.as_str()),
+    }
+}
+
+/// The machine of a layer.
+pub fn machine(line: &StackLine) -> Option<&str>
+    ensures { option_map (λ n. n.now) result ≡ machine_of line.now }
+{
+    match line {
+        StackLine::Page { .. } => None,
+        StackLine::File { .. } => None,
+        StackLine::Disk { machine, .. } => Some(machine.as_str()),
+        StackLine::Mirror { machine, .. } => Some(machine.as_str()),
+        StackLine::Coherency { machine, .. } => Some(machine.as_str()),
+        StackLine::Dfs { machine, .. } => Some(machine.as_str()),
+        StackLine::Vmm { machine, .. } => Some(machine.as_str()),
+    }
+}
+
+/// Whether there is a word, and it is this one.
+pub fn is_word(own: Option<&str>, word: &str) -> bool
+    ensures { result ≡ is_word (option_map (λ n. n.now) own.entry) word.now }
+{
+    match own {
+        None => false,
+        Some(own) => own == word,
+    }
+}
+
+pub fn is_named(name_sought: &str, line: &StackLine) -> bool
+    ensures { result ≡ is_named name_sought.now line.now }
+{
+    is_word(name(line), name_sought)
+}
+
+pub fn is_layer_named(name: &str, line: &StackLine) -> bool
+    ensures { result ≡ is_layer_named name.now line.now }
+{
+    (is_storage(line) || is_upper(line)) && is_named(name, line)
+}
+
+pub fn stands_on(base: &str, line: &StackLine) -> bool
+    ensures { result ≡ stands_on base.now line.now }
+{
+    match line {
+        StackLine::Mirror { left, right, .. } => left.as_str() == base || right.as_str() == base,
+        StackLine::Coherency { below, .. } => below.as_str() == base,
+        StackLine::Dfs { below, .. } => below.as_str() == base,
+        StackLine::Vmm { below, .. } => below.as_str() == base,
+        _ => false,
+    }
+}
+
+pub fn is_declared(lines: &[StackLine], name: &str) -> bool
+    ensures { result ≡ is_declared lines.now name.now }
+{
+    lines.iter().any(|line| is_layer_named(name, line))
+}
+
+pub fn is_storage_name(lines: &[StackLine], name: &str) -> bool
+    ensures { result ≡ is_storage_name lines.now name.now }
+{
+    lines
+        .iter()
+        .any(|line| is_storage(line) && is_named(name, line))
+}
+
+pub fn is_vmm_name(lines: &[StackLine], name: &str) -> bool
+    ensures { result ≡ is_vmm_name lines.now name.now }
+{
+    lines
+        .iter()
+        .any(|line| is_vmm(line) && is_named(name, line))
+}
+
+pub fn is_used(lines: &[StackLine], name: &str) -> bool
+    ensures { result ≡ is_used lines.now name.now }
+{
+    lines.iter().any(|line| stands_on(name, line))
+}
+
+pub fn is_side(lines: &[StackLine], name: &str) -> bool
+    ensures { result ≡ is_side lines.now name.now }
+{
+    lines
+        .iter()
+        .any(|line| is_mirror(line) && stands_on(name, line))
+}
+
+/// Whether the line is a coherency layer on a disk or a mirror.
+pub fn is_coherent_storage(lines: &[StackLine], line: &StackLine) -> bool
+    ensures { result ≡ is_coherent_storage lines.now line.now }
+{
+    match line {
+        StackLine::Coherency { below, .. } => is_storage_name(lines, below.as_str()),
+        _ => false,
+    }
+}

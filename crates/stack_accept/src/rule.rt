@@ -1,0 +1,463 @@
+//! The rules that a stack text has to keep.
+
+ghost use Rattle.std.specs.Prelude.{◌≡◌, ◌≤◌, ◌<◌, ◌+◌, MatchResult, reverse, length, count_by};
+ghost use Rattle.std.specs.Option.{option_map};
+ghost use Rattle.stack_accept.specs.Lines.{is_upper, is_file, is_disk};
+ghost use Rattle.stack_accept.specs.Rules.{is_page_first, is_new_name, is_taken, may_be_side, has_fit_sides, is_both_sides, is_shared_layer, is_unused, may_use, is_coherent_first, is_near, reaches, depth_back, depth_of, has_room, is_count, is_page_size, is_within_limits, keeps, has_user, is_node, is_first_node, keeps_at_end, rules_in_order, number_of, broken_by, broken_at_end, first_breach, IsAccepted};
+ghost use Rattle.stack_accept.specs.Unfit.{IsUnfit};
+
+use crate::line::{
+    is_coherent_storage, is_declared, is_dfs, is_disk, is_file, is_layer_named, is_mirror,
+    is_named, is_page, is_side, is_storage, is_storage_name, is_upper, is_used, is_vmm_name, is_word,
+    machine, name, stands_on,
+};
+use stack_text::{MAX_LINES, StackLine};
+use std::alloc::AllocError;
+
+const MAX_FILES: usize = 16;
+
+const MAX_DISKS: usize = 4;
+
+const MAX_UPPER_LAYERS: usize = 31;
+
+const MAX_DEPTH: usize = 8;
+
+/// A rule of the stack. Each is asked of every line with the lines before it; some are asked of
+/// the end of the text too. All are this project's own.
+#[derive(Clone, Copy, Debug, PartialEq, Eq)]
+pub enum Rule {
+    /// The page line is first and alone.
+    PageFirst,
+    /// The name is no file's and no layer's before.
+    NewName,
+    /// What a layer stands on is an earlier layer.
+    EarlierLayer,
+    /// A mirror's sides are disks, mirrors, or coherency layers that stand on a disk or a mirror.
+    MirrorSides,
+    /// A disk, a mirror and a mirror's side stand under exactly one layer.
+    OneUser,
+    /// Exactly one layer that is no mirror and no mirror's side stands on a disk or a mirror.
+    OneGround,
+    /// Only mirrors and coherency layers stand on a disk or a mirror.
+    CoherentFirst,
+    /// Nothing stands on a memory manager.
+    ManagerOnTop,
+    /// A layer is on the machine of what it stands on, unless that is a distributed layer.
+    SameMachine,
+    /// The limits on sizes and counts hold, and there is a file.
+    Limits,
+}
+
+/// Why a stack cannot be mounted.
+#[derive(Clone, Copy, Debug, PartialEq, Eq)]
+pub enum Unfit {
+    /// The first line that breaks a rule, and the lowest rule that it breaks.
+    Unfit {
+        /// The rule's number, from 1 to 10.
+        rule: u8,
+        /// The line's number, from 1; one past the last line for what the end of the text lacks.
+        line: u32,
+    },
+    /// Memory ran out.
+    Memory,
+}
+
+impl From<AllocError> for Unfit {
+    ghost use Rattle.stack_accept.specs.declared.rule.Unfit.TheVariants.{Memory};
+
+    ghost from_gives = { λ _ e. e ≡ Memory };
+
+    fn from(_: AllocError) -> Unfit {
+        Unfit::Memory
+    }
+}
+
+/// The page line is first and alone.
+fn is_page_first(earlier: &[StackLine], line: &StackLine) -> bool
+    ensures { result ≡ is_page_first earlier.now line.now }
+{
+    is_page(line) == earlier.is_empty()
+}
+
+/// Whether a file or a layer before has the name.
+fn is_taken(earlier: &[StackLine], name: &str) -> bool
+    ensures { result ≡ is_taken earlier.now name.now }
+{
+    earlier.iter().any(|line| is_named(name, line))
+}
+
+/// The name, where there is one, is new.
+fn is_new_name(earlier: &[StackLine], name: Option<&str>) -> bool
+    ensures { result ≡ is_new_name earlier.now (option_map (λ n. n.now) name.entry) }
+{
+    match name {
+        None => true,
+        Some(name) => !is_taken(earlier, name),
+    }
+}
+
+fn may_be_side(earlier: &[StackLine], name: &str) -> bool
+    ensures { result ≡ may_be_side earlier.now name.now }
+{
+    earlier.iter().any(|line| {
+        (is_storage(line) || is_coherent_storage(earlier, line)) && is_named(name, line)
+    })
+}
+
+/// A mirror's sides keep what they hold on disks alone.
+fn has_fit_sides(earlier: &[StackLine], line: &StackLine) -> bool
+    ensures { result ≡ has_fit_sides earlier.now line.now }
+{
+    match line {
+        StackLine::Mirror { left, right, .. } => {
+            may_be_side(earlier, left.as_str()) && may_be_side(earlier, right.as_str())
+        }
+        _ => true,
+    }
+}
+
+fn is_both_sides(base: &str, line: &StackLine) -> bool
+    ensures { result ≡ is_both_sides base.now line.now }
+{
+    match line {
+        StackLine::Mirror { left, right, .. } => left.as_str() == base && right.as_str() == base,
+        _ => false,
+    }
+}
+
+/// A layer that may have several users, of which this line is one.
+fn is_shared_layer(earlier: &[StackLine], line: &StackLine, base: &str) -> bool
+    ensures { result ≡ is_shared_layer earlier.now line.now base.now }
+{
+    !is_mirror(line) && !is_storage_name(earlier, base) && !is_side(earlier, base)
+}
+
+fn is_unused(earlier: &[StackLine], line: &StackLine, base: &str) -> bool
+    ensures { result ≡ is_unused earlier.now line.now base.now }
+{
+    !is_used(earlier, base) && !is_both_sides(base, line)
+}
+
+fn may_use(earlier: &[StackLine], line: &StackLine, base: &str) -> bool
+    ensures { result ≡ may_use earlier.now line.now base.now }
+{
+    is_unused(earlier, line, base) || is_shared_layer(earlier, line, base)
+}
+
+fn is_coherent_first(earlier: &[StackLine], line: &StackLine) -> bool
+    ensures { result ≡ is_coherent_first earlier.now line.now }
+{
+    match line {
+        StackLine::Dfs { below, .. } => !is_storage_name(earlier, below.as_str()),
+        StackLine::Vmm { below, .. } => !is_storage_name(earlier, below.as_str()),
+        _ => true,
+    }
+}
+
+fn is_near(machine_sought: Option<&str>, line: &StackLine) -> bool
+    ensures { result ≡ is_near (option_map (λ n. n.now) machine_sought.entry) line.now }
+{
+    match machine_sought {
+        None => true,
+        Some(sought) => is_dfs(line) || is_word(machine(line), sought),
+    }
+}
+
+fn reaches(earlier: &[StackLine], machine: Option<&str>, base: &str) -> bool
+    ensures { result ≡ reaches earlier.now (option_map (λ n. n.now) machine.entry) base.now }
+{
+    earlier
+        .iter()
+        .any(|line| is_layer_named(base, line) && is_near(machine, line))
+}
+
+/// How many upper layers there are from the layer of the name down to a disk or a mirror.
+fn depth_of(earlier: &[StackLine], name: &str) -> usize
+    ensures value { result ≡ depth_of earlier.now name.now }
+    ensures few { result ≤ length earlier.now }
+{
+    let [before @ .., line] = earlier else {
+        return 0;
+    };
+    if !is_layer_named(name, line) {
+        return depth_of(before, name);
+    }
+    match line {
+        StackLine::Coherency { below, .. } => depth_of(before, below.as_str()) + 1,
+        StackLine::Dfs { below, .. } => depth_of(before, below.as_str()) + 1,
+        StackLine::Vmm { below, .. } => depth_of(before, below.as_str()) + 1,
+        _ => 0,
+    }
+}
+
+fn has_room(earlier: &[StackLine], below: &str) -> bool
+    ensures { result ≡ has_room earlier.now below.now }
+{
+    earlier.iter().filter(|line| is_upper(line)).count() < MAX_UPPER_LAYERS
+        && depth_of(earlier, below) < MAX_DEPTH
+}
+
+fn is_count(n: u32) -> bool
+    ensures { result ≡ is_count n }
+{
+    1 <= n && n <= 1024
+}
+
+fn is_page_size(size: u32) -> bool
+    ensures { result ≡ is_page_size size }
+{
+    matches!(size, 64 | 128 | 256 | 512 | 1024 | 2048 | 4096)
+}
+
+fn is_within_limits(earlier: &[StackLine], line: &StackLine) -> bool
+    ensures { result ≡ is_within_limits earlier.now line.now }
+{
+    match line {
+        StackLine::Page { size } => is_page_size(*size),
+        StackLine::File { pages, .. } => {
+            earlier.iter().filter(|line| is_file(line)).count() < MAX_FILES && is_count(*pages)
+        }
+        StackLine::Disk { .. } => {
+            earlier.iter().filter(|line| is_disk(line)).count() < MAX_DISKS
+        }
+        StackLine::Mirror { .. } => true,
+        StackLine::Coherency { below, .. } => has_room(earlier, below.as_str()),
+        StackLine::Dfs { below, .. } => has_room(earlier, below.as_str()),
+        StackLine::Vmm { below, frames, .. } => {
+            has_room(earlier, below.as_str()) && is_count(*frames)
+        }
+    }
+}
+
+/// What a layer stands on is an earlier layer.
+fn stands_on_earlier(earlier: &[StackLine], line: &StackLine) -> bool
+    ensures { result ≡ keeps Rule.EarlierLayer earlier.now line.now }
+{
+    match line {
+        StackLine::Mirror { left, right, .. } => {
+            is_declared(earlier, left.as_str()) && is_declared(earlier, right.as_str())
+        }
+        StackLine::Coherency { below, .. } => is_declared(earlier, below.as_str()),
+        StackLine::Dfs { below, .. } => is_declared(earlier, below.as_str()),
+        StackLine::Vmm { below, .. } => is_declared(earlier, below.as_str()),
+        _ => true,
+    }
+}
+
+/// What stands under one layer gets no second one.
+fn is_one_user(earlier: &[StackLine], line: &StackLine) -> bool
+    ensures { result ≡ keeps Rule.OneUser earlier.now line.now }
+{
+    match line {
+        StackLine::Mirror { left, right, .. } => {
+            may_use(earlier, line, left.as_str()) && may_use(earlier, line, right.as_str())
+        }
+        StackLine::Coherency { below, .. } => may_use(earlier, line, below.as_str()),
+        StackLine::Dfs { below, .. } => may_use(earlier, line, below.as_str()),
+        StackLine::Vmm { below, .. } => may_use(earlier, line, below.as_str()),
+        _ => true,
+    }
+}
+
+/// Nothing stands on a memory manager.
+fn is_on_no_manager(earlier: &[StackLine], line: &StackLine) -> bool
+    ensures { result ≡ keeps Rule.ManagerOnTop earlier.now line.now }
+{
+    match line {
+        StackLine::Mirror { left, right, .. } => {
+            !is_vmm_name(earlier, left.as_str()) && !is_vmm_name(earlier, right.as_str())
+        }
+        StackLine::Coherency { below, .. } => !is_vmm_name(earlier, below.as_str()),
+        StackLine::Dfs { below, .. } => !is_vmm_name(earlier, below.as_str()),
+        StackLine::Vmm { below, .. } => !is_vmm_name(earlier, below.as_str()),
+        _ => true,
+    }
+}
+
+/// A layer is on the machine of what it stands on, unless that is a distributed layer.
+fn is_on_same_machine(earlier: &[StackLine], line: &StackLine) -> bool
+    ensures { result ≡ keeps Rule.SameMachine earlier.now line.now }
+{
+    let machine = machine(line);
+    match line {
+        StackLine::Mirror { left, right, .. } => {
+            reaches(earlier, machine, left.as_str()) && reaches(earlier, machine, right.as_str())
+        }
+        StackLine::Coherency { below, .. } => reaches(earlier, machine, below.as_str()),
+        StackLine::Dfs { below, .. } => reaches(earlier, machine, below.as_str()),
+        StackLine::Vmm { below, .. } => reaches(earlier, machine, below.as_str()),
+        _ => true,
+    }
+}
+
+/// A disk or a mirror has a user.
+fn has_user(lines: &[StackLine], line: &StackLine) -> bool
+    ensures { result ≡ has_user lines.now line.now }
+{
+    match line {
+        StackLine::Disk { name, .. } => is_used(lines, name.as_str()),
+        StackLine::Mirror { name, .. } => is_used(lines, name.as_str()),
+        _ => true,
+    }
+}
+
+/// Whether the line is an upper layer that is no mirror's side.
+pub fn is_node(lines: &[StackLine], line: &StackLine) -> bool
+    ensures { result ≡ is_node lines.now line.now }
+{
+    match line {
+        StackLine::Coherency { name, .. } => !is_side(lines, name.as_str()),
+        StackLine::Dfs { name, .. } => !is_side(lines, name.as_str()),
+        StackLine::Vmm { name, .. } => !is_side(lines, name.as_str()),
+        _ => false,
+    }
+}
+
+/// Whether the line is such a layer that stands on a disk or a mirror.
+pub fn is_first_node(lines: &[StackLine], line: &StackLine) -> bool
+    ensures { result ≡ is_first_node lines.now line.now }
+{
+    is_node(lines, line)
+        && match line {
+            StackLine::Coherency { below, .. } => is_storage_name(lines, below.as_str()),
+            StackLine::Dfs { below, .. } => is_storage_name(lines, below.as_str()),
+            StackLine::Vmm { below, .. } => is_storage_name(lines, below.as_str()),
+            _ => false,
+        }
+}
+
+/// Each disk and each mirror has a user.
+fn has_each_user(lines: &[StackLine]) -> bool
+    ensures { result ≡ keeps_at_end Rule.OneUser lines.now }
+{
+    lines.iter().all(|line| has_user(lines, line))
+}
+
+/// The nodes stand on one disk or mirror, and one of them alone stands on it directly.
+fn has_one_ground(lines: &[StackLine]) -> bool
+    ensures { result ≡ keeps_at_end Rule.OneGround lines.now }
+{
+    lines
+        .iter()
+        .filter(|line| is_first_node(lines, line))
+        .count()
+        == 1
+}
+
+fn has_file(lines: &[StackLine]) -> bool
+    ensures { result ≡ keeps_at_end Rule.Limits lines.now }
+{
+    lines.iter().any(|line| is_file(line))
+}
+
+impl Rule {
+    /// The rules, the lowest first.
+    const ALL: [Rule; 10] = [
+        Rule::PageFirst,
+        Rule::NewName,
+        Rule::EarlierLayer,
+        Rule::MirrorSides,
+        Rule::OneUser,
+        Rule::OneGround,
+        Rule::CoherentFirst,
+        Rule::ManagerOnTop,
+        Rule::SameMachine,
+        Rule::Limits,
+    ];
+
+    /// The rule's printed number, from 1 to 10.
+    pub fn number(self) -> u8
+        ensures { result ≡ number_of self }
+    {
+        match self {
+            Rule::PageFirst => 1,
+            Rule::NewName => 2,
+            Rule::EarlierLayer => 3,
+            Rule::MirrorSides => 4,
+            Rule::OneUser => 5,
+            Rule::OneGround => 6,
+            Rule::CoherentFirst => 7,
+            Rule::ManagerOnTop => 8,
+            Rule::SameMachine => 9,
+            Rule::Limits => 10,
+        }
+    }
+
+    /// Whether a line keeps the rule, given the lines before it.
+    fn is_kept(self, earlier: &[StackLine], line: &StackLine) -> bool
+        ensures { result ≡ keeps self earlier.now line.now }
+    {
+        match self {
+            Rule::PageFirst => is_page_first(earlier, line),
+            Rule::NewName => is_new_name(earlier, name(line)),
+            Rule::EarlierLayer => stands_on_earlier(earlier, line),
+            Rule::MirrorSides => has_fit_sides(earlier, line),
+            Rule::OneUser => is_one_user(earlier, line),
+            Rule::OneGround => true,
+            Rule::CoherentFirst => is_coherent_first(earlier, line),
+            Rule::ManagerOnTop => is_on_no_manager(earlier, line),
+            Rule::SameMachine => is_on_same_machine(earlier, line),
+            Rule::Limits => is_within_limits(earlier, line),
+        }
+    }
+
+    /// Whether the end of the text keeps the rule.
+    fn is_kept_at_end(self, lines: &[StackLine]) -> bool
+        ensures { result ≡ keeps_at_end self lines.now }
+    {
+        match self {
+            Rule::PageFirst => !lines.is_empty(),
+            Rule::OneUser => has_each_user(lines),
+            Rule::OneGround => has_one_ground(lines),
+            Rule::Limits => has_file(lines),
+            _ => true,
+        }
+    }
+}
+
+/// The lowest rule that a line breaks, given the lines before it.
+fn broken_by(earlier: &[StackLine], line: &StackLine) -> Option<Rule>
+    ensures { result ≡ broken_by earlier.now line.now }
+{
+    Rule::ALL
+        .iter()
+        .copied()
+        .find(|rule| !rule.is_kept(earlier, line))
+}
+
+/// The lowest rule that the end of the text breaks.
+fn broken_at_end(lines: &[StackLine]) -> Option<Rule>
+    ensures { result ≡ broken_at_end lines.now }
+{
+    Rule::ALL
+        .iter()
+        .copied()
+        .find(|rule| !rule.is_kept_at_end(lines))
+}
+
+/// A broken rule, and the number of the line after so many.
+fn refusal(rule: Rule, before: usize) -> Unfit
+    requires { before ≤ MAX_LINES }
+    ensures { result ≡ Unfit.Unfit (number_of rule) (before + 1) }
+{
+    Unfit::Unfit {
+        rule: rule.number(),
+        line: before as u32 + 1,
+    }
+}
+
+/// Whether the lines keep every rule; else the first line that breaks one, and the lowest of its.
+pub fn check(lines: &[StackLine]) -> Result<(), Unfit>
+    requires { length lines.now ≤ MAX_LINES }
+    ensures { MatchResult result (λ _. IsAccepted lines.now) (IsUnfit (first_breach lines.now)) }
+{
+    for (index, line) in lines.iter().enumerate() {
+        if let Some(rule) = broken_by(&lines[..index], line) {
+            return Err(refusal(rule, index));
+        }
+    }
+    match broken_at_end(lines) {
+        Some(rule) => Err(refusal(rule, lines.len())),
+        None => Ok(()),
+    }
+}

@@ -1,0 +1,91 @@
+//! Why a text is no stack text.
+
+ghost use Rattle.std.specs.Prelude.{◌≡◌};
+ghost use Rattle.stack_text.specs.Why.{word_of, why_of};
+
+use std::alloc::{AllocError, AllocFailed};
+use text_words::LineWhy;
+
+/// Why a line is none of a stack text. They are tested in this order, and the first counts.
+#[derive(Clone, Copy, Debug, PartialEq, Eq)]
+pub enum StackWhy {
+    /// A byte is not one of space to `~`.
+    Byte,
+    /// The line is empty, has a space at an end, or two spaces together.
+    Space,
+    /// The last line has no line feed.
+    End,
+    /// There are 128 lines before.
+    Long,
+    /// The first word names no kind of line.
+    Verb,
+    /// The number of words is wrong.
+    Words,
+    /// A word in a name's place is no name.
+    Name,
+    /// A word in a number's place is no number.
+    Number,
+    /// Memory ran out.
+    Memory,
+}
+
+impl StackWhy {
+    /// The reason's printed word.
+    pub fn word(self) -> &'static str
+        ensures { result.now ≡ word_of self }
+    {
+        match self {
+            StackWhy::Byte => "byte",
+            StackWhy::Space => "space",
+            StackWhy::End => "end",
+            StackWhy::Long => "long",
+            StackWhy::Verb => "verb",
+            StackWhy::Words => "words",
+            StackWhy::Name => "name",
+            StackWhy::Number => "number",
+            StackWhy::Memory => "memory",
+        }
+    }
+}
+
+impl From<AllocError> for StackWhy {
+    ghost use Rattle.stack_text.specs.declared.why.StackWhy.TheVariants.{Memory};
+
+    ghost from_gives = { λ _ e. e ≡ Memory };
+
+    fn from(_: AllocError) -> StackWhy {
+        StackWhy::Memory
+    }
+}
+
+impl<T: Drop> From<AllocFailed<T>> for StackWhy {
+    ghost use Rattle.stack_text.specs.declared.why.StackWhy.TheVariants.{Memory};
+
+    ghost from_gives = { λ _ e. e ≡ Memory };
+
+    fn from(_: AllocFailed<T>) -> StackWhy {
+        StackWhy::Memory
+    }
+}
+
+impl From<LineWhy> for StackWhy {
+    ghost from_gives = { λ why e. e ≡ why_of why };
+
+    fn from(why: LineWhy) -> StackWhy {
+        match why {
+            LineWhy::Byte => StackWhy::Byte,
+            LineWhy::Space => StackWhy::Space,
+            LineWhy::End => StackWhy::End,
+            LineWhy::Memory => StackWhy::Memory,
+        }
+    }
+}
+
+/// A text that is no stack text: the first line that is none, and why.
+#[derive(Clone, Copy, Debug, PartialEq, Eq)]
+pub struct Refused {
+    /// The line's number, from 1; 0 where memory ran out.
+    pub line: u32,
+    /// The first reason.
+    pub why: StackWhy,
+}

@@ -1,0 +1,38 @@
+-- The first of some words, and then the others with a byte before each.
+use Rattle.std.proofs.Common.{◌≡◌, ℕ, suc, ◌-◌, ◌≤◌, List, [], ◌∷◌, ◌++◌, length, take, drop, get_or, map, Bor, Result, Ok, Err, refl, sym, ap, ◌∙◌, append_assoc, arith}
+use Rattle.std.specs.Prelude.{OnOk}
+use Rattle.std.specs.List.{flat_map, join_with_byte}
+use Rattle.std.proofs.Math.Seq.{take-length}
+use Rattle.text_words.specs.Lines.{spaced}
+use Rattle.text_words.specs.Words.{path_word}
+use Rattle.text_words.proofs.Splits.{join_spaced}
+
+joined : (c : ℕ) (out with_first new first : List ℕ) (rest : List (List ℕ)) → with_first ≡ out ++ first → new ≡ with_first ++ flat_map (λ w. c ∷ w) rest → new ≡ out ++ join_with_byte c (first ∷ rest)
+joined c out with_first new first rest f h =
+    h ∙ ap (λ (bs : List ℕ). bs ++ flat_map (λ w. c ∷ w) rest) f ∙ append_assoc out first (flat_map (λ w. c ∷ w) rest) ∙ ap (λ (bs : List ℕ). out ++ bs) (sym (join_spaced c first rest))
+
+take_all : {A : Type 0} (ys : List A) (n : ℕ) → n ≡ length ys → take n ys ≡ ys
+take_all ys n e = rw e (take-length ys)
+
+others : {A : Type 0} (x : A) (xs : List A) → take (length (x ∷ xs) - 1) (drop 1 (x ∷ xs)) ≡ xs
+others x xs = take_all xs (length (x ∷ xs) - 1) (omega arith)
+
+pub words_put : {E : Type 0} (r : Result (Unit {0}) E) (out with_first new : List ℕ) (words : List (Bor (List ℕ))) (d : Bor (List ℕ)) → 1 ≤ length words
+    → with_first ≡ out ++ (get_or words 0 d).now
+    → OnOk r (new ≡ with_first ++ spaced (map (λ word. word.now) (take (length words - 1) (drop 1 words))))
+    → OnOk r (new ≡ out ++ join_with_byte 32 (map (λ word. word.now) words))
+words_put r out with_first new [] d some f h = absurd (omega arith)
+words_put (Ok x) out with_first new (word ∷ words) d some f h =
+    joined 32 out with_first new word.now (map (λ w. w.now) words) f (h ∙ ap (λ (ws : List (Bor (List ℕ))). with_first ++ spaced (map (λ w. w.now) ws)) (others word words))
+words_put (Err e) out with_first new (word ∷ words) d some f h = h
+
+pub path_put : {E : Type 0} (r : Result (Unit {0}) E) (out with_first new first d : List ℕ) (parts seen : List (List ℕ)) → 1 ≤ length seen → seen ≡ parts
+    → with_first ≡ out ++ 32 ∷ first → first ≡ get_or seen 0 d
+    → OnOk r (new ≡ with_first ++ flat_map (λ w. 47 ∷ w) (take (length seen - 1) (drop 1 seen)))
+    → OnOk r (new ≡ out ++ 32 ∷ path_word parts)
+path_put r out with_first new first d parts [] some same f g h = absurd (omega arith)
+path_put (Ok x) out with_first new first d parts (part ∷ rest) some same f g h =
+    let first_is : with_first ≡ (out ++ 32 ∷ []) ++ part = f ∙ ap (λ (bs : List ℕ). out ++ 32 ∷ bs) g ∙ sym (append_assoc out (32 ∷ []) part) in
+    joined 47 (out ++ 32 ∷ []) with_first new part rest first_is (h ∙ ap (λ (ws : List (List ℕ)). with_first ++ flat_map (λ w. 47 ∷ w) ws) (others part rest))
+    ∙ append_assoc out (32 ∷ []) (join_with_byte 47 (part ∷ rest)) ∙ ap (λ (ps : List (List ℕ)). out ++ 32 ∷ path_word ps) same
+path_put (Err e) out with_first new first d parts (part ∷ rest) some same f g h = h

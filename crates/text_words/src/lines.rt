@@ -1,0 +1,126 @@
+//! A text as lines, and a line as words.
+
+ghost use Rattle.std.specs.Prelude.{◌≡◌, ◌==◌, ◌∷◌, ◌<◌, IfOk, List, ℕ, length, map, position, Ok, MatchResult};
+ghost use Rattle.std.specs.List.{AllByRecursion, flat_map, list_all};
+ghost use Rattle.text_words.specs.Lines.{row_of, rows_of, is_line_byte, has_bytes, words_in, words_at, AreWords, words_row, ReadsWords, row_bytes, text_of};
+
+use std::alloc::{AllocError, Global};
+
+/// A line of a text: its bytes without the line feed, and whether it ends with one. Only the last
+/// line of a text can be without.
+#[derive(Clone, Copy, Debug)]
+pub struct Line<'a> {
+    /// The bytes before the line feed.
+    pub body: &'a [u8],
+    /// Whether a line feed follows.
+    pub ended: bool,
+}
+
+/// Why a line is no list of words; of several reasons the first counts.
+#[derive(Clone, Copy, Debug, PartialEq, Eq)]
+pub enum LineWhy {
+    /// A byte is not one of space to `~`.
+    Byte,
+    /// The line is empty, has a space at an end, or two spaces together.
+    Space,
+    /// The line has no line feed.
+    End,
+    /// Memory ran out.
+    Memory,
+}
+
+impl From<AllocError> for LineWhy {
+    ghost use Rattle.text_words.specs.declared.lines.LineWhy.TheVariants.{Memory};
+
+    ghost from_gives = { λ _ e. e ≡ Memory };
+
+    fn from(_: AllocError) -> LineWhy {
+        LineWhy::Memory
+    }
+}
+
+fn line_feed(text: &[u8]) -> Option<usize>
+    ensures { result ≡ position (λ b. b == 10) text.now }
+{
+    text.iter().position(|b| *b == b'\n')
+}
+
+/// The first line of a text, and what follows it.
+pub fn split_line(text: &[u8]) -> (Line<'_>, &[u8])
+    requires { 0 < length text.now }
+    ensures lines { rows_of text.now ≡ row_of result.0 ∷ rows_of result.1.now }
+    ensures shorter { length result.1.now < length text.now }
+{
+    match line_feed(text) {
+        Some(end) => (
+            Line {
+                body: &text[..end],
+                ended: true,
+            },
+            &text[end + 1..],
+        ),
+        None => (
+            Line {
+                body: text,
+                ended: false,
+            },
+            &text[text.len()..],
+        ),
+    }
+}
+
+fn are_line_bytes(body: &[u8]) -> bool
+    ensures { result ≡ list_all is_line_byte body.now }
+{
+    body.iter().all(|b| 32 <= *b && *b <= 126)
+}
+
+fn split_words(alloc: Global, body: &[u8]) -> Result<Vec<&[u8]>, AllocError>
+    ensures { IfOk result (λ words. map (λ word. word.now) words.items ≡ words_in body.now) }
+{
+    body.split(|b| *b == b' ').collect(alloc)
+}
+
+fn have_bytes(words: &[&[u8]]) -> bool
+    ensures { result ≡ list_all has_bytes (map (λ word. word.now) words.now) }
+{
+    for word in words {
+        if word.is_empty() {
+            return false;
+        }
+    }
+    true
+}
+
+#[tactic(auto, unfolding(crate::specs::Lines::words_at))]
+fn checked_words(alloc: Global, line: Line<'_>) -> Result<Vec<&[u8]>, LineWhy>
+    ensures { MatchResult result (λ words. words_at (row_of line.entry) ≡ Ok (map (λ word. word.now) words.items)) (λ why. ReadsWords why (words_at (row_of line.entry))) }
+{
+    if !are_line_bytes(line.body) {
+        return Err(LineWhy::Byte);
+    }
+    let words = split_words(alloc, line.body)?;
+    if !have_bytes(&words) {
+        return Err(LineWhy::Space);
+    }
+    if !line.ended {
+        return Err(LineWhy::End);
+    }
+    Ok(words)
+}
+
+/// The words of a line, or the first reason why it is none.
+pub fn words_of(alloc: Global, line: Line<'_>) -> Result<Vec<&[u8]>, LineWhy>
+    ensures value { MatchResult result (λ words. words_at (row_of line.entry) ≡ Ok (map (λ word. word.now) words.items)) (λ why. ReadsWords why (words_at (row_of line.entry))) }
+    ensures found { IfOk result (λ words. AreWords (map (λ word. word.now) words.items) × (row_of line.entry ≡ words_row (map (λ word. word.now) words.items))) }
+    ensures only { (words : List (List ℕ)) → AreWords words → row_of line.entry ≡ words_row words → MatchResult result (λ read. map (λ word. word.now) read.items ≡ words) (λ why. why ≡ LineWhy.Memory) }
+{
+    checked_words(alloc, line)
+}
+
+/// The lines of a text, one after the other, are the text; and the lines of words are the lines of
+/// the text that they make.
+pub fn lines_and_text()
+    ensures split_joined { (text : List ℕ) → flat_map row_bytes (rows_of text) ≡ text }
+    ensures joined_split { (lines : List (List (List ℕ))) → AllByRecursion AreWords lines → rows_of (text_of lines) ≡ map words_row lines }
+{}

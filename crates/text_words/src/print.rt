@@ -1,0 +1,98 @@
+//! Putting a text together in one buffer. Where memory runs out, what a call appended so far may
+//! stand at the buffer's end.
+
+ghost use Rattle.std.specs.Prelude.{◌≡◌, ◌++◌, ◌∷◌, [], OnOk, OnErr, List, ℕ, map};
+ghost use Rattle.std.specs.List.{flat_map, join_with_byte};
+ghost use Rattle.std.specs.Fmt.{decimal};
+ghost use Rattle.hex.specs.Hex.{encode_lower};
+ghost use Rattle.text_words.specs.Lines.{line_of, spaced};
+ghost use Rattle.text_words.specs.Words.{path_word};
+
+use hist_plain::{Path, Text};
+use itoa::Buffer;
+use std::alloc::{AllocError, Global};
+
+/// Appends some bytes, all or none of them.
+pub fn put(out: &mut Vec<u8>, bytes: &[u8]) -> Result<(), AllocError>
+    ensures ok { OnOk result (out.new.items ≡ out.old.items ++ bytes.now) }
+    ensures err { OnErr result (out.new.items ≡ out.old.items) }
+{
+    out.extend_from_slice(bytes)
+}
+
+/// Appends a space and a word.
+pub fn put_word(out: &mut Vec<u8>, word: &[u8]) -> Result<(), AllocError>
+    ensures { OnOk result (out.new.items ≡ out.old.items ++ 32 ∷ word.now) }
+{
+    put(out, b" ")?;
+    put(out, word)
+}
+
+/// Appends a space and a number in decimal digits.
+pub fn put_number(out: &mut Vec<u8>, number: u64) -> Result<(), AllocError>
+    ensures { OnOk result (out.new.items ≡ out.old.items ++ 32 ∷ decimal number) }
+{
+    let mut buffer = Buffer::new();
+    put_word(out, buffer.format(number).as_bytes())
+}
+
+/// Appends a space and bytes in hex.
+pub fn put_hex(alloc: Global, out: &mut Vec<u8>, bytes: &[u8]) -> Result<(), AllocError>
+    ensures { OnOk result (out.new.items ≡ out.old.items ++ 32 ∷ encode_lower bytes.now) }
+{
+    let text = hex::encode(alloc, bytes)?;
+    put_word(out, text.as_bytes())
+}
+
+fn put_parts(out: &mut Vec<u8>, parts: &[Text]) -> Result<(), AllocError>
+    ensures { OnOk result (out.new.items ≡ out.old.items ++ flat_map (λ part. 47 ∷ part) parts.now) }
+{
+    for part in parts {
+        put(out, b"/")?;
+        put(out, part.as_str().as_bytes())?;
+    }
+    Ok(())
+}
+
+/// Appends a space and a path.
+pub fn put_path(out: &mut Vec<u8>, path: &Path) -> Result<(), AllocError>
+    ensures { OnOk result (out.new.items ≡ out.old.items ++ 32 ∷ path_word path.now) }
+{
+    match path.as_slice() {
+        [] => put(out, b" "),
+        [first, rest @ ..] => {
+            put_word(out, first.as_str().as_bytes())?;
+            put_parts(out, rest)
+        }
+    }
+}
+
+/// Appends a space before each word.
+pub fn put_spaced(out: &mut Vec<u8>, words: &[&[u8]]) -> Result<(), AllocError>
+    ensures { OnOk result (out.new.items ≡ out.old.items ++ spaced (map (λ word. word.now) words.now)) }
+{
+    for word in words {
+        put_word(out, word)?;
+    }
+    Ok(())
+}
+
+fn put_words(out: &mut Vec<u8>, words: &[&[u8]]) -> Result<(), AllocError>
+    ensures { OnOk result (out.new.items ≡ out.old.items ++ join_with_byte 32 (map (λ word. word.now) words.now)) }
+{
+    match words {
+        [] => Ok(()),
+        [first, rest @ ..] => {
+            put(out, first)?;
+            put_spaced(out, rest)
+        }
+    }
+}
+
+/// Appends a line of these words.
+pub fn put_line(out: &mut Vec<u8>, words: &[&[u8]]) -> Result<(), AllocError>
+    ensures { OnOk result (out.new.items ≡ out.old.items ++ line_of (map (λ word. word.now) words.now)) }
+{
+    put_words(out, words)?;
+    put(out, b"\n")
+}
