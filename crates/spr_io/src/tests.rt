@@ -7,59 +7,110 @@ use crate::{
 };
 use hist_plain::{Event, Op};
 use std::fs;
-use std::rt::Files;
 use std::test::Fail;
 
-const NOTHING: [u8; 4] = [0; 4];
+/// A call of a store of two blocks of four bytes.
+#[derive(Clone, Copy)]
+enum Step {
+    Read(u32),
+    Write(u32, [u8; 4]),
+    Flush,
+}
 
-#[test]
-fn store_in_memory(rt: HostRuntime) -> Result<(), Fail> {
-    let mut store = MemStore::new(rt.alloc(), 4, 2, &[2], &[2], &[1])?;
-    let mut out = [9u8; 4];
-    assert_eq!(rt; store.blocks(), 2);
-    assert_eq!(rt; store.write(0, b"abcd"), Ok(()));
-    assert_eq!(rt; store.block(0), b"abcd".as_slice());
-    assert_eq!(rt; store.kept(0), NOTHING.as_slice());
-    assert_eq!(rt;
-        store.write(1, b"efgh"),
-        Err(Failed),
-        "the second write is to fail"
-    );
-    assert_eq!(rt; store.block(1), NOTHING.as_slice());
-    assert_eq!(rt; store.flush(), Err(Failed), "the first flush is to fail");
-    assert_eq!(rt; store.kept(0), NOTHING.as_slice());
-    assert_eq!(rt; store.flush(), Ok(()));
-    assert_eq!(rt; store.kept(0), b"abcd".as_slice());
-    assert_eq!(rt; store.read(0, &mut out), Ok(()));
-    assert_eq!(rt; out.as_slice(), b"abcd".as_slice());
-    assert_eq!(rt;
-        store.read(0, &mut out),
-        Err(Failed),
-        "the second read is to fail"
-    );
-    assert_eq!(rt; store.count(), 3);
-    Ok(())
+/// Makes a call, where the store has two blocks of four bytes.
+fn call(store: &mut MemStore, what: &Step) -> Option<Result<(), Failed>> {
+    if !store.has_shape(4, 2) {
+        return None;
+    }
+    match what {
+        Step::Read(block) if *block < 2 => Some(store.read(*block, &mut [0; 4])),
+        Step::Write(block, bytes) if *block < 2 => Some(store.write(*block, bytes)),
+        Step::Flush => Some(store.flush()),
+        _ => None,
+    }
+}
+
+/// A block as read, where the store has two blocks of four bytes.
+fn block_of(store: &MemStore, block: u32) -> &[u8] {
+    if block < 2 && store.has_shape(4, 2) {
+        store.block(block)
+    } else {
+        b""
+    }
+}
+
+/// A block as kept, where the store has two blocks of four bytes.
+fn kept_of(store: &MemStore, block: u32) -> &[u8] {
+    if block < 2 && store.has_shape(4, 2) {
+        store.kept(block)
+    } else {
+        b""
+    }
 }
 
 #[test]
-fn flush_of_every_block(rt: HostRuntime) -> Result<(), Fail> {
-    let mut store = MemStore::new(rt.alloc(), 1, 2, &[], &[], &[])?;
-    assert_eq!(rt; store.write(0, b"a"), Ok(()));
-    assert_eq!(rt; store.write(1, b"b"), Ok(()));
-    assert_eq!(rt; store.write(0, b"c"), Ok(()));
-    assert_eq!(rt; store.flush(), Ok(()));
-    assert_eq!(rt; store.kept(0), b"c".as_slice());
-    assert_eq!(rt; store.kept(1), b"b".as_slice());
-    assert_eq!(rt; store.count(), 0);
+fn store_in_memory(rt: HostRuntime) -> Result<(), Fail> {
+    let rows: [(Step, Result<(), Failed>, [&[u8]; 4]); 9] = [
+        (
+            Step::Write(0, *b"abcd"),
+            Ok(()),
+            [b"abcd", b"\0\0\0\0", b"\0\0\0\0", b"\0\0\0\0"],
+        ),
+        (
+            Step::Write(1, *b"efgh"),
+            Err(Failed),
+            [b"abcd", b"\0\0\0\0", b"\0\0\0\0", b"\0\0\0\0"],
+        ),
+        (
+            Step::Flush,
+            Err(Failed),
+            [b"abcd", b"\0\0\0\0", b"\0\0\0\0", b"\0\0\0\0"],
+        ),
+        (
+            Step::Flush,
+            Ok(()),
+            [b"abcd", b"\0\0\0\0", b"abcd", b"\0\0\0\0"],
+        ),
+        (
+            Step::Read(0),
+            Ok(()),
+            [b"abcd", b"\0\0\0\0", b"abcd", b"\0\0\0\0"],
+        ),
+        (
+            Step::Read(0),
+            Err(Failed),
+            [b"abcd", b"\0\0\0\0", b"abcd", b"\0\0\0\0"],
+        ),
+        (
+            Step::Write(1, *b"ijkl"),
+            Ok(()),
+            [b"abcd", b"ijkl", b"abcd", b"\0\0\0\0"],
+        ),
+        (
+            Step::Write(0, *b"mnop"),
+            Ok(()),
+            [b"mnop", b"ijkl", b"abcd", b"\0\0\0\0"],
+        ),
+        (Step::Flush, Ok(()), [b"mnop", b"ijkl", b"mnop", b"ijkl"]),
+    ];
+    let mut store = MemStore::new(rt.alloc(), 4, 2, &[2], &[2], &[1])?;
+    for (what, want, shown) in &rows {
+        assert_eq!(rt; call(&mut store, what), Some(*want));
+        assert_eq!(rt; block_of(&store, 0), shown[0]);
+        assert_eq!(rt; block_of(&store, 1), shown[1]);
+        assert_eq!(rt; kept_of(&store, 0), shown[2]);
+        assert_eq!(rt; kept_of(&store, 1), shown[3]);
+    }
+    assert_eq!(rt; store.count(), 3);
     Ok(())
 }
 
 #[test]
 fn shelf_in_memory(rt: HostRuntime) -> Result<(), Fail> {
     let mut shelf = MemShelf::new(rt.alloc(), &[5])?;
-    shelf.put(rt.alloc(), "a", b"old")?;
-    shelf.put(rt.alloc(), "b", b"other")?;
-    shelf.put(rt.alloc(), "a", b"text")?;
+    for (name, text) in [("a", "old"), ("b", "other"), ("a", "text")] {
+        shelf.put(rt.alloc(), name, text.as_bytes())?;
+    }
     let rows: [(&str, u32, Result<(), ShelfErr>, &[u8]); 5] = [
         ("a", 4, Ok(()), b"text"),
         ("b", 9, Ok(()), b"textother"),
@@ -96,46 +147,66 @@ fn sink_in_memory(rt: HostRuntime) -> Result<(), Fail> {
     Ok(())
 }
 
+/// What is done with a bay and the store that was taken of it last.
+#[derive(Clone, Copy)]
+enum Turn {
+    Take(&'static str, u32),
+    Write([u8; 4]),
+    Give(&'static str),
+}
+
+/// Takes a turn, and answers whether it succeeded.
+fn take_turn(bay: &mut MemBay, held: &mut Option<MemStore>, what: Turn) -> bool {
+    match what {
+        Turn::Take(name, blocks) => match bay.take(name, "f", 4, blocks) {
+            Ok(store) => {
+                *held = Some(store);
+                true
+            }
+            Err(_) => false,
+        },
+        Turn::Write(bytes) => match held {
+            Some(store) => call(store, &Step::Write(1, bytes)) == Some(Ok(())),
+            None => false,
+        },
+        Turn::Give(name) => match held.take() {
+            Some(store) => bay.give(name, "f", store).is_ok(),
+            None => false,
+        },
+    }
+}
+
+/// What lies in block 1 of a store of the bay.
+fn look<'a>(bay: &'a MemBay, name: &str) -> &'a [u8] {
+    match bay.look(name, "f") {
+        Some(store) => block_of(store, 1),
+        None => b"none",
+    }
+}
+
 #[test]
 fn bay_in_memory(rt: HostRuntime) -> Result<(), Fail> {
+    let rows: [(Turn, bool, &[u8]); 10] = [
+        (Turn::Take("d", 2), true, b"none"),
+        (Turn::Take("d", 2), false, b"none"),
+        (Turn::Write(*b"abcd"), true, b"none"),
+        (Turn::Give("d"), true, b"abcd"),
+        (Turn::Take("d", 3), false, b"abcd"),
+        (Turn::Take("d", 2), false, b"abcd"),
+        (Turn::Take("d", 2), true, b"none"),
+        (Turn::Give("e"), false, b"none"),
+        (Turn::Take("g", 2), true, b"none"),
+        (Turn::Give("g"), false, b"none"),
+    ];
     let mut bay = MemBay::new(rt.alloc(), &[4], &[3])?;
-    let mut store = bay.take("d", "f", 4, 2)?;
-    assert!(rt; bay.look("d", "f").is_none(), "it is out");
-    assert_eq!(rt;
-        bay.take("d", "f", 4, 2).err(),
-        Some(BayErr::Failed),
-        "it is out"
-    );
-    assert_eq!(rt; store.write(1, b"abcd"), Ok(()));
-    assert_eq!(rt; bay.give("d", "f", store), Ok(()));
-    assert_eq!(rt;
-        bay.take("d", "f", 4, 3).err(),
-        Some(BayErr::Failed),
-        "it has two blocks"
-    );
-    assert_eq!(rt;
-        bay.take("d", "f", 4, 2).err(),
-        Some(BayErr::Failed),
-        "the fourth take is to fail"
-    );
-    let Some(seen) = bay.look("d", "f") else {
-        return Err(Fail::from("the store is gone"));
-    };
-    assert_eq!(rt; seen.blocks(), 2);
-    assert_eq!(rt; seen.block(1), b"abcd".as_slice());
-    assert!(rt; bay.look("f", "d").is_none(), "another name");
-    let other = MemStore::new(rt.alloc(), 4, 2, &[], &[], &[])?;
-    assert_eq!(rt; bay.give("e", "f", other), Err(Failed), "it was not taken");
-    let store = bay.take("d", "f", 4, 2)?;
-    assert_eq!(rt;
-        bay.give("d", "f", store),
-        Err(Failed),
-        "the third give is to fail"
-    );
-    assert!(rt; bay.look("d", "f").is_none(), "it is lost");
-    let new = MemStore::new(rt.alloc(), 4, 1, &[], &[], &[])?;
-    assert!(rt; bay.put(rt.alloc(), "d", "f", new).is_ok());
-    assert!(rt; bay.look("d", "f").is_some());
+    let mut held = None;
+    for (what, want, shown) in rows {
+        assert_eq!(rt; take_turn(&mut bay, &mut held, what), want);
+        assert_eq!(rt; look(&bay, "d"), shown);
+    }
+    let new = MemStore::new(rt.alloc(), 4, 2, &[], &[], &[])?;
+    assert!(rt; bay.put(rt.alloc(), "g", "f", new).is_ok());
+    assert_eq!(rt; look(&bay, "g"), b"\0\0\0\0".as_slice());
     Ok(())
 }
 
@@ -144,25 +215,19 @@ fn host_bay(rt: HostRuntime) -> Result<(), Fail> {
     let path = "spr_io_bay.f.img";
     let _ = fs::remove_file(&rt, path);
     let mut bay = HostBay::new(rt.clone()?, rt.alloc());
-    let mut out = [9u8; 4];
     let mut store = bay.take("spr_io_bay", "f", 4, 2)?;
-    assert_eq!(rt; store.blocks(), 2);
+    let mut out = [9u8; 4];
     assert_eq!(rt; store.read(1, &mut out), Ok(()));
-    assert_eq!(rt; out.as_slice(), NOTHING.as_slice());
+    assert_eq!(rt; out.as_slice(), b"\0\0\0\0".as_slice());
     assert_eq!(rt; store.write(1, b"abcd"), Ok(()));
     assert_eq!(rt; store.flush(), Ok(()));
-    assert_eq!(rt;
-        bay.take("spr_io_bay", "f", 4, 2).err(),
-        Some(BayErr::Failed),
-        "it is out"
-    );
     assert_eq!(rt; bay.give("spr_io_bay", "f", store), Ok(()));
+    assert_eq!(rt; fs::read(&rt, path)?.as_slice(), b"\0\0\0\0abcd".as_slice());
     assert_eq!(rt;
         bay.take("spr_io_bay", "f", 4, 3).err(),
         Some(BayErr::Failed),
         "it has two blocks"
     );
-    assert_eq!(rt; fs::read(&rt, path)?.as_slice(), b"\0\0\0\0abcd".as_slice());
     let store = bay.take("spr_io_bay", "f", 4, 2)?;
     assert_eq!(rt;
         bay.give("spr_io_bay", "g", store),
