@@ -29,10 +29,10 @@ const EDGES: &[u8] = b"client a m\nphase\na open x c/f\na write x 0 60 61626364\
 
 const EDGES_REPORT: &str = "client a\n3 life 0\n4 done\n5 not one page\n6 not one page\n7 not one page\nfile f\n0 a 0 c 0 open life 0\n1 a 1 c 0 write 0 60 61626364 done\n2 mount 0 c synced 2 done\nstatus 0\n";
 
-/// Two clients in two phases, of which each runs the clients in their order.
-const TWO_CLIENTS: &[u8] = b"client a m\nclient b m\nphase\na open x c/f\nb open y c/f\na write x 1 0 61\nphase\nb read y 1 0 2\nb clear y 1\na read x 1 0 1\n";
+/// Two clients in two phases, whose lines stand in the order of the clients.
+const TWO_CLIENTS: &[u8] = b"client a m\nclient b m\nphase\na open x c/f\na write x 1 0 61\nb open y c/f\nphase\na read x 1 0 1\nb read y 1 0 2\nb clear y 1\n";
 
-const TWO_CLIENTS_REPORT: &str = "client a\n4 life 0\n6 done\n10 61\nclient b\n5 life 0\n8 6100\n9 done\nfile f\n0 a 0 c 0 open life 0\n1 a 1 c 0 write 1 0 61 done\n2 b 0 c 0 open life 0\n3 a 2 c 0 read 1 0 1 61\n4 b 1 c 0 read 1 0 2 6100\n5 b 2 c 0 clear 1 done\n6 mount 0 c synced 6 done\nstatus 0\n";
+const TWO_CLIENTS_REPORT: &str = "client a\n4 life 0\n5 done\n8 61\nclient b\n6 life 0\n9 6100\n10 done\nfile f\n0 a 0 c 0 open life 0\n1 a 1 c 0 write 1 0 61 done\n2 b 0 c 0 open life 0\n3 a 2 c 0 read 1 0 1 61\n4 b 1 c 0 read 1 0 2 6100\n5 b 2 c 0 clear 1 done\n6 mount 0 c synced 6 done\nstatus 0\n";
 
 /// Which calls of the outside are to fail, counted from 1, and how much a write takes.
 #[derive(Clone, Copy)]
