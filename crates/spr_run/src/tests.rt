@@ -25,14 +25,18 @@ const LOST: &str =
     "client a\n3 life 0\n4 done\n5 61626364\n6 done\nfile f\n0 a 0 c 0 open life 0\n1 a 1 c 0 write 0 0 61626364 done\n2 a 2 c 0 read 0 0 4 61626364\n3 a 3 c synced 3 done\n4 mount 0 c synced 4 done\nbay d f\nstatus 5\n";
 
 /// Ranges that end with their page, and ranges that do not lie within one page of the file.
-const EDGES: &[u8] = b"client a m\nphase\na open x c/f\na write x 0 60 61626364\na write x 0 61 61626364\na read x 2 0 1\na read x 0 0 0\n";
+const EDGES: &[u8] =
+    b"client a m\nphase\na open x c/f\na write x 0 60 61626364\na write x 0 61 61626364\na read x 2 0 1\na read x 0 0 0\n";
 
-const EDGES_REPORT: &str = "client a\n3 life 0\n4 done\n5 not one page\n6 not one page\n7 not one page\nfile f\n0 a 0 c 0 open life 0\n1 a 1 c 0 write 0 60 61626364 done\n2 mount 0 c synced 2 done\nstatus 0\n";
+const EDGES_REPORT: &str =
+    "client a\n3 life 0\n4 done\n5 not one page\n6 not one page\n7 not one page\nfile f\n0 a 0 c 0 open life 0\n1 a 1 c 0 write 0 60 61626364 done\n2 mount 0 c synced 2 done\nstatus 0\n";
 
 /// Two clients in two phases, whose lines stand in the order of the clients.
-const TWO_CLIENTS: &[u8] = b"client a m\nclient b m\nphase\na open x c/f\na write x 1 0 61\nb open y c/f\nphase\na read x 1 0 1\nb read y 1 0 2\nb clear y 1\n";
+const TWO_CLIENTS: &[u8] =
+    b"client a m\nclient b m\nphase\na open x c/f\na write x 1 0 61\nb open y c/f\nphase\na read x 1 0 1\nb read y 1 0 2\nb clear y 1\n";
 
-const TWO_CLIENTS_REPORT: &str = "client a\n4 life 0\n5 done\n8 61\nclient b\n6 life 0\n9 6100\n10 done\nfile f\n0 a 0 c 0 open life 0\n1 a 1 c 0 write 1 0 61 done\n2 b 0 c 0 open life 0\n3 a 2 c 0 read 1 0 1 61\n4 b 1 c 0 read 1 0 2 6100\n5 b 2 c 0 clear 1 done\n6 mount 0 c synced 6 done\nstatus 0\n";
+const TWO_CLIENTS_REPORT: &str =
+    "client a\n4 life 0\n5 done\n8 61\nclient b\n6 life 0\n9 6100\n10 done\nfile f\n0 a 0 c 0 open life 0\n1 a 1 c 0 write 1 0 61 done\n2 b 0 c 0 open life 0\n3 a 2 c 0 read 1 0 1 61\n4 b 1 c 0 read 1 0 2 6100\n5 b 2 c 0 clear 1 done\n6 mount 0 c synced 6 done\nstatus 0\n";
 
 /// Which calls of the outside are to fail, counted from 1, and how much a write takes.
 #[derive(Clone, Copy)]
@@ -129,7 +133,13 @@ fn words_and_texts(rt: HostRuntime) -> Result<(), Fail> {
             Status::Good,
             "client a\n3 not object c\n4 not bound q\n5 no object\nfile f\n0 mount 0 c synced 0 done\nstatus 0\n",
         ),
-        (run, STACK, b"", Status::Good, "file f\n0 mount 0 c synced 0 done\nstatus 0\n"),
+        (
+            run,
+            STACK,
+            b"",
+            Status::Good,
+            "file f\n0 mount 0 c synced 0 done\nstatus 0\n",
+        ),
         (run, STACK, EDGES, Status::Good, EDGES_REPORT),
         (run, STACK, TWO_CLIENTS, Status::Good, TWO_CLIENTS_REPORT),
     ];

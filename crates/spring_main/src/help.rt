@@ -3,7 +3,8 @@
 use hist_plain::Text;
 
 /// What the program does, its commands, and an example.
-pub const HELP: &str = "spring: a stack of coherent file system layers, as the file services of Spring had them.
+pub const HELP: &str =
+    "spring: a stack of coherent file system layers, as the file services of Spring had them.
 
 usage: spring run IDL STACK SCRIPT
 

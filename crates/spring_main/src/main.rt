@@ -27,20 +27,14 @@ fn words(alloc: Global, args: env::Args<Global>) -> Result<Vec<Text>, AllocError
 }
 
 /// Runs a command of these words, and answers its status.
-fn run<R: Runtime + Threads + Wait + Sync>(
-    rt: &R,
-    alloc: Global,
-    words: &[Text],
-) -> io::Result<u8>
+fn run<R: Runtime + Threads + Wait + Sync>(rt: &R, alloc: Global, words: &[Text]) -> io::Result<u8>
 where
     R::File: Send,
 {
     let mut shelf = HostShelf::new(rt.clone()?);
     let mut bay = HostBay::new(rt.clone()?, alloc);
     let mut sink = StdSink::new(rt.clone()?);
-    let status = spring(
-        rt, alloc, words, &mut shelf, &mut bay, &mut sink, &OpenGate,
-    );
+    let status = spring(rt, alloc, words, &mut shelf, &mut bay, &mut sink, &OpenGate);
     Ok(status.number())
 }
 
