@@ -38,7 +38,7 @@ const TWO_CLIENTS: &[u8] =
 const TWO_CLIENTS_REPORT: &str =
     "client a\n4 life 0\n5 done\n8 61\nclient b\n6 life 0\n9 6100\n10 done\nfile f\n0 a 0 c 0 open life 0\n1 a 1 c 0 write 1 0 61 done\n2 b 0 c 0 open life 0\n3 a 2 c 0 read 1 0 1 61\n4 b 1 c 0 read 1 0 2 6100\n5 b 2 c 0 clear 1 done\n6 mount 0 c synced 6 done\nstatus 0\n";
 
-/// Which calls of the outside are to fail, counted from 1, and how much a write takes.
+/// Which calls of the outside are to fail, counted from 1.
 #[derive(Clone, Copy)]
 struct Outside<'a> {
     shelf: &'a [u64],
@@ -47,7 +47,6 @@ struct Outside<'a> {
     reads: &'a [u64],
     writes: &'a [u64],
     flushes: &'a [u64],
-    most: u32,
     sinks: &'a [u64],
 }
 
@@ -59,7 +58,6 @@ const SOUND: Outside<'static> = Outside {
     reads: &[],
     writes: &[],
     flushes: &[],
-    most: 7,
     sinks: &[],
 };
 
@@ -253,7 +251,7 @@ fn faults(rt: HostRuntime) -> Result<(), Fail> {
         let words = words_of(rt.alloc(), &["run", "I", "S", "T"])?;
         let mut shelf = shelf_of(rt.alloc(), outside.shelf, STACK, SCRIPT)?;
         let mut bay = bay_of(rt.alloc(), &outside)?;
-        let mut sink = MemSink::new(rt.alloc(), outside.most, outside.sinks)?;
+        let mut sink = MemSink::new(rt.alloc(), 7, outside.sinks)?;
         let got = spring(
             &rt,
             rt.alloc(),
