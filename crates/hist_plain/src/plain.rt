@@ -8,8 +8,6 @@ use crate::event::{Answer, Event, Op};
 use std::alloc::{AllocError, Global};
 use std::marker::Model;
 
-const EVENTS: u64 = 4_194_304;
-
 /// A file as one list of bytes, and a life for each node.
 #[derive(Drop)]
 pub struct Plain {
@@ -33,6 +31,8 @@ impl Model for Plain {
 }
 
 impl Plain {
+    /// The file of these bytes, with no event yet, over a tree in which node k has the parent
+    /// `parents[k]`. An error is want of memory.
     pub fn new(
         alloc: Global,
         page_size: u32,
@@ -76,7 +76,8 @@ impl Plain {
         &self.bytes
     }
 
-    /// Takes one event, and answers it.
+    /// Takes one event, and answers it; a page message has no answer. The bytes of a read are put in `out`,
+    /// which has room for just these.
     pub fn apply(&mut self, event: &Event, out: &mut [u8]) -> Option<Answer>
         requires suits { Suits self.old.shape self.old.file event.now }
         requires room { self.old.len < 4194304 }

@@ -1,4 +1,6 @@
 pub mod TowerLaws
+pub mod RouteLaws
 pub mod LineLaws
 pub mod PhaseLaws
 pub mod ClosingLaws
+pub mod TestLaws

@@ -74,19 +74,19 @@ pub pages-at : (setting : Setting) (caller k : ℕ) (f : Frame) → FrameAt sett
 pages-at setting caller k f r = r.pages ∙ rw r.there refl
 
 -- an access that fits the stack's file may be made at its tower
-pub may-access : (setting : Setting) (caller : ℕ) (towers : List TowerSeen) (file node : ℕ) (op : Op) → AreTowers setting caller towers → node < length setting.parents → IsTrue (fits_page setting.page_size (pages_of setting file) op)
-    → (t : TowerSeen) → slice_get towers file ≡ Some t → (caller < t.log.callers) × (node < length t.log.shape.parents) × IsTrue (fits_page t.log.shape.page_size t.log.pages op)
-may-access setting caller towers file node op are lt fits t there =
+pub may-access : (setting : Setting) (caller : ℕ) (towers : List TowerSeen) (file node : ℕ) (op : Op) → AreTowers setting caller towers → 0 < node → node < length setting.parents → IsTrue (fits_page setting.page_size (pages_of setting file) op)
+    → (t : TowerSeen) → slice_get towers file ≡ Some t → (caller < t.log.callers) × ((0 < node) × (node < length t.log.shape.parents)) × IsTrue (fits_page t.log.shape.page_size t.log.pages op)
+may-access setting caller towers file node op are above lt fits t there =
     let r = tower-at setting caller towers file t are there in (
       r.callers,
-      subst (λ (s : Shape). node < length s.parents) (sym r.shape) lt,
+      (above, subst (λ (s : Shape). node < length s.parents) (sym r.shape) lt),
       subst (λ (s : Shape). IsTrue (fits_page s.page_size t.log.pages op)) (sym r.shape) (subst (λ n. IsTrue (fits_page setting.page_size n op)) (sym (pages-at setting caller file (frame_of t) r)) fits),
     )
 
-pub may-sync : (setting : Setting) (caller : ℕ) (towers : List TowerSeen) (file node : ℕ) → AreTowers setting caller towers → node < length setting.parents
-    → (t : TowerSeen) → slice_get towers file ≡ Some t → (caller < t.log.callers) × (node < length t.log.shape.parents)
-may-sync setting caller towers file node are lt t there =
-    let r = tower-at setting caller towers file t are there in (r.callers, subst (λ (s : Shape). node < length s.parents) (sym r.shape) lt)
+pub may-sync : (setting : Setting) (caller : ℕ) (towers : List TowerSeen) (file node : ℕ) → AreTowers setting caller towers → 0 < node → node < length setting.parents
+    → (t : TowerSeen) → slice_get towers file ≡ Some t → (caller < t.log.callers) × (0 < node) × (node < length t.log.shape.parents)
+may-sync setting caller towers file node are above lt t there =
+    let r = tower-at setting caller towers file t are there in (r.callers, above, subst (λ (s : Shape). node < length s.parents) (sym r.shape) lt)
 
 -- the stack's towers stay the stack's
 pub towers-stay : (setting : Setting) (caller : ℕ) (old new : List TowerSeen) → frames new ≡ frames old → AreTowers setting caller old → AreTowers setting caller new

@@ -23,24 +23,17 @@ use Rattle.plain_run.specs.declared.client.Client.{Client}
 use Rattle.std.specs.List.{AllByRecursion}
 use Rattle.plain_run.specs.Towers.{histories, frames, AreTowers}
 use Rattle.plain_run.specs.Lines.{LineDone, IsObject}
-use Rattle.plain_run.specs.Phases.{LinesDone, LinesAlone, PhaseDone, PhasesDone, IsReady, AreReady, IsFresh}
+use Rattle.plain_run.specs.Phases.{HaveClients, LinesDone, LinesAlone, PhaseDone, PhasesDone, IsReady, AreReady, IsFresh}
 use Rattle.plain_run.proofs.LineLaws.{towers-stay}
 
--- another client's line is nothing for this one
-pub line-other : (setting : Setting) (line : CallLine) (client : Client) (towers : List TowerSeen) → (line.client == client.caller) ≡ false → LinesAlone setting (line ∷ []) client client towers towers
-line-other setting line client towers other = record {
-  done = record {
-    caller_same = refl;
-    one = [];
-    said_is = sym (append-nil client.said.items);
-    worked = subst (λ (ls : List CallLine). Worked setting client.caller client.objects.items ls (histories towers) (histories towers) [] client.objects.items)
-        (sym (ap (λ b. cond b (line ∷ []) []) other)) (worked_none setting client.caller client.objects.items (histories towers));
-  };
-  others = λ o ne. did_nothing (shape_of setting) o (histories towers) (histories towers) refl;
-}
+test-false : (a b : ℕ) → (a ≡ b → ⊥) → (a == b) ≡ false
+test-false a b n = grind (arith, nat_tests)
+
+test-true : (a b : ℕ) → a ≡ b → (a == b) ≡ true
+test-true a b e = grind (arith, nat_tests)
 
 -- a client's own line
-pub line-own : (setting : Setting) (line : CallLine) (old new : Client) (before after : List TowerSeen) (reply : Reply) → (line.client == old.caller) ≡ true
+pub line-own : (setting : Setting) (line : CallLine) (old new : Client) (before after : List TowerSeen) (reply : Reply) → line.client ≡ old.caller
     → LineDone setting old.caller old.objects.items (plan setting old.objects.items line.call) before after reply new.objects.items
     → new.caller ≡ old.caller → new.said.items ≡ old.said.items ++ record { line = line.line; reply = reply } ∷ [] → LinesAlone setting (line ∷ []) old new before after
 line-own setting line old new before after reply own done caller said = record {
@@ -49,55 +42,51 @@ line-own setting line old new before after reply own done caller said = record {
     one = record { line = line.line; reply = reply } ∷ [];
     said_is = said;
     worked = subst (λ (ls : List CallLine). Worked setting old.caller old.objects.items ls (histories before) (histories after) (record { line = line.line; reply = reply } ∷ []) new.objects.items)
-        (sym (ap (λ b. cond b (line ∷ []) []) own))
+        (sym (ap (λ b. cond b (line ∷ []) []) (test-true line.client old.caller own)))
         (worked_more setting old.caller old.objects.items [] (histories before) (histories before) (histories after) [] old.objects.items line reply new.objects.items
         (worked_none setting old.caller old.objects.items (histories before)) done.went);
   };
   others = done.others;
 }
 
--- lines, and then lines
-pub lines-then : (setting : Setting) (xs ys : List CallLine) (a b c : Client) (before mid after : List TowerSeen) → LinesAlone setting xs a b before mid → LinesAlone setting ys b c mid after → LinesAlone setting (xs ++ ys) a c before after
-lines-then setting xs ys a b c before mid after f g =
-    let same : b.caller ≡ a.caller = f.done.caller_same in
-    let second : Worked setting a.caller b.objects.items (lines_of a.caller ys) (histories mid) (histories after) g.done.one c.objects.items =
-    subst (λ n. Worked setting n b.objects.items (lines_of n ys) (histories mid) (histories after) g.done.one c.objects.items) same g.done.worked in
-    record {
-      done = record {
-        caller_same = g.done.caller_same ∙ same;
-        one = f.done.one ++ g.done.one;
-        said_is = g.done.said_is ∙ (ap (λ (s : List Said). s ++ g.done.one) f.done.said_is ∙ append_assoc a.said.items f.done.one g.done.one);
-        worked = subst (λ (ls : List CallLine). Worked setting a.caller a.objects.items ls (histories before) (histories after) (f.done.one ++ g.done.one) c.objects.items)
-            (sym (filter-append (λ (l : CallLine). l.client == a.caller) xs ys))
-            (worked_append setting a.caller a.objects.items (lines_of a.caller xs) (lines_of a.caller ys) (histories before) (histories mid) (histories after) f.done.one g.done.one b.objects.items c.objects.items f.done.worked second);
-      };
-      others = λ o ne. did_then (shape_of setting) o (histories before) (histories mid) (histories after) [] [] (f.others o ne) (g.others o (λ e. ne (e ∙ same)));
-    }
-
-pub lines-none : (setting : Setting) (client : Client) (towers : List TowerSeen) → LinesAlone setting [] client client towers towers
-lines-none setting client towers = record {
-  done = record {
-    caller_same = refl;
-    one = [];
-    said_is = sym (append-nil client.said.items);
-    worked = worked_none setting client.caller client.objects.items (histories towers);
-  };
-  others = λ o ne. did_nothing (shape_of setting) o (histories towers) (histories towers) refl;
+-- no lines
+lines-none : (setting : Setting) (client : Client) (start : List History) → LinesDone setting [] client client start start
+lines-none setting client start = record {
+  caller_same = refl;
+  one = [];
+  said_is = sym (append-nil client.said.items);
+  worked = worked_none setting client.caller client.objects.items start;
 }
 
-pub test-false : (a b : ℕ) → (a ≡ b → ⊥) → (a == b) ≡ false
-test-false a b n = grind (arith, nat_tests)
+-- lines, and then lines
+lines-then : (setting : Setting) (xs ys : List CallLine) (a b c : Client) (before mid after : List History) → LinesDone setting xs a b before mid → LinesDone setting ys b c mid after → LinesDone setting (xs ++ ys) a c before after
+lines-then setting xs ys a b c before mid after f g =
+    let same : b.caller ≡ a.caller = f.caller_same in
+    let second : Worked setting a.caller b.objects.items (lines_of a.caller ys) mid after g.one c.objects.items =
+    subst (λ n. Worked setting n b.objects.items (lines_of n ys) mid after g.one c.objects.items) same g.worked in
+    record {
+      caller_same = g.caller_same ∙ same;
+      one = f.one ++ g.one;
+      said_is = g.said_is ∙ (ap (λ (s : List Said). s ++ g.one) f.said_is ∙ append_assoc a.said.items f.one g.one);
+      worked = subst (λ (ls : List CallLine). Worked setting a.caller a.objects.items ls before after (f.one ++ g.one) c.objects.items)
+          (sym (filter-append (λ (l : CallLine). l.client == a.caller) xs ys))
+          (worked_append setting a.caller a.objects.items (lines_of a.caller xs) (lines_of a.caller ys) before mid after f.one g.one b.objects.items c.objects.items f.worked second);
+    }
 
-pub test-true : (a b : ℕ) → a ≡ b → (a == b) ≡ true
-test-true a b e = grind (arith, nat_tests)
-
--- one more line of a list, by its index
-pub lines-next : (setting : Setting) (lines : List CallLine) (i : ℕ) (line : CallLine) (a b c : Client) (before mid after : List TowerSeen) → line ≡ get_or lines i line → i < length lines
-    → LinesAlone setting (take i lines) a b before mid → LinesAlone setting (line ∷ []) b c mid after → LinesAlone setting (take (i + 1) lines) a c before after
-lines-next setting lines i line a b c before mid after is lt f g =
-    subst (λ (ls : List CallLine). LinesAlone setting ls a c before after)
-    (sym (take_more lines i line lt ∙ ap (λ (l : CallLine). take i lines ++ l ∷ []) (sym is)))
-    (lines-then setting (take i lines) (line ∷ []) a b c before mid after f g)
+-- lines, and then another client's line
+lines-other : (setting : Setting) (xs : List CallLine) (line : CallLine) (a b : Client) (before mid after : List History) → line.client ≢ a.caller → LinesDone setting xs a b before mid → Did (shape_of setting) a.caller mid after []
+    → LinesDone setting (xs ++ line ∷ []) a b before after
+lines-other setting xs line a b before mid after other done did =
+    let none : lines_of a.caller (line ∷ []) ≡ [] = ap (λ t. cond t (line ∷ []) []) (test-false line.client a.caller other) in
+    let same : lines_of a.caller (xs ++ line ∷ []) ≡ lines_of a.caller xs =
+    filter-append (λ (l : CallLine). l.client == a.caller) xs (line ∷ []) ∙ (ap (λ (ls : List CallLine). lines_of a.caller xs ++ ls) none ∙ append-nil (lines_of a.caller xs)) in
+    record {
+      caller_same = done.caller_same;
+      one = done.one;
+      said_is = done.said_is;
+      worked = subst (λ (ls : List CallLine). Worked setting a.caller a.objects.items ls before after done.one b.objects.items) (sym same)
+          (worked_then setting a.caller a.objects.items (lines_of a.caller xs) before mid after done.one b.objects.items done.worked did);
+    }
 
 pub slice_get-set_same : {A : Type 0} (xs : List A) (i : ℕ) (y : A) → i < length xs → slice_get (set xs i y) i ≡ Some y
 slice_get-set_same [] i y lt = absurd (omega arith)
@@ -111,78 +100,69 @@ slice_get-set_other (x ∷ xs) zero (suc k) y ne = refl
 slice_get-set_other (x ∷ xs) (suc i) zero y ne = refl
 slice_get-set_other (x ∷ xs) (suc i) (suc k) y ne = slice_get-set_other xs i k y (λ e. ne (ap suc e))
 
--- the first clients of a phase did their lines, and the others nothing
-pub record PhaseSoFar (setting : Setting) (lines : List CallLine) (i : ℕ) (old now : List Client) (start before : List TowerSeen) : Type 0 where
-  pub len : length now ≡ length old
-  pub done : (number : ℕ) (c n : Client) → number < i → slice_get old number ≡ Some c → slice_get now number ≡ Some n → LinesDone setting lines c n (histories start) (histories before)
-  pub waiting : (number : ℕ) → i ≤ number → slice_get now number ≡ slice_get old number
-  pub quiet : (other : ℕ) → i ≤ other → Did (shape_of setting) other (histories start) (histories before) []
+client-there : (clients : List Client) (k : ℕ) → k < length clients → (c : Client) × (slice_get clients k ≡ Some c)
+client-there [] k lt = absurd (omega arith)
+client-there (c ∷ clients) zero lt = (c, refl)
+client-there (c ∷ clients) (suc k) lt = client-there clients k (omega arith)
 
-lines-before : (setting : Setting) (lines : List CallLine) (old new : Client) (start before after : List History) → Did (shape_of setting) old.caller start before [] → LinesDone setting lines old new before after → LinesDone setting lines old new start after
-lines-before setting lines old new start before after did done = record {
-  caller_same = done.caller_same;
-  one = done.one;
-  said_is = done.said_is;
-  worked = worked_before setting old.caller old.objects.items (lines_of old.caller lines) start before after done.one new.objects.items did done.worked;
-}
-
-lines-after : (setting : Setting) (lines : List CallLine) (old new : Client) (start before after : List History) → LinesDone setting lines old new start before → Did (shape_of setting) old.caller before after [] → LinesDone setting lines old new start after
-lines-after setting lines old new start before after done did = record {
-  caller_same = done.caller_same;
-  one = done.one;
-  said_is = done.said_is;
-  worked = worked_then setting old.caller old.objects.items (lines_of old.caller lines) start before after done.one new.objects.items done.worked did;
-}
+-- each client's caller is its number
+abbrev pub AreNumbered : List Client → Type 0
+AreNumbered clients = (number : ℕ) (c : Client) → slice_get clients number ≡ Some c → c.caller ≡ number
 
 some-client : (a b : Client) → Some a ≡ Some b → a ≡ b
 some-client a b e = cc
 
--- a phase of which no client has done anything yet
-pub phase-none : (setting : Setting) (lines : List CallLine) (clients : List Client) (towers : List TowerSeen) → PhaseSoFar setting lines 0 clients clients towers towers
-phase-none setting lines clients towers = record {
+-- a phase of no lines
+pub phase-none : (setting : Setting) (clients : List Client) (start : List History) → PhaseDone setting [] clients clients start start
+phase-none setting clients start = record {
   len = refl;
-  done = λ number c n lt. absurd (omega arith);
-  waiting = λ number le. refl;
-  quiet = λ other le. did_nothing (shape_of setting) other (histories towers) (histories towers) refl;
+  each = λ number c n was is. subst (λ (x : Client). LinesDone setting [] c x start start) (some-client c n (sym was ∙ is)) (lines-none setting c start);
+  others = λ other le. did_nothing (shape_of setting) other start start refl;
 }
 
--- one more client did its lines
-pub phase-next : (setting : Setting) (lines : List CallLine) (i : ℕ) (old now : List Client) (start before after : List TowerSeen) (d next : Client) → i < length now
-    → ((number : ℕ) (c : Client) → slice_get old number ≡ Some c → c.caller ≡ number)
-    → PhaseSoFar setting lines i old now start before → LinesAlone setting lines (get_or now i d) next before after
-    → PhaseSoFar setting lines (i + 1) old (set now i next) start after
-phase-next setting lines i old now start before after d next lt callers so alone =
+-- one more line of a phase
+phase-next : (setting : Setting) (lines : List CallLine) (line : CallLine) (old now : List Client) (start : List History) (before after : List TowerSeen) (d next : Client) → line.client < length now → AreNumbered old
+    → PhaseDone setting lines old now start (histories before) → LinesAlone setting (line ∷ []) (get_or now line.client d) next before after
+    → PhaseDone setting (lines ++ line ∷ []) old (set now line.client next) start (histories after)
+phase-next setting lines line old now start before after d next lt numbered so alone =
     let shape = shape_of setting in
-    let there : slice_get now i ≡ Some (get_or now i d) = slice_get-get_or now i d lt in
-    let was : slice_get old i ≡ Some (get_or now i d) = sym (so.waiting i (omega arith)) ∙ there in
-    let caller : (get_or now i d).caller ≡ i = callers i (get_or now i d) was in
+    let k : ℕ = line.client in
+    let by : Client = get_or now k d in
+    let len_is : length now ≡ length old = so.len in
+    let there : slice_get now k ≡ Some by = slice_get-get_or now k d lt in
+    let first = client-there old k (omega arith) in
+    let caller : by.caller ≡ k = (so.each k first.0 by first.1 there).caller_same ∙ numbered k first.0 first.1 in
     record {
-      len = length-set now i next ∙ so.len;
-      done = λ number c n below was' is'. dite (ℕ_discrete number i)
+      len = length-set now k next ∙ so.len;
+      each = λ number c n was is. dite (ℕ_discrete number k)
           (λ same.
-          let was'' : slice_get old i ≡ Some c = subst (λ (k : ℕ). slice_get old k ≡ Some c) same was' in
-          let is'' : slice_get (set now i next) i ≡ Some n = subst (λ (k : ℕ). slice_get (set now i next) k ≡ Some n) same is' in
-          let old_is : get_or now i d ≡ c = some-client (get_or now i d) c (sym was ∙ was'') in
-          let new_is : next ≡ n = some-client next n (sym (slice_get-set_same now i next lt) ∙ is'') in
-          let began : LinesDone setting lines (get_or now i d) next (histories start) (histories after) =
-          lines-before setting lines (get_or now i d) next (histories start) (histories before) (histories after) (subst (λ (k : ℕ). Did shape k (histories start) (histories before) []) (sym caller) (so.quiet i (omega arith))) alone.done in
-          subst (λ (x : Client). LinesDone setting lines x n (histories start) (histories after)) old_is (subst (λ (x : Client). LinesDone setting lines (get_or now i d) x (histories start) (histories after)) new_is began))
+          let was_k : slice_get old k ≡ Some c = subst (λ (j : ℕ). slice_get old j ≡ Some c) same was in
+          let is_k : slice_get (set now k next) k ≡ Some n = subst (λ (j : ℕ). slice_get (set now k next) j ≡ Some n) same is in
+          let next_is : next ≡ n = some-client next n (sym (slice_get-set_same now k next lt) ∙ is_k) in
+          subst (λ (x : Client). LinesDone setting (lines ++ line ∷ []) c x start (histories after)) next_is
+          (lines-then setting lines (line ∷ []) c by next start (histories before) (histories after) (so.each k c by was_k there) alone.done))
           (λ other.
-          let below' : number < i = omega arith in
-          let is'' : slice_get now number ≡ Some n = sym (slice_get-set_other now i number next other) ∙ is' in
-          lines-after setting lines c n (histories start) (histories before) (histories after) (so.done number c n below' was' is'')
-          (alone.others c.caller (λ same. other (sym (callers number c was') ∙ (same ∙ caller)))));
-      waiting = λ number le. slice_get-set_other now i number next (λ same. omega arith) ∙ so.waiting number (omega arith);
-      quiet = λ other le. did_then shape other (histories start) (histories before) (histories after) [] [] (so.quiet other (omega arith)) (alone.others other (λ same. let e : other ≡ i = same ∙ caller in omega arith));
+          let stays : slice_get now number ≡ Some n = sym (slice_get-set_other now k number next other) ∙ is in
+          let own : c.caller ≡ number = numbered number c was in
+          lines-other setting lines line c n start (histories before) (histories after) (λ same. other (sym own ∙ sym same)) (so.each number c n was stays)
+          (alone.others c.caller (λ same. other (sym own ∙ (same ∙ caller)))));
+      others = λ other le. did_then shape other start (histories before) (histories after) [] [] (so.others other le)
+          (alone.others other (λ same. let e : other ≡ k = same ∙ caller in omega arith));
     }
 
--- all clients did their lines
-pub phase-all : (setting : Setting) (lines : List CallLine) (i : ℕ) (old now : List Client) (start after : List TowerSeen) → PhaseSoFar setting lines i old now start after → length old ≤ i → i ≤ length old → PhaseDone setting lines old now (histories start) (histories after)
-phase-all setting lines i old now start after so all le = record {
-  len = so.len;
-  each = λ number c n was is. so.done number c n (let lt = slice_get_within old number c was in omega arith) was is;
-  others = λ other above. so.quiet other (omega arith);
-}
+-- a line of a phase is one of so many clients'
+pub client-at : (count : ℕ) (lines : List CallLine) (i : ℕ) (d : CallLine) → HaveClients count lines → i < length lines → (get_or lines i d).client < count
+client-at count [] i d all lt = absurd (omega arith)
+client-at count (line ∷ lines) zero d all lt = all.0
+client-at count (line ∷ lines) (suc i) d all lt = client-at count lines i d all.1 (omega arith)
+
+-- one more line of a phase, by its index
+pub phase-step : (setting : Setting) (lines : List CallLine) (i : ℕ) (line : CallLine) (old now : List Client) (start : List History) (before after : List TowerSeen) (d next : Client) → line ≡ get_or lines i line → i < length lines
+    → line.client < length now → AreNumbered old → PhaseDone setting (take i lines) old now start (histories before) → LinesAlone setting (line ∷ []) (get_or now line.client d) next before after
+    → PhaseDone setting (take (i + 1) lines) old (set now line.client next) start (histories after)
+phase-step setting lines i line old now start before after d next is within lt numbered so alone =
+    subst (λ (ls : List CallLine). PhaseDone setting ls old (set now line.client next) start (histories after)) (sym (take_more lines i line within ∙ ap (λ (l : CallLine). take i lines ++ l ∷ []) (sym is)))
+    (phase-next setting (take i lines) line old now start before after d next lt numbered so alone)
 
 -- the clients stay ready when one of them did its lines
 pub ready-next : (setting : Setting) (i : ℕ) (now : List Client) (before after : List TowerSeen) (d next : Client) → i < length now → AreReady setting before now → next.caller ≡ (get_or now i d).caller
@@ -223,15 +203,6 @@ phases-none setting clients start fresh = record {
   each = λ number n is. let f = fresh-has clients number n fresh is in (f.no_said, f.no_objects);
   others = λ other le. did_nothing (shape_of setting) other start start refl;
 }
-
-client-there : (clients : List Client) (k : ℕ) → k < length clients → (c : Client) × (slice_get clients k ≡ Some c)
-client-there [] k lt = absurd (omega arith)
-client-there (c ∷ clients) zero lt = (c, refl)
-client-there (c ∷ clients) (suc k) lt = client-there clients k (omega arith)
-
--- each client's caller is its number
-abbrev pub AreNumbered : List Client → Type 0
-AreNumbered clients = (number : ℕ) (c : Client) → slice_get clients number ≡ Some c → c.caller ≡ number
 
 -- one more phase
 pub phases-next : (setting : Setting) (phases : List (List CallLine)) (phase : List CallLine) (old now : List Client) (start before after : List History) → AreNumbered old → PhasesDone setting phases old start before → PhaseDone setting phase old now before after

@@ -13,9 +13,10 @@ use Rattle.run_defs.specs.Fits.{Did, Went}
 use Rattle.plain_tower.specs.Tower.{TowerSeen}
 use Rattle.plain_run.specs.Towers.{histories, frames}
 
--- an object of a file and a layer of the stack
+-- an object of a file and a layer of the stack, which is not the ground
 pub record IsObject (setting : Setting) (object : OpenObject) : Type 0 where
   pub file : object.file < length setting.files
+  pub above : 0 < object.node
   pub node : object.node < length setting.parents
 
 -- between two states of the towers one caller did a line, and nobody else did anything

@@ -34,6 +34,10 @@ AreReady setting towers clients = (number : ℕ) (client : Client) → slice_get
 abbrev pub AreCalls : List CallLine → Type 0
 AreCalls lines = AllByRecursion (λ l. IsCallOf l.call) lines
 
+-- each line is one of so many clients'
+abbrev pub HaveClients : ℕ → List CallLine → Type 0
+HaveClients count lines = AllByRecursion (λ l. l.client < count) lines
+
 -- a client did its lines among these, and answered them
 pub record LinesDone (setting : Setting) (lines : List CallLine) (old new : Client) (before after : List History) : Type 0 where
   pub caller_same : new.caller ≡ old.caller

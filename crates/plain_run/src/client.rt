@@ -125,7 +125,7 @@ fn open_route<S: Store>(
     requires setting { IsSetting setting.now }
     requires towers { AreTowers setting.now client.old.caller towers.old }
     requires objects { AllByRecursion (IsObject setting.now) client.old.objects.items }
-    requires route { (file < length setting.now.files) × (node < length setting.now.parents) }
+    requires route { (file < length setting.now.files) × (0 < node) × (node < length setting.now.parents) }
     ensures done { LineDone setting.now client.old.caller client.old.objects.items (plan_found client.old.objects.items name (Found.Route file node)) towers.old towers.new result client.new.objects.items }
     ensures objects { AllByRecursion (IsObject setting.now) client.new.objects.items }
     ensures same { client.new ≡ record client.old { objects = client.new.objects } }

@@ -10,3 +10,6 @@ mod towers;
 pub use client::{Client, perform};
 pub use closing::close_files;
 pub use phase::run_phases;
+
+#[cfg(test)]
+mod tests;

@@ -1,11 +1,11 @@
-//! The phases of a script. The clients of a phase run one after another, in the order of their numbers.
+//! The phases of a script. The lines of a phase are done one after another, in their order, each by its client.
 
 ghost use Rattle.std.specs.Prelude.{◌≡◌, ℕ, ◌∷◌, [], ◌<◌, ◌≤◌, length, map, slice_get, Some, OnOk};
 ghost use Rattle.std.specs.List.{AllByRecursion};
 ghost use Rattle.run_defs.specs.Setting.{IsSetting};
 ghost use Rattle.plain_run.specs.Towers.{AreTowers, frames, histories};
 ghost use Rattle.plain_run.specs.Lines.{IsObject, IsCallOf};
-ghost use Rattle.plain_run.specs.Phases.{AreReady, AreCalls, LinesAlone, PhaseDone, PhasesDone, IsFresh};
+ghost use Rattle.plain_run.specs.Phases.{AreReady, AreCalls, HaveClients, LinesAlone, PhaseDone, PhasesDone, IsFresh};
 
 use crate::client::{Client, perform};
 use hist_plain::Items;
@@ -15,7 +15,7 @@ use script_text::{CallLine, Said};
 use spr_io::Store;
 use std::alloc::{AllocError, Global};
 
-/// Does a line if it is the client's, and keeps its answer. The room for the answer is made first.
+/// Does a line of a client, and keeps the answer. The room for the answer is made first.
 fn run_line<S: Store>(
     alloc: Global,
     setting: &Setting,
@@ -26,15 +26,13 @@ fn run_line<S: Store>(
     requires setting { IsSetting setting.now }
     requires towers { AreTowers setting.now client.old.caller towers.old }
     requires objects { AllByRecursion (IsObject setting.now) client.old.objects.items }
+    requires own { line.now.client ≡ client.old.caller }
     requires call { IsCallOf line.now.call }
     ensures done { OnOk result (LinesAlone setting.now (line.now ∷ []) client.old client.new towers.old towers.new) }
     ensures caller { client.new.caller ≡ client.old.caller }
     ensures objects { AllByRecursion (IsObject setting.now) client.new.objects.items }
     ensures same { frames towers.new ≡ frames towers.old }
 {
-    if line.client != client.caller {
-        return Ok(());
-    }
     client.said.reserve(1)?;
     let reply = perform(alloc, setting, towers, client, &line.call);
     client.said.push_reserved(Said {
@@ -44,30 +42,7 @@ fn run_line<S: Store>(
     Ok(())
 }
 
-/// Does the lines of a client among these.
-fn run_lines<S: Store>(
-    alloc: Global,
-    setting: &Setting,
-    towers: &mut [Tower<S>],
-    client: &mut Client,
-    lines: &[CallLine],
-) -> Result<(), AllocError>
-    requires setting { IsSetting setting.now }
-    requires towers { AreTowers setting.now client.old.caller towers.old }
-    requires objects { AllByRecursion (IsObject setting.now) client.old.objects.items }
-    requires calls { AreCalls lines.now }
-    ensures done { OnOk result (LinesAlone setting.now lines.now client.old client.new towers.old towers.new) }
-    ensures caller { client.new.caller ≡ client.old.caller }
-    ensures objects { AllByRecursion (IsObject setting.now) client.new.objects.items }
-    ensures same { frames towers.new ≡ frames towers.old }
-{
-    for line in lines {
-        run_line(alloc, setting, towers, client, line)?;
-    }
-    Ok(())
-}
-
-/// Does the lines of each client in a phase.
+/// Does the lines of a phase, each by its client.
 fn run_phase<S: Store>(
     alloc: Global,
     setting: &Setting,
@@ -78,12 +53,14 @@ fn run_phase<S: Store>(
     requires setting { IsSetting setting.now }
     requires clients { AreReady setting.now towers.old clients.old }
     requires calls { AreCalls lines.now }
+    requires each { HaveClients (length clients.old) lines.now }
     ensures done { OnOk result (PhaseDone setting.now lines.now clients.old clients.new (histories towers.old) (histories towers.new)) }
     ensures ready { OnOk result (AreReady setting.now towers.new clients.new) }
     ensures same { frames towers.new ≡ frames towers.old }
 {
-    for i in 0..clients.len() {
-        run_lines(alloc, setting, towers, &mut clients[i], lines)?;
+    for line in lines {
+        let number = line.client as usize;
+        run_line(alloc, setting, towers, &mut clients[number], line)?;
     }
     Ok(())
 }
@@ -100,6 +77,7 @@ pub fn run_phases<S: Store>(
     requires clients { AreReady setting.now towers.old clients.old }
     requires fresh { AllByRecursion IsFresh clients.old }
     requires calls { AllByRecursion AreCalls phases.now }
+    requires each { AllByRecursion (HaveClients (length clients.old)) phases.now }
     ensures done { OnOk result (PhasesDone setting.now phases.now clients.new (histories towers.old) (histories towers.new)) }
     ensures ready { OnOk result (AreReady setting.now towers.new clients.new) }
     ensures len { OnOk result (length clients.new ≡ length clients.old) }

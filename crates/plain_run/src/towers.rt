@@ -14,7 +14,7 @@ use plain_tower::Tower;
 use run_defs::{Answered, CallErr};
 use spr_io::Store;
 
-/// Makes an access at a file.
+/// Makes an access at a file, at a layer above the ground.
 pub fn access_at<S: Store>(
     towers: &mut [Tower<S>],
     file: u32,
@@ -25,7 +25,7 @@ pub fn access_at<S: Store>(
     out: &mut [u8],
 ) -> Result<Answered, CallErr>
     requires file { file < length towers.old }
-    requires call { (t : TowerSeen) → slice_get towers.old file ≡ Some t → (caller < t.log.callers) × (node < length t.log.shape.parents) × IsTrue (fits_page t.log.shape.page_size t.log.pages op) }
+    requires call { (t : TowerSeen) → slice_get towers.old file ≡ Some t → (caller < t.log.callers) × ((0 < node) × (node < length t.log.shape.parents)) × IsTrue (fits_page t.log.shape.page_size t.log.pages op) }
     requires out { length out.old ≡ asked_by op }
     ensures called { (t : TowerSeen) → slice_get towers.old file ≡ Some t → CalledAt t.log.shape caller (asking file (access node life op)) (histories towers.old) (histories towers.new) out.new result }
     ensures same { frames towers.new ≡ frames towers.old }
@@ -33,7 +33,7 @@ pub fn access_at<S: Store>(
     towers[file as usize].access(caller, node, life, op, out)
 }
 
-/// Makes a sync of a file.
+/// Makes a sync of a file, at a layer above the ground.
 pub fn sync_at<S: Store>(
     towers: &mut [Tower<S>],
     file: u32,
@@ -42,7 +42,7 @@ pub fn sync_at<S: Store>(
     keep: Keep,
 ) -> Result<Answered, CallErr>
     requires file { file < length towers.old }
-    requires call { (t : TowerSeen) → slice_get towers.old file ≡ Some t → (caller < t.log.callers) × (node < length t.log.shape.parents) }
+    requires call { (t : TowerSeen) → slice_get towers.old file ≡ Some t → (caller < t.log.callers) × (0 < node) × (node < length t.log.shape.parents) }
     ensures called { (t : TowerSeen) → slice_get towers.old file ≡ Some t → CalledAt t.log.shape caller (asking file (sync node keep)) (histories towers.old) (histories towers.new) [] result }
     ensures closed { OnOk result ((t : TowerSeen) → slice_get towers.new file ≡ Some t → IsClosed caller t) }
     ensures others { (j : ℕ) → j ≢ file → slice_get towers.new j ≡ slice_get towers.old j }

@@ -1,5 +1,5 @@
 -- What entries are as calls.
-use Rattle.std.proofs.Common.{◌≡◌, ◌≢◌, ℕ, ◌+◌, ◌*◌, ◌<◌, ◌≤◌, List, [], ◌∷◌, ◌++◌, length, map, Option, Some, None, Result, Ok, Err, IsTrue, refl, sym, ap, subst, ◌∙◌, arith}
+use Rattle.std.proofs.Common.{◌≡◌, ℕ, ◌<◌, ◌≤◌, List, [], ◌∷◌, ◌++◌, length, map, Some, None, Result, Ok, Err, refl, sym, ap, subst, ◌∙◌, arith}
 use Rattle.std.specs.Option.{option_map}
 use Rattle.std.specs.List.{AllByRecursion}
 use Rattle.hist_plain.specs.declared.event.Op.{Op}
@@ -8,94 +8,192 @@ use Rattle.hist_plain.specs.declared.event.Answer.{Answer}
 use Rattle.hist_plain.specs.declared.event.Answer.TheVariants as answers
 use Rattle.hist_plain.specs.declared.event.Event.{Event}
 use Rattle.hist_plain.specs.declared.event.Event.TheVariants as events
-use Rattle.hist_plain.specs.File.{Shape, File}
-use Rattle.hist_plain.specs.Event.{caller_of, number_of, Fits, fits_page}
-use Rattle.hist_plain.specs.Plain.{Told, reply, told, plainly, Suits, IsInFile}
+use Rattle.hist_plain.specs.File.{Shape}
+use Rattle.hist_plain.specs.Event.{caller_of}
+use Rattle.hist_plain.specs.Plain.{Told, reply, plainly}
 use Rattle.hist_plain.specs.History.{mine}
 use Rattle.run_defs.specs.declared.log.Logged.{Logged}
 use Rattle.run_defs.specs.declared.log.Logged.TheVariants.{Entered, Noted}
-use Rattle.run_defs.specs.declared.log.Note.{Note}
 use Rattle.run_defs.specs.declared.log.History.{History}
 use Rattle.run_defs.specs.declared.call.Answered.{Answered}
 use Rattle.run_defs.specs.declared.call.CallErr.{CallErr}
 use Rattle.run_defs.specs.declared.call.CallErr.TheVariants.{StoreFault, TrailFull, Memory}
-use Rattle.run_defs.specs.Log.{more, trail_of, file_of, place_of, IsHistory}
-use Rattle.run_defs.specs.Plan.{Ask, access, sync, Asks}
-use Rattle.run_defs.specs.Calls.{IsCall, Answers, Ends, Called}
-use Rattle.run_defs.proofs.Logs.{more-nil}
-use Rattle.run_defs.proofs.Histories.{length-file_of}
+use Rattle.run_defs.specs.Log.{more, trail_of, file_of, place_of}
+use Rattle.run_defs.specs.Plan.{Ask, access, sync}
+use Rattle.run_defs.specs.Calls.{Ends, Fails, Called}
+use Rattle.run_defs.proofs.Logs.{more-more, more-nil}
+use Rattle.plain_tower.specs.Ends.{Sends, Stops, EndsFrom, IsNoFault}
 use Rattle.plain_tower.specs.Seen.{LogSeen}
-use Rattle.plain_tower.specs.Tower.{GrowsPlainly, IsNoSync}
+use Rattle.plain_tower.specs.Tower.{TowerSeen, Faults, GoesOn, Sent, Stopped}
 
--- a call without page messages
-pub called-alone : (shape : Shape) (caller : ℕ) (ask : Ask) (old new : History) (out : List ℕ) (r : Result Answered CallErr) (last : List Logged)
-    → new ≡ more old last → Ends shape caller ask (place_of old) old last out r → Called shape caller ask old new out r
-called-alone shape caller ask old new out r last log ends = record {
-  messages = [];
-  quiet = tt;
-  last = last;
-  log = log;
-  ends = subst (λ (h : History). Ends shape caller ask (place_of old) h last out r) (sym (more-nil old [] refl)) ends;
-}
-
--- a refused call that logged nothing
-pub called-nothing : (shape : Shape) (caller : ℕ) (ask : Ask) (old new : History) (out : List ℕ) (err : CallErr) → new ≡ old → Ends shape caller ask (place_of old) old [] out (Err err) → Called shape caller ask old new out (Err err)
-called-nothing shape caller ask old new out err same ends = called-alone shape caller ask old new out (Err err) [] (same ∙ sym (more-nil old [] refl)) ends
+-- the end of a call
 
 some_is : {A : Type 0} (a b : A) → Some a ≡ Some b → a ≡ b
 some_is a b e = cc
 
 -- an access that was entered
-pub access-called : (shape : Shape) (old new : History) (caller number node life : ℕ) (op : Op) (out : List ℕ) (answer : Answer) (place : ℕ)
+pub access-ends : (shape : Shape) (old new : History) (caller number node life : ℕ) (op : Op) (out : List ℕ) (answer : Answer) (place : ℕ)
     → new ≡ more old (Entered (events.Access caller number node life op) ∷ []) → number ≡ length (mine (trail_of old) caller) → place ≡ place_of old
     → Some answer ≡ option_map (λ (t : Told). t.answer) (reply shape (file_of shape old) (events.Access caller number node life op))
     → (answer ≡ answers.Bytes → option_map (λ (t : Told). t.bytes) (reply shape (file_of shape old) (events.Access caller number node life op)) ≡ Some out)
-    → Called shape caller (access node life op) old new out (Ok (record { answer = answer; place = place }))
-access-called shape old new caller number node life op out answer place log next at answered bytes =
+    → (least : ℕ) → EndsFrom shape caller (access node life op) least old new out (Ok (record { answer = answer; place = place }))
+access-ends shape old new caller number node life op out answer place log next at answered bytes least =
     let event : Event = events.Access caller number node life op in
-    called-alone shape caller (access node life op) old new out (Ok (record { answer = answer; place = place })) (Entered event ∷ []) log (record {
-      event = event;
-      last_is = refl;
-      call = record { asks = (refl, refl, refl, refl); number = next; from = tt };
-      place = at;
-      told = _;
-      told_is = refl;
-      answer = sym (some_is answer _ answered);
-      bytes = λ read. some_is _ out (bytes read);
-    })
+    record {
+      last = Entered event ∷ [];
+      log = log;
+      ends = record {
+        event = event;
+        last_is = refl;
+        call = record { asks = (refl, refl, refl, refl); number = next; from = tt };
+        place = at;
+        told = _;
+        told_is = refl;
+        answer = sym (some_is answer _ answered);
+        bytes = λ read. some_is _ out (bytes read);
+      };
+    }
 
 -- a sync that was entered
-pub sync-called : (shape : Shape) (old new : History) (caller number node from : ℕ) (keep : Keep) (answer : Answer) (place : ℕ)
-    → new ≡ more old (Entered (events.Synced caller number node from keep) ∷ []) → number ≡ length (mine (trail_of old) caller) → place ≡ place_of old → from ≡ place_of old
+pub sync-ends : (shape : Shape) (old new : History) (caller number node from : ℕ) (keep : Keep) (answer : Answer) (place : ℕ)
+    → new ≡ more old (Entered (events.Synced caller number node from keep) ∷ []) → number ≡ length (mine (trail_of old) caller) → place ≡ place_of old
     → Some answer ≡ option_map (λ (t : Told). t.answer) (reply shape (file_of shape old) (events.Synced caller number node from keep))
-    → Called shape caller (sync node keep) old new [] (Ok (record { answer = answer; place = place }))
-sync-called shape old new caller number node from keep answer place log next at start answered =
+    → EndsFrom shape caller (sync node keep) from old new [] (Ok (record { answer = answer; place = place }))
+sync-ends shape old new caller number node from keep answer place log next at answered =
     let event : Event = events.Synced caller number node from keep in
-    called-alone shape caller (sync node keep) old new [] (Ok (record { answer = answer; place = place })) (Entered event ∷ []) log (record {
-      event = event;
-      last_is = refl;
-      call = record { asks = (refl, refl, refl); number = next; from = omega (arith, start) };
-      place = at;
-      told = plainly answers.Done;
-      told_is = refl;
-      answer = sym (some_is answer answers.Done answered);
-      bytes = λ read. refl;
-    })
+    record {
+      last = Entered event ∷ [];
+      log = log;
+      ends = record {
+        event = event;
+        last_is = refl;
+        call = record { asks = (refl, refl, refl); number = next; from = omega arith };
+        place = at;
+        told = plainly answers.Done;
+        told_is = refl;
+        answer = sym (some_is answer answers.Done answered);
+        bytes = λ read. refl;
+      };
+    }
+
+-- a refusal that logged nothing
+pub refused-ends : (shape : Shape) (caller : ℕ) (ask : Ask) (least : ℕ) (old new : History) (out : List ℕ) (err : CallErr) → new ≡ old → Fails caller err old [] → EndsFrom shape caller ask least old new out (Err err)
+refused-ends shape caller ask least old new out err same fails = record { last = []; log = same ∙ sym (more-nil old [] refl); ends = fails }
 
 -- the same where the log only had room made before
-pub called-from : (l l' : LogSeen) (caller : ℕ) (ask : Ask) (new : History) (out : List ℕ) (r : Result Answered CallErr) → l' ≡ record l { room = l'.room }
-    → Called l'.shape caller ask l'.history new out r → Called l.shape caller ask l.history new out r
-called-from l l' caller ask new out r same called =
-    subst (λ (s : Shape). Called s caller ask l.history new out r) (ap (λ (k : LogSeen). k.shape) same)
-    (subst (λ (h : History). Called l'.shape caller ask h new out r) (ap (λ (k : LogSeen). k.history) same) called)
+pub ends-from : (l l' : LogSeen) (caller : ℕ) (ask : Ask) (least : ℕ) (new : History) (out : List ℕ) (r : Result Answered CallErr) → l' ≡ record l { room = l'.room }
+    → EndsFrom l'.shape caller ask least l'.history new out r → EndsFrom l.shape caller ask least l.history new out r
+ends-from l l' caller ask least new out r same ends =
+    subst (λ (s : Shape). EndsFrom s caller ask least l.history new out r) (ap (λ (k : LogSeen). k.shape) same)
+    (subst (λ (h : History). EndsFrom l'.shape caller ask least h new out r) (ap (λ (k : LogSeen). k.history) same) ends)
 
--- an access that fits suits the file as it is
-pub access-suits : (shape : Shape) (pages : ℕ) (h : History) (caller number node life : ℕ) (op : Op) → IsHistory shape pages h → node < length shape.parents → IsTrue (fits_page shape.page_size pages op) → Suits shape (file_of shape h) (events.Access caller number node life op)
-access-suits shape pages h caller number node life op legal lt fits = (lt, (pages, length-file_of shape pages h legal, fits))
+-- a whole call: its messages, and then its end
+pub called-sent : (shape : Shape) (caller : ℕ) (ask : Ask) (old mid new : History) (out : List ℕ) (r : Result Answered CallErr) → Sends old mid → EndsFrom shape caller ask (place_of old) mid new out r → Called shape caller ask old new out r
+called-sent shape caller ask old mid new out r sends ends = record {
+  messages = sends.messages;
+  quiet = sends.quiet;
+  last = ends.last;
+  log = ends.log ∙ (ap (λ (h : History). more h ends.last) sends.log ∙ more-more old (map Entered sends.messages) ends.last);
+  ends = subst (λ (h : History). Ends shape caller ask (place_of old) h ends.last out r) sends.log ends.ends;
+}
 
-pub suits-from : (l l' : LogSeen) (event : Event) → l' ≡ record l { room = l'.room } → Suits l.shape (file_of l.shape l.history) event → Suits l'.shape (file_of l'.shape l'.history) event
-suits-from l l' event same suits =
-    let P : LogSeen → Type 0 = λ k. Suits k.shape (file_of k.shape k.history) event in subst P (sym same) suits
+-- a call that was refused after its messages
+pub called-stopped : (shape : Shape) (caller : ℕ) (ask : Ask) (old new : History) (out : List ℕ) (err : CallErr) → Stops caller old new err → Called shape caller ask old new out (Err err)
+called-stopped shape caller ask old new out err stops = record { messages = stops.messages; quiet = stops.quiet; last = stops.last; log = stops.log; ends = stops.fails }
 
-pub grows-access : (old new : History) (caller number node life : ℕ) (op : Op) → new ≡ more old (Entered (events.Access caller number node life op) ∷ []) → GrowsPlainly old new
-grows-access old new caller number node life op log = record { events = events.Access caller number node life op ∷ []; log = log; plain = (tt, tt) }
+-- messages one after another
+
+map-append : (xs ys : List Event) → map Entered (xs ++ ys) ≡ map Entered xs ++ map Entered ys
+map-append [] ys = refl
+map-append (x ∷ xs) ys = ap (λ (es : List Logged). Entered x ∷ es) (map-append xs ys)
+
+quiet-append : (xs ys : List Event) → AllByRecursion (λ e. caller_of e ≡ None) xs → AllByRecursion (λ e. caller_of e ≡ None) ys → AllByRecursion (λ e. caller_of e ≡ None) (xs ++ ys)
+quiet-append [] ys a b = b
+quiet-append (x ∷ xs) ys a b = (a.0, quiet-append xs ys a.1 b)
+
+sends-then : (a b c : History) → Sends a b → Sends b c → Sends a c
+sends-then a b c first second = record {
+  messages = first.messages ++ second.messages;
+  quiet = quiet-append first.messages second.messages first.quiet second.quiet;
+  log = second.log ∙ (ap (λ (h : History). more h (map Entered second.messages)) first.log
+      ∙ (more-more a (map Entered first.messages) (map Entered second.messages) ∙ ap (more a) (sym (map-append first.messages second.messages))));
+}
+
+stops-then : (caller : ℕ) (a b c : History) (err : CallErr) → Sends a b → Stops caller b c err → Stops caller a c err
+stops-then caller a b c err first second =
+    let before : more b (map Entered second.messages) ≡ more a (map Entered (first.messages ++ second.messages)) =
+    ap (λ (h : History). more h (map Entered second.messages)) first.log
+    ∙ (more-more a (map Entered first.messages) (map Entered second.messages) ∙ ap (more a) (sym (map-append first.messages second.messages))) in
+    record {
+      messages = first.messages ++ second.messages;
+      quiet = quiet-append first.messages second.messages first.quiet second.quiet;
+      last = second.last;
+      log = second.log ∙ (sym (more-more b (map Entered second.messages) second.last) ∙ (ap (λ (h : History). more h second.last) before ∙ more-more a (map Entered (first.messages ++ second.messages)) second.last));
+      fails = subst (λ (h : History). Fails caller err h second.last) before second.fails;
+    }
+
+pub sends-none : (old new : History) → new ≡ old → Sends old new
+sends-none old new same = record { messages = []; quiet = tt; log = same ∙ sym (more-nil old [] refl) }
+
+pub sends-one : (old new : History) (event : Event) → caller_of event ≡ None → new ≡ more old (Entered event ∷ []) → Sends old new
+sends-one old new event quiet log = record { messages = event ∷ []; quiet = (quiet, tt); log = log }
+
+-- towers one after another
+
+goes-same : (t : TowerSeen) → GoesOn t t
+goes-same t = record { same = refl; keeps = refl; later = omega arith }
+
+goes-then : (a b c : TowerSeen) → GoesOn a b → GoesOn b c → GoesOn a c
+goes-then a b c first second = record {
+  same = second.same ∙ ap (λ (t : TowerSeen). let u : TowerSeen = record t { log = record t.log { history = c.log.history; room = c.log.room }; faults = c.faults; content = c.content } in u) first.same;
+  keeps = second.keeps ∙ first.keeps;
+  later = let one = first.later in let two = second.later in omega arith;
+}
+
+pub sent-none : (t : TowerSeen) → Sent t t
+sent-none t = record { goes = goes-same t; sends = sends-none t.log.history t.log.history refl }
+
+pub sent-then : (a b c : TowerSeen) → Sent a b → Sent b c → Sent a c
+sent-then a b c first second = record { goes = goes-then a b c first.goes second.goes; sends = sends-then a.log.history b.log.history c.log.history first.sends second.sends }
+
+faults-since : (disk before mid now : ℕ) (err : CallErr) → before ≤ mid → Faults disk mid now err → Faults disk before now err
+faults-since disk before mid now (StoreFault of count) le h = (h.0, omega (arith, h.1), h.2)
+faults-since disk before mid now TrailFull le h = tt
+faults-since disk before mid now Memory le h = tt
+
+pub stopped-then : (caller : ℕ) (a b c : TowerSeen) (err : CallErr) → Sent a b → Stopped caller b c err → Stopped caller a c err
+stopped-then caller a b c err first second =
+    let disk : b.disk ≡ a.disk = ap (λ (t : TowerSeen). t.disk) first.goes.same in
+    record {
+      goes = goes-then a b c first.goes second.goes;
+      stops = stops-then caller a.log.history b.log.history c.log.history err first.sends second.stops;
+      cause = subst (λ d. Faults d a.faults c.faults err) disk (faults-since b.disk a.faults b.faults c.faults err first.goes.later second.cause);
+    }
+
+pub no-fault : (disk before now : ℕ) (err : CallErr) → IsNoFault err → Faults disk before now err
+no-fault disk before now (StoreFault of count) h = absurd h
+no-fault disk before now TrailFull h = tt
+no-fault disk before now Memory h = tt
+
+-- a refusal that logged nothing
+pub stopped-nothing : (caller : ℕ) (old new : TowerSeen) (err : CallErr) → GoesOn old new → new.log.history ≡ old.log.history → IsNoFault err → Fails caller err old.log.history [] → Stopped caller old new err
+stopped-nothing caller old new err goes same cause fails = record {
+  goes = goes;
+  stops = record {
+    messages = [];
+    quiet = tt;
+    last = [];
+    log = same ∙ sym (more-nil old.log.history [] refl);
+    fails = subst (λ (h : History). Fails caller err h []) (sym (more-nil old.log.history [] refl)) fails;
+  };
+  cause = no-fault old.disk old.faults new.faults err cause;
+}
+
+-- a refusal by the store, which was noted
+pub stopped-noted : (caller : ℕ) (old new : TowerSeen) → GoesOn old new → new.log.history ≡ more old.log.history (Noted (record { caller = caller; disk = old.disk; count = new.faults }) ∷ []) → old.faults < new.faults
+    → Stopped caller old new (StoreFault old.disk new.faults)
+stopped-noted caller old new goes noted rose = record {
+  goes = goes;
+  stops = record { messages = []; quiet = tt; last = _; log = noted; fails = refl };
+  cause = (refl, rose, refl);
+}

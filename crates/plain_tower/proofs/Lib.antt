@@ -1,4 +1,7 @@
 pub mod LogSteps
 pub mod PageSteps
+pub mod CurrentPages
+pub mod Grounds
+pub mod CoreLaws
 pub mod Calls
 pub mod TowerSteps

@@ -1,5 +1,5 @@
 -- What an entry does to a log.
-use Rattle.std.proofs.Common.{◌≡◌, ◌≢◌, ℕ, ◌+◌, ◌<◌, ◌≤◌, ◌^◌, Bool, true, false, cond, List, [], ◌∷◌, ◌++◌, length, set, get_or, Option, Some, None, refl, sym, ap, subst, ◌∙◌, arith, get_or-set_other, get_or-set_same, length-set}
+use Rattle.std.proofs.Common.{◌≡◌, ℕ, ◌+◌, ◌<◌, ◌^◌, Bool, true, false, cond, List, [], ◌∷◌, ◌++◌, length, set, get_or, Some, None, refl, sym, ap, subst, ◌∙◌, arith, get_or-set_other, get_or-set_same, length-set}
 use mathlib.Core.Logic.{dite}
 use native.Mathlib.Decide.{ℕ_discrete}
 use Rattle.hist_plain.specs.declared.event.Event.{Event}
@@ -10,7 +10,7 @@ use Rattle.hist_plain.specs.History.{mine, is_by, IsNumbered}
 use Rattle.run_defs.specs.declared.log.Logged.TheVariants.{Entered, Noted}
 use Rattle.run_defs.specs.declared.log.Note.{Note}
 use Rattle.run_defs.specs.declared.log.History.{History}
-use Rattle.run_defs.specs.Log.{more, trail_of, file_of, place_of, IsHistory}
+use Rattle.run_defs.specs.Log.{more, trail_of, file_of, place_of}
 use Rattle.run_defs.proofs.Histories.{trail_of-entered, trail_of-noted, file_of-entered, file_of-noted, place_of-entered, place_of-noted, history-entered, history-noted}
 use Rattle.run_defs.proofs.Numbers.{numbered-entered, length-mine-own, mine-other, is_by-same, is_by-different, is_by-none, is_by-true, length-mine-le}
 use Rattle.plain_tower.specs.Seen.{LogSeen, IsLog}

@@ -1,5 +1,5 @@
 -- Pages one after another.
-use Rattle.std.proofs.Common.{◌≡◌, ◌≢◌, ℕ, suc, ◌+◌, ◌*◌, ◌<◌, ◌≤◌, List, [], ◌∷◌, ◌++◌, length, take, drop, Option, Some, None, IfSome, refl, sym, ap, subst, ◌∙◌, arith, append_assoc, length-append, length-drop}
+use Rattle.std.proofs.Common.{◌≡◌, ℕ, ◌+◌, ◌*◌, ◌<◌, ◌≤◌, List, ◌++◌, length, take, drop, Option, Some, None, IfSome, sym, ap, subst, ◌∙◌, arith, length-drop}
 use Rattle.std.specs.Prelude.{slice_get}
 use Rattle.std.proofs.lemmas.List.{take-append-le, drop-append-le, take_all}
 use Rattle.std.proofs.Math.Seq.{drop-append_seam}
@@ -8,11 +8,11 @@ use native.Mathlib.Decide.{ℕ_discrete}
 use Rattle.hist_plain.specs.History.{page_in}
 use Rattle.hist_plain.specs.Plain.{place_of}
 use Rattle.run_defs.specs.Kept.{ArePages}
-use Rattle.spr_io.specs.Content.{Content, HasShape, IsShaped, KeepsShape}
+use Rattle.spr_io.specs.Content.{Content, IsShaped, KeepsShape}
 use Rattle.plain_tower.specs.Pages.{HasPages}
 
 -- a page before the end is not changed by what comes behind
-page_in-append : (size page : ℕ) (bytes more : List ℕ) → page * size + size ≤ length bytes → page_in size (bytes ++ more) page ≡ page_in size bytes page
+pub page_in-append : (size page : ℕ) (bytes more : List ℕ) → page * size + size ≤ length bytes → page_in size (bytes ++ more) page ≡ page_in size bytes page
 page_in-append size page bytes more le =
     let at : place_of size page 0 ≤ length bytes = omega arith in
     let len : size ≤ length (drop (place_of size page 0) bytes) = omega (arith, length-drop (place_of size page 0) bytes) in
@@ -24,7 +24,7 @@ page_in-next size page bytes last len same =
     let at : place_of size page 0 ≡ length bytes = omega arith in
     ap (λ n. take size (drop n (bytes ++ last))) at ∙ (ap (take size) (drop-append_seam bytes last) ∙ take_all size last (omega arith))
 
-below : (size page n : ℕ) → page < n → page * size + size ≤ n * size
+pub below : (size page n : ℕ) → page < n → page * size + size ≤ n * size
 below size page n lt = grind arith
 
 -- one more page was read

@@ -1,4 +1,6 @@
 pub mod Seen
+pub mod Legal
+pub mod Ends
 pub mod Counts
 pub mod Pages
 pub mod Tower

@@ -1,5 +1,5 @@
 -- What a store holds of a file's pages.
-use Rattle.std.specs.Prelude.{◌≡◌, ℕ, ◌<◌, List, length, slice_get, Option, Some, None}
+use Rattle.std.specs.Prelude.{◌≡◌, ℕ, ◌<◌, List, slice_get, Option, Some}
 use Rattle.std.specs.Option.{option_map}
 use Rattle.hist_plain.specs.History.{page_in}
 use Rattle.spr_io.specs.Content.{Content}

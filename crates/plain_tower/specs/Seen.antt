@@ -1,5 +1,5 @@
 -- What contracts see of a file's log.
-use Rattle.std.specs.Prelude.{◌≡◌, ℕ, ◌<◌, ◌≤◌, ◌+◌, ◌-◌, List, length, slice_index}
+use Rattle.std.specs.Prelude.{◌≡◌, ℕ, ◌<◌, List, length, slice_index}
 use Rattle.hist_plain.specs.File.{Shape, Counted}
 use Rattle.hist_plain.specs.History.{IsNumbered, mine}
 use Rattle.run_defs.specs.declared.log.History.{History}

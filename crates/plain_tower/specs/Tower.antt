@@ -1,43 +1,18 @@
 -- What contracts see of a tower: a file's log over its store.
-use Rattle.std.specs.Prelude.{◌≡◌, ℕ, ◌<◌, ◌≤◌, List, [], ◌∷◌, map, Option, Some, None, IfSome}
+use Rattle.std.specs.Prelude.{◌≡◌, ℕ, ◌<◌, ◌≤◌, slice_get, Option, Some, IfSome}
 use Rattle.std.specs.List.{AllByRecursion}
-use Rattle.hist_plain.specs.declared.event.Event.{Event}
-use Rattle.hist_plain.specs.declared.event.Event.TheVariants as events
-use Rattle.hist_plain.specs.declared.event.Keep.{Keep}
 use Rattle.run_defs.specs.declared.call.CallErr.{CallErr}
 use Rattle.run_defs.specs.declared.call.CallErr.TheVariants.{StoreFault, TrailFull, Memory}
 use Rattle.run_defs.specs.declared.log.Logged.{Logged}
 use Rattle.run_defs.specs.declared.log.Logged.TheVariants.{Entered, Noted}
-use Rattle.run_defs.specs.declared.log.History.{History}
-use Rattle.run_defs.specs.Log.{more, trail_of, place_of, first_file}
+use Rattle.run_defs.specs.Log.{trail_of, first_file}
 use Rattle.run_defs.specs.Kept.{Holds, last_from, counts_of, Rises}
 use Rattle.spr_io.specs.Content.{Content, KeepsShape}
+use Rattle.tower_core.specs.Legal.{shown}
 use Rattle.plain_tower.specs.Seen.{LogSeen}
-
--- an event that is no completed sync
-abbrev pub IsNoSync : Event → Type 0
-IsNoSync (events.Synced caller number node from keep) = ⊥
-IsNoSync event = Unit {0}
-
--- events were entered, and none of them a completed sync
-pub record GrowsPlainly (old new : History) : Type 0 where
-  pub events : List Event
-  pub log : new ≡ more old (map Entered events)
-  pub plain : AllByRecursion IsNoSync events
-
--- a completed sync was entered, from the place where it stands
-pub record EntersSynced (old new : History) : Type 0 where
-  pub caller : ℕ
-  pub number : ℕ
-  pub node : ℕ
-  pub keep : Keep
-  pub log : new ≡ more old (Entered (events.Synced caller number node (place_of old) keep) ∷ [])
-
--- a refusal that no store caused
-abbrev pub IsNoFault : CallErr → Type 0
-IsNoFault (StoreFault disk count) = ⊥
-IsNoFault TrailFull = Unit {0}
-IsNoFault Memory = Unit {0}
+use Rattle.plain_tower.specs.Legal.{tree_of}
+use Rattle.plain_tower.specs.Pages.{Keeps}
+use Rattle.plain_tower.specs.Ends.{Sends, Stops}
 
 -- the log; the disk, the count of its store when it was taken, and the count now; and what the store holds, where that is told
 pub record TowerSeen : Type 0 where
@@ -57,16 +32,39 @@ abbrev pub KeepsSynced : LogSeen → Option Content → Type 0
 KeepsSynced l content = (from : ℕ) → last_from (trail_of l.history) ≡ Some from
     → IfSome content (λ c. Holds l.shape (first_file l.shape l.history) (trail_of l.history) from c.kept)
 
--- what every tower keeps: its store's shape; notes of its disk alone, with rising counts; and the last sync's pages
+-- each block is its page as the ground shows it
+abbrev pub ShowsGround : LogSeen → Option Content → Type 0
+ShowsGround l content = IfSome content (λ c. (page : ℕ) → page < l.pages
+    → slice_get c.blocks page ≡ Some (shown (tree_of l.shape) l.shape.page_size l.history.opening (trail_of l.history) 0 page))
+
+-- what every tower keeps: its store's shape; notes of its disk alone, with rising counts; the last sync's pages; and the
+-- ground's copies in the store
 pub record IsTower (t : TowerSeen) (size number : ℕ) : Type 0 where
-  pub limits : (t.log.shape.page_size ≤ 4096) × (t.log.pages ≤ 1024)
   pub shape : KeepsShape t.log.shape.page_size t.log.pages size number t.content
   pub disks : AllByRecursion (IsOnDisk t.disk) t.log.history.log
   pub rises : Rises t.began t.faults (counts_of t.disk t.log.history.log)
   pub keeps : KeepsSynced t.log t.content
+  pub ground : ShowsGround t.log t.content
 
 -- a call that a store ended names this disk, and a count that rose to what it is now
 abbrev pub Faults : ℕ → ℕ → ℕ → CallErr → Type 0
 Faults disk before now (StoreFault of count) = (of ≡ disk) × (before < count) × (count ≡ now)
 Faults disk before now TrailFull = Unit {0}
 Faults disk before now Memory = Unit {0}
+
+-- the same file later on, of which the store has kept no more
+pub record GoesOn (old new : TowerSeen) : Type 0 where
+  pub same : new ≡ record old { log = record old.log { history = new.log.history; room = new.log.room }; faults = new.faults; content = new.content }
+  pub keeps : Keeps old.content new.content
+  pub later : old.faults ≤ new.faults
+
+-- page messages were entered
+pub record Sent (old new : TowerSeen) : Type 0 where
+  pub goes : GoesOn old new
+  pub sends : Sends old.log.history new.log.history
+
+-- page messages were entered, and then a caller's call was refused
+pub record Stopped (caller : ℕ) (old new : TowerSeen) (err : CallErr) : Type 0 where
+  pub goes : GoesOn old new
+  pub stops : Stops caller old.log.history new.log.history err
+  pub cause : Faults old.disk old.faults new.faults err

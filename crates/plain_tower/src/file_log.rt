@@ -1,20 +1,15 @@
 //! The log of one file, with the plain file that stands at its end.
 
 ghost use Rattle.std.specs.Prelude.{◌≡◌, ℕ, ◌∷◌, ◌++◌, ◌+◌, ◌*◌, ◌-◌, [], ◌<◌, ◌≤◌, ◌^◌, IfOk, IfErr, Ok, OnOk, OnErr, IfSome, length, slice_index, Some, IsTrue, ◌↔◌};
-ghost use Rattle.hist_plain.specs.Event.{fits_page};
-ghost use Rattle.hist_plain.specs.Plain.{asked_by};
-ghost use Rattle.run_defs.specs.Plan.{access, sync};
-ghost use Rattle.run_defs.specs.Calls.{Called};
 ghost use Rattle.plain_tower.specs.Counts.{Counts};
-ghost use Rattle.plain_tower.specs.Tower.{GrowsPlainly, EntersSynced, IsNoFault};
 ghost use Rattle.std.specs.Option.{option_map};
 ghost use Rattle.hist_plain.specs.Event.{caller_of, number_of};
 ghost use Rattle.hist_plain.specs.Plain.{IsTree, IsPageSize, Suits, asked_len, reply};
-ghost use Rattle.hist_plain.specs.History.{mine, IsNumbered};
+ghost use Rattle.hist_plain.specs.History.{mine, page_in, IsNumbered};
 ghost use Rattle.run_defs.specs.Log.{trail_of, file_of, place_of, more, IsHistory};
 
-use hist_plain::{Answer, Bytes, Event, Items, Keep, Op, Plain};
-use run_defs::{Answered, CallErr, History, Logged, Note};
+use hist_plain::{Answer, Bytes, Event, Items, Plain};
+use run_defs::{History, Logged, Note};
 use std::alloc::{AllocError, Global};
 use std::marker::Model;
 
@@ -94,6 +89,18 @@ impl FileLog {
         self.plain.bytes()
     }
 
+    /// The bytes of a page at the end of its history.
+    pub fn page(&self, page: u32) -> &[u8]
+        requires { page < self.now.pages }
+        ensures bytes { result.now ≡ page_in self.now.shape.page_size (file_of self.now.shape self.now.history).bytes page }
+        ensures len { length result.now ≡ self.now.shape.page_size }
+    {
+        let size = self.page_size() as usize;
+        let start = page as usize * size;
+        let bytes = self.bytes();
+        &bytes[start..start + size]
+    }
+
     /// The number of a caller's next event.
     pub fn number(&self, caller: u32) -> u32
         requires { caller < self.now.callers }
@@ -149,68 +156,6 @@ impl FileLog {
         ensures { result ≡ self.now.pages }
     {
         self.pages
-    }
-
-    /// Makes an access of a caller at a node, of a life: an event, where the trail and memory have room.
-    pub fn access(
-        &mut self,
-        caller: u32,
-        node: u32,
-        life: u32,
-        op: Op,
-        out: &mut [u8],
-    ) -> Result<Answered, CallErr>
-        requires caller { caller < self.old.callers }
-        requires node { node < length self.old.shape.parents }
-        requires fits { IsTrue (fits_page self.old.shape.page_size self.old.pages op) }
-        requires out { length out.old ≡ asked_by op }
-        ensures called { Called self.old.shape caller (access node life op) self.old.history self.new.history out.new result }
-        ensures grows { GrowsPlainly self.old.history self.new.history }
-        ensures same { self.new ≡ record self.old { history = self.new.history; room = self.new.room } }
-        ensures causes { IfErr result IsNoFault }
-    {
-        if self.is_full() {
-            return Err(CallErr::TrailFull);
-        }
-        let Ok(()) = self.reserve() else {
-            return Err(CallErr::Memory);
-        };
-        let place = self.len();
-        let event = Event::Access {
-            caller,
-            number: self.number(caller),
-            node,
-            life,
-            op,
-        };
-        match self.enter(event, out) {
-            Some(answer) => Ok(Answered { answer, place }),
-            None => unreachable!(),
-        }
-    }
-
-    /// Enters that a caller's sync at a node is done, from the present place.
-    pub fn synced(&mut self, caller: u32, node: u32, keep: Keep) -> Answered
-        requires room { 0 < self.old.room }
-        requires few { place_of self.old.history < 4194304 }
-        requires caller { caller < self.old.callers }
-        requires node { node < length self.old.shape.parents }
-        ensures called { Called self.old.shape caller (sync node keep) self.old.history self.new.history [] (Ok result) }
-        ensures synced { EntersSynced self.old.history self.new.history }
-        ensures same { self.new ≡ record self.old { history = self.new.history; room = self.new.room } }
-    {
-        let place = self.len();
-        let event = Event::Synced {
-            caller,
-            number: self.number(caller),
-            node,
-            from: place,
-            keep,
-        };
-        match self.enter(event, &mut []) {
-            Some(answer) => Answered { answer, place },
-            None => unreachable!(),
-        }
     }
 
     /// Ends the log, and gives its history.

@@ -27,6 +27,13 @@ pub record IsSetting (setting : Setting) : Type 0 where
   pub upper : 2 ≤ length setting.parents
   pub ground : IfSome (slice_get setting.nodes 0) (λ n. n.is_view ≡ false)
 
+-- a stack that can be run: one disk, at least one file, and different files have different names
+pub record IsBuilt (setting : Setting) : Type 0 where
+  pub limits : IsSetting setting
+  pub disk : length setting.disks ≡ 1
+  pub some : 1 ≤ length setting.files
+  pub named : (a b : ℕ) (f g : FileEntry) → slice_get setting.files a ≡ Some f → slice_get setting.files b ≡ Some g → f.name ≡ g.name → a ≡ b
+
 -- how many pages a file of the stack has
 abbrev pub pages_of : Setting → ℕ → ℕ
 pages_of setting file = pages_in (slice_get setting.files file) where

@@ -1,6 +1,9 @@
+pub mod Lists
+pub mod BerthLaws
+pub mod HeldLaws
 pub mod PlayLaws
 pub mod RunLaws
-pub mod FileLaws
+pub mod RefusalLaws
 pub mod TopLaws
 pub mod BuiltLaws
 pub mod WriteLaws

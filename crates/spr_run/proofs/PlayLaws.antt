@@ -8,6 +8,7 @@ use Rattle.std.proofs.lemmas.Option.{slice_get_within}
 use Rattle.hist_plain.specs.File.{Shape}
 use Rattle.hist_plain.specs.History.{is_by, IsNumbered}
 use Rattle.script_text.specs.declared.script.CallLine.{CallLine}
+use Rattle.script_text.specs.Grammar.{AreCalls, ArePhases}
 use Rattle.script_text.specs.declared.script.Script.{Script}
 use Rattle.script_text.specs.declared.script.Said.{Said}
 use Rattle.script_text.specs.declared.script.Reply.{Reply}
@@ -26,7 +27,7 @@ use Rattle.run_defs.specs.declared.setting.FileEntry.{FileEntry}
 use Rattle.run_defs.specs.declared.object.OpenObject.{OpenObject}
 use Rattle.plain_run.specs.Towers.{Frame, frames, histories, AreFrames, AreTowers}
 use Rattle.plain_run.specs.Lines.{IsObject}
-use Rattle.plain_run.specs.Phases.{PhasesDone, FilesClosed, IsFresh, AreReady}
+use Rattle.plain_run.specs.Phases.{PhasesDone, FilesClosed, IsFresh, AreReady, HaveClients}
 use Rattle.spr_run.specs.Play.{AreNumbered, IsUnwritten, ArePlayed}
 
 -- the parts of the clients from this one on
@@ -168,3 +169,12 @@ ready setting mount towers clients len may fresh numbered number client is =
       towers_are = frames-fewer setting mount number setting.files (frames towers) (omega (arith, within, len)) may;
       objects_are = subst (λ (os : List OpenObject). AllByRecursion (IsObject setting) os) (sym (fresh-at clients number client fresh is).no_objects) tt;
     }
+
+calls-have : (count number : ℕ) (lines : List CallLine) → AreCalls count number lines → HaveClients count lines
+calls-have count number [] h = tt
+calls-have count number (line ∷ lines) h = (h.1, calls-have count (suc number) lines h.3)
+
+-- each line of a script is one of its clients'
+pub phases-have : (count number : ℕ) (phases : List (List CallLine)) → ArePhases count number phases → AllByRecursion (HaveClients count) phases
+phases-have count number [] h = tt
+phases-have count number (phase ∷ phases) h = (calls-have count (suc number) phase h.0, phases-have count (suc number + length phase) phases h.1)

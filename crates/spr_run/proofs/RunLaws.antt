@@ -1,155 +1,369 @@
--- From the run over the open file to the run of the file.
-use Rattle.std.proofs.Common.{◌≡◌, ◌≢◌, ◌⊎◌, ⊎_elim, ℕ, zero, suc, ◌+◌, ◌^◌, ◌-◌, ◌<◌, ◌≤◌, Bool, true, false, List, [], ◌∷◌, ◌++◌, length, map, Option, Some, None, IfSome, refl, sym, ap, subst, ◌∙◌, arith}
-use Rattle.std.specs.Prelude.{slice_get, min}
+-- From the stores that are out to the run of the files.
+use Rattle.std.proofs.Common.{◌≡◌, ◌≢◌, ℕ, zero, suc, ◌+◌, ◌<◌, ◌≤◌, Bool, List, [], ◌∷◌, ◌++◌, length, map, Option, Some, IfSome, refl, sym, ap, subst, ◌∙◌, arith}
+use Rattle.std.specs.Prelude.{slice_get}
 use Rattle.std.specs.List.{AllByRecursion}
+use Rattle.std.specs.Option.{option_map}
+use Rattle.std.proofs.lemmas.List.{append-nil}
+use Rattle.std.proofs.lemmas.Option.{slice_get_within, slice_get-map}
 use Rattle.hist_plain.specs.File.{Shape}
-use Rattle.hist_plain.specs.History.{IsNumbered}
 use Rattle.script_text.specs.declared.script.Script.{Script}
 use Rattle.script_text.specs.declared.script.Said.{Said}
 use Rattle.script_text.specs.declared.script.Reply.{Reply}
-use Rattle.script_text.specs.declared.script.Reply.TheVariants as replies
+use Rattle.script_text.specs.declared.script.Reply.TheVariants.{Done}
 use Rattle.run_defs.specs.declared.log.History.{History}
 use Rattle.run_defs.specs.declared.log.Logged.{Logged}
-use Rattle.run_defs.specs.Log.{trail_of, first_file, file_of, history_at, IsHistory}
+use Rattle.run_defs.specs.declared.setting.Setting.{Setting}
+use Rattle.run_defs.specs.declared.setting.FileEntry.{FileEntry}
+use Rattle.run_defs.specs.Setting.{IsBuilt, shape_of, pages_of}
+use Rattle.run_defs.specs.Log.{trail_of, first_file, file_of, history_at, IsHistory, AreHistories}
 use Rattle.run_defs.specs.Fits.{FitsScript, GoesOn}
 use Rattle.run_defs.specs.Kept.{ArePages, Holds, last_from, counts_of, Rises}
 use Rattle.run_defs.specs.Report.{report}
 use Rattle.spr_io.specs.Content.{Content}
-use Rattle.spr_io.specs.Berth.{Berth, given, lost, taken, SameElsewhere}
+use Rattle.spr_io.specs.Berth.{Berth, Berths, Opens, taken, SameBerths}
 use Rattle.spr_io.specs.Causes.{Rose}
 use Rattle.spr_report.specs.declared.status.Status.{Status}
 use Rattle.spr_report.specs.Status.{number_of}
 use Rattle.plain_tower.specs.Seen.{LogSeen}
+use Rattle.plain_tower.specs.Legal.{IsLegalTrail}
 use Rattle.plain_tower.specs.Tower.{TowerSeen, KeepsSynced}
-use Rattle.plain_run.specs.Towers.{Frame, frame_of, frames, histories}
+use Rattle.plain_run.specs.Towers.{Frame, frame_of, frames, histories, AreFrames, AreTowers}
 use Rattle.plain_run.specs.Phases.{IsClosed}
-use Rattle.spr_run.specs.First.{disk, file, first_setting, first_shape}
-use Rattle.spr_run.specs.Ended.{losses, status_of}
-use Rattle.spr_run.specs.Play.{ArePlayed}
+use Rattle.plain_run.proofs.TowerLaws.{history_at-tower}
+use Rattle.spr_run.specs.Berths.{berth_at, SameOthers}
+use Rattle.spr_run.specs.Ended.{gone_at, losses, status_of}
+use Rattle.spr_run.specs.Play.{IsUnwritten, ArePlayed}
+use Rattle.spr_run.specs.declared.store.Stop.{Stop}
+use Rattle.spr_run.specs.declared.store.Stop.TheVariants as stops
 use Rattle.spr_run.specs.declared.store.End.{End}
 use Rattle.spr_run.specs.declared.store.End.TheVariants as ends
-use Rattle.spr_run.specs.Store.{AtBay, BackFrom, LeavesOut, KeepsWhole, IsOpened, Played, Tells, RunOver, start_of}
+use Rattle.spr_run.specs.Store.{AtBay, BackFrom, Untouched, CameBack, Stops, FileLeft, FileRan, EachFile, Ran, RanOut, Ends, start_of}
+use Rattle.spr_run.specs.Held.{StoreSeen, EachAt, IsOut, AreOut, AreBelow, IsUntaken, AreSame, OpensFile, OpensFiles, OpensSome, IsUnopened, AreOpened, IsShut, AreShut, AreGiven, ComeBack, Tells}
+use Rattle.spr_run.proofs.Lists.{some-is, no-item, there}
+use Rattle.spr_run.proofs.BerthLaws.{rose-from, rose-to, pages-at, same-then, back-again}
+use Rattle.spr_run.proofs.HeldLaws.{same-self, same-join, same-length, same-at, same-shut, opens-length, opens-at, shut-length, shut-at, shut-histories, shut-numbered, none-left, length-histories}
+use Rattle.spr_run.proofs.PlayLaws.{all-by-index}
 
--- the store came back or was lost
-pub back-by : (bay : AtBay) (out : Berth) (gone : Bool) (content : Option Content) (faults : ℕ) → (gone ≡ false → bay.berths_after disk file ≡ given content faults out)
-    → (gone ≡ true → (bay.berths_after disk file ≡ lost faults out) × Rose bay.faults bay.faults_after) → BackFrom bay out gone content faults
-back-by bay out false content faults f t = f refl
-back-by bay out true content faults f t = t refl
+-- nothing was taken
+pub came-none : (setting : Setting) (before after : Berths) (faults faults_after : ℕ) → SameBerths before after → CameBack setting (record { berths = before; berths_after = after; faults = faults; faults_after = faults_after }) []
+came-none setting before after faults faults_after same = record {
+  few = omega arith;
+  each = λ file lt. absurd (omega arith);
+  others = λ d n other. same d n;
+}
 
-two-frames : (x : TowerSeen) (xs : List TowerSeen) (t0 t1 : TowerSeen) → frames (x ∷ xs ++ t1 ∷ []) ≡ frames (t0 ∷ []) → ⊥
-two-frames x [] t0 t1 e = cc
-two-frames x (y ∷ ys) t0 t1 e = cc
-
--- one tower stays one
-pub one-tower : (after init : List TowerSeen) (t0 t1 : TowerSeen) → frames after ≡ frames (t0 ∷ []) → after ≡ init ++ t1 ∷ [] → after ≡ t1 ∷ []
-one-tower after [] t0 t1 same is = is
-one-tower after (x ∷ xs) t0 t1 same is = absurd (two-frames x xs t0 t1 (ap frames (sym is) ∙ same))
-
-same-frame : (t0 t1 : TowerSeen) → frames (t1 ∷ []) ≡ frames (t0 ∷ []) → frame_of t1 ≡ frame_of t0
-same-frame t0 t1 e = cc
-
--- the frame of the tower that was played
-pub record FrameStays (t1 : TowerSeen) (began : ℕ) : Type 0 where
-  pub shape : t1.log.shape ≡ first_shape
-  pub pages : t1.log.pages ≡ 2
-  pub disk_is : t1.disk ≡ 0
-  pub began_is : t1.began ≡ began
-
-pub frame-stays : (callers began : ℕ) (towers after init : List TowerSeen) (t1 : TowerSeen) → IsOpened callers began towers → frames after ≡ frames towers → after ≡ init ++ t1 ∷ [] → FrameStays t1 began
-frame-stays callers began towers after init t1 opened same is =
-    let t0 = opened.tower in
-    let same' : frames after ≡ frames (t0 ∷ []) = same ∙ ap frames opened.only in
-    let only : after ≡ t1 ∷ [] = one-tower after init t0 t1 same' is in
-    let frame : frame_of t1 ≡ frame_of t0 = same-frame t0 t1 (ap frames (sym only) ∙ same') in
+-- the stores that were taken came back
+pub came-back : (setting : Setting) (before mid after : Berths) (faults faults_mid faults_after : ℕ) (stores : List StoreSeen) (gone : List Bool) → AreOut setting before mid stores → faults ≤ faults_mid
+    → ComeBack setting (record { berths = mid; berths_after = after; faults = faults_mid; faults_after = faults_after }) stores gone
+    → CameBack setting (record { berths = before; berths_after = after; faults = faults; faults_after = faults_after }) gone
+came-back setting before mid after faults faults_mid faults_after stores gone out le come =
+    let over : AtBay = record { berths = mid; berths_after = after; faults = faults_mid; faults_after = faults_after } in
+    let bay : AtBay = record { berths = before; berths_after = after; faults = faults; faults_after = faults_after } in
+    let back : List StoreSeen = come.back in
+    let len : length back ≡ length stores = same-length stores back come.same in
+    let flags : length gone ≡ length back = come.given.flags in
+    let all : length gone ≡ length stores = flags ∙ len in
     record {
-      shape = ap (λ (f : Frame). f.shape) frame ∙ opened.shape;
-      pages = ap (λ (f : Frame). f.pages) frame ∙ opened.pages;
-      disk_is = ap (λ (f : Frame). f.disk) frame ∙ opened.disk_is;
-      began_is = ap (λ (f : Frame). f.began) frame ∙ opened.began_is;
+      few = let few = out.few in omega (arith, all, few);
+      each = λ file lt.
+          let now = there back file (omega (arith, lt, flags)) in
+          let was = same-at stores back file now.0 come.same now.1 in
+          let is = out.each file was.0 was.1 in
+          let count = is.count in
+          let later = was.2.later in
+          record {
+            content = (was.0).content;
+            takes = record { was_in = is.was_in; opens = is.opens };
+            faults = (now.0).faults;
+            later = omega (arith, count, later);
+            back = back-again over bay (berth_at setting file mid) (taken (berth_at setting file before)) (berth_at setting file after) (berth_at setting file after) (gone_at gone file) (gone_at gone file)
+                (now.0).content (was.0).content (now.0).faults (now.0).faults (rose-from faults faults_mid faults_after le) is.berth refl refl was.2.content refl (come.given.each file now.0 now.1);
+          };
+      others = same-then setting (length gone) before mid after (subst (λ n. SameOthers setting n before mid) (sym all) out.others) (subst (λ n. SameOthers setting n mid after) (sym flags) come.given.others);
     }
 
-keeps-is : (l : LogSeen) (h : History) (content : Option Content) → l.shape ≡ first_shape → h ≡ l.history → KeepsSynced l content
-    → (from : ℕ) → last_from (trail_of h) ≡ Some from → IfSome content (λ c. Holds first_shape (first_file first_shape h) (trail_of h) from c.kept)
-keeps-is l h content shape is keeps =
-    subst (λ (s : Shape). (from : ℕ) → last_from (trail_of h) ≡ Some from → IfSome content (λ c. Holds s (first_file s h) (trail_of h) from c.kept)) shape
-    (subst (λ (x : History). (from : ℕ) → last_from (trail_of x) ≡ Some from → IfSome content (λ c. Holds l.shape (first_file l.shape x) (trail_of x) from c.kept)) (sym is) keeps)
+-- a run whose stores were not all taken
+pub stops-taking : (setting : Setting) (before mid after : Berths) (faults faults_mid faults_after : ℕ) (stores : List StoreSeen) (gone : List Bool) (stop : Stop) → AreOut setting before mid stores → faults ≤ faults_mid
+    → AreGiven setting (record { berths = mid; berths_after = after; faults = faults_mid; faults_after = faults_after }) stores gone → IsUntaken setting (length stores) faults faults_mid stop
+    → Stops setting (record { berths = before; berths_after = after; faults = faults; faults_after = faults_after }) gone stop
+stops-taking setting before mid after faults faults_mid faults_after stores gone (stops.Bay file) out le given untaken = (
+  came-back setting before mid after faults faults_mid faults_after stores gone out le (record { back = stores; same = same-self stores; given = given }),
+  given.flags ∙ untaken.0,
+  untaken.1,
+  rose-to faults faults_mid faults_after given.later untaken.2,
+)
+stops-taking setting before mid after faults faults_mid faults_after stores gone (stops.Store file count) out le given untaken = absurd untaken
+stops-taking setting before mid after faults faults_mid faults_after stores gone stops.Memory out le given untaken =
+    came-back setting before mid after faults faults_mid faults_after stores gone out le (record { back = stores; same = same-self stores; given = given })
 
-history-is : (shape : Shape) (pages : ℕ) (h : History) → shape ≡ first_shape → pages ≡ 2 → IsHistory shape pages h → IsHistory first_shape 2 h
-history-is shape pages h s p legal = subst (λ (x : Shape). IsHistory x 2 h) s (subst (λ n. IsHistory shape n h) p legal)
+-- a run whose files were not all opened
+pub stops-opening : (setting : Setting) (before mid after : Berths) (faults faults_mid faults_after : ℕ) (stores : List StoreSeen) (gone : List Bool) (stop : Stop) → AreOut setting before mid stores → faults ≤ faults_mid
+    → length stores ≡ length setting.files → ComeBack setting (record { berths = mid; berths_after = after; faults = faults_mid; faults_after = faults_after }) stores gone → IsUnopened stores stop
+    → Stops setting (record { berths = before; berths_after = after; faults = faults; faults_after = faults_after }) gone stop
+stops-opening setting before mid after faults faults_mid faults_after stores gone (stops.Bay file) out le all come unopened = absurd unopened
+stops-opening setting before mid after faults faults_mid faults_after stores gone (stops.Store file count) out le all come unopened =
+    let s : StoreSeen = unopened.0 in
+    let within = slice_get_within stores file s unopened.1 in
+    let same = (out.each file s unopened.1).count in
+    let rose = unopened.2 in (
+      came-back setting before mid after faults faults_mid faults_after stores gone out le come,
+      come.given.flags ∙ (same-length stores come.back come.same ∙ all),
+      omega (arith, within, all),
+      omega (arith, same, rose),
+    )
+stops-opening setting before mid after faults faults_mid faults_after stores gone stops.Memory out le all come unopened = came-back setting before mid after faults faults_mid faults_after stores gone out le come
+
+-- the open files were closed, and the stores put in order
+pub come-back : (setting : Setting) (bay : AtBay) (callers : ℕ) (stores : List StoreSeen) (towers : List TowerSeen) (rest closed : List StoreSeen) (gone : List Bool) → OpensSome setting callers stores towers rest → AreShut towers closed
+    → AreGiven setting bay (closed ++ rest) gone → ComeBack setting bay stores gone
+come-back setting bay callers stores towers rest closed gone some shut given = record {
+  back = closed ++ rest;
+  same = subst (λ (ss : List StoreSeen). AreSame ss (closed ++ rest)) (sym some.all) (same-join some.first closed some.others rest (same-shut setting callers 0 some.first towers closed some.opened shut) some.same);
+  given = given;
+}
+
+-- all files were opened
+pub all-opened : (setting : Setting) (callers : ℕ) (stores : List StoreSeen) (towers : List TowerSeen) (rest : List StoreSeen) → length stores ≡ length setting.files → rest ≡ [] → OpensSome setting callers stores towers rest
+    → OpensFiles setting callers 0 stores towers
+all-opened setting callers stores towers rest all none some =
+    let is : stores ≡ some.first = some.all ∙ (ap (λ (o : List StoreSeen). some.first ++ o) (none-left some.others rest none some.same) ∙ append-nil some.first) in
+    subst (λ (ss : List StoreSeen). OpensFiles setting callers 0 ss towers) (sym is) some.opened
+
+opens-self : (setting : Setting) (callers file : ℕ) (s : StoreSeen) (t : TowerSeen) → OpensFile setting callers file s.faults s.content t → OpensFile setting callers file t.began t.content t
+opens-self setting callers file s t o =
+    subst (λ n. OpensFile setting callers file n t.content t) (sym o.began_is) (subst (λ (c : Option Content). OpensFile setting callers file s.faults c t) (sym o.same) o)
+
+pub are-opened : (setting : Setting) (callers : ℕ) (stores : List StoreSeen) (towers : List TowerSeen) → length stores ≡ length setting.files → OpensFiles setting callers 0 stores towers → AreOpened setting callers towers
+are-opened setting callers stores towers all opens = record {
+  number = opens-length setting callers 0 stores towers opens ∙ all;
+  each = λ file t is.
+      let r = opens-at setting callers 0 stores towers file t opens is in
+      opens-self setting callers file r.0 t (subst (λ n. OpensFile setting callers n (r.0).faults (r.0).content t) (omega arith) r.2);
+}
+
+-- the stores are below the towers that were opened
+pub are-below : (setting : Setting) (callers : ℕ) (before now : Berths) (stores : List StoreSeen) (towers : List TowerSeen) → length stores ≡ length setting.files → OpensFiles setting callers 0 stores towers → AreOut setting before now stores
+    → AreBelow setting before now towers
+are-below setting callers before now stores towers all opens out = record {
+  each = λ file t is.
+      let r = opens-at setting callers 0 stores towers file t opens is in
+      subst (λ n. IsOut setting before now file t.content n) (sym r.2.began_is) (subst (λ (c : Option Content). IsOut setting before now file c (r.0).faults) (sym r.2.same) (out.each file r.0 r.1));
+  others = subst (λ n. SameOthers setting n before now) all out.others;
+}
+
+frames-of : (setting : Setting) (caller : ℕ) (files : List FileEntry) (ts : List TowerSeen) → length ts ≡ length files
+    → ((k : ℕ) (f : FileEntry) (t : TowerSeen) → slice_get files k ≡ Some f → slice_get ts k ≡ Some t → (t.log.shape ≡ shape_of setting) × (t.log.pages ≡ f.pages) × (caller < t.log.callers)) → AreFrames setting caller files (frames ts)
+frames-of setting caller [] [] len h = tt
+frames-of setting caller [] (t ∷ ts) len h = absurd (omega (arith, len))
+frames-of setting caller (f ∷ fs) [] len h = absurd (omega (arith, len))
+frames-of setting caller (f ∷ fs) (t ∷ ts) len h =
+    let here = h 0 f t refl refl in
+    (here.0, here.1, here.2, frames-of setting caller fs ts (omega (arith, len)) (λ k g u p q. h (suc k) g u p q))
+
+-- the towers may be called by each caller
+pub towers-opened : (setting : Setting) (caller callers : ℕ) (towers : List TowerSeen) → caller < callers → AreOpened setting callers towers → AreTowers setting caller towers
+towers-opened setting caller callers towers lt opened =
+    frames-of setting caller setting.files towers opened.number
+    (λ k f t is at. let o = opened.each k t at in (o.shape_is, o.pages_are ∙ pages-at setting k f is, (let e = o.callers_are in omega (arith, e, lt))))
+
+pub unwritten-opened : (setting : Setting) (callers : ℕ) (towers : List TowerSeen) → AreOpened setting callers towers → AllByRecursion IsUnwritten towers
+unwritten-opened setting callers towers opened = all-by-index IsUnwritten towers (λ k t is. (opened.each k t is).no_log)
+
+length-frames : (ts : List TowerSeen) → length (frames ts) ≡ length ts
+length-frames [] = refl
+length-frames (t ∷ ts) = ap suc (length-frames ts)
+
+pub same-number : (before after : List TowerSeen) → frames after ≡ frames before → length after ≡ length before
+same-number before after same = sym (length-frames after) ∙ (ap length same ∙ length-frames before)
+
+-- a store for each file
+pub number-over : (setting : Setting) (callers : ℕ) (before after : List TowerSeen) (stores : List StoreSeen) → AreOpened setting callers before → frames after ≡ frames before → AreShut after stores → length stores ≡ length setting.files
+number-over setting callers before after stores opened same shut = shut-length after stores shut ∙ (same-number before after same ∙ opened.number)
+
+-- a history for each file
+pub histories-over : (setting : Setting) (caller callers : ℕ) (before after : List TowerSeen) (stores : List StoreSeen) → caller < callers → AreOpened setting callers before → frames after ≡ frames before → AreShut after stores
+    → AreHistories (shape_of setting) setting.files (histories after)
+histories-over setting caller callers before after stores lt opened same shut =
+    shut-histories setting caller setting.files after stores (subst (λ (fs : List Frame). AreFrames setting caller setting.files fs) (sym same) (towers-opened setting caller callers before lt opened)) shut
+
+-- no call changes the frame of a tower
+frame-stays : (before after : List TowerSeen) (k : ℕ) (t0 t1 : TowerSeen) → frames after ≡ frames before → slice_get before k ≡ Some t0 → slice_get after k ≡ Some t1 → frame_of t1 ≡ frame_of t0
+frame-stays before after k t0 t1 same is0 is1 =
+    let e0 : slice_get (frames before) k ≡ Some (frame_of t0) = slice_get-map frame_of before k ∙ ap (λ (o : Option TowerSeen). option_map frame_of o) is0 in
+    let e1 : slice_get (frames after) k ≡ Some (frame_of t1) = slice_get-map frame_of after k ∙ ap (λ (o : Option TowerSeen). option_map frame_of o) is1 in
+    some-is (frame_of t1) (frame_of t0) (sym e1 ∙ (ap (λ (fs : List Frame). slice_get fs k) same ∙ e0))
+
+keeps-is : (shape : Shape) (l : LogSeen) (content : Option Content) → l.shape ≡ shape → KeepsSynced l content
+    → (from : ℕ) → last_from (trail_of l.history) ≡ Some from → IfSome content (λ c. Holds shape (first_file shape l.history) (trail_of l.history) from c.kept)
+keeps-is shape l content is keeps =
+    subst (λ (s : Shape). (from : ℕ) → last_from (trail_of l.history) ≡ Some from → IfSome content (λ c. Holds s (first_file s l.history) (trail_of l.history) from c.kept)) is keeps
 
 rises-is : (began began' faults number : ℕ) (log : List Logged) → began ≡ began' → number ≡ 0 → Rises began faults (counts_of number log) → Rises began' faults (counts_of 0 log)
 rises-is began began' faults number log b d rises = subst (λ n. Rises n faults (counts_of 0 log)) b (subst (λ n. Rises began faults (counts_of n log)) d rises)
 
--- what is left where a tower was closed and its store given back
-pub leaves-out : (bay : AtBay) (gone : Bool) (h : History) (t : TowerSeen) (content : Option Content) (faults : ℕ) → FrameStays t (bay.berths disk file).faults
-    → h ≡ t.log.history → content ≡ t.content → faults ≡ t.faults → IsHistory t.log.shape t.log.pages h → Rises t.began t.faults (counts_of t.disk h.log) → KeepsSynced t.log t.content
-    → BackFrom bay (bay.berths disk file) gone content faults → SameElsewhere disk file bay.berths bay.berths_after → bay.faults ≤ bay.faults_after
-    → (leaves : LeavesOut bay gone h) × (leaves.left ≡ t.content)
-leaves-out bay gone h t content faults frame h_is c_is f_is legal rises keeps back others later = (
-  record {
-    legal = history-is t.log.shape t.log.pages h frame.shape frame.pages legal;
-    left = t.content;
-    faults = t.faults;
-    back = subst (λ (c : Option Content). BackFrom bay (bay.berths disk file) gone c t.faults) c_is (subst (λ n. BackFrom bay (bay.berths disk file) gone content n) f_is back);
-    others = others;
-    later = later;
-    rises = rises-is t.began (bay.berths disk file).faults t.faults t.disk h.log frame.began_is frame.disk_is rises;
-    keeps = keeps-is t.log h t.content frame.shape h_is keeps;
-  },
-  refl,
-)
+history-is : (shape shape' : Shape) (pages pages' : ℕ) (h : History) → shape ≡ shape' → pages ≡ pages' → IsHistory shape pages h → IsHistory shape' pages' h
+history-is shape shape' pages pages' h s p legal = subst (λ (x : Shape). IsHistory x pages' h) s (subst (λ n. IsHistory shape n h) p legal)
 
-whole-is : (t : TowerSeen) (h : History) → t.log.shape ≡ first_shape → h ≡ t.log.history → IfSome t.content (λ c. ArePages t.log.shape.page_size (file_of t.log.shape t.log.history).bytes c.kept)
-    → IfSome t.content (λ c. ArePages 64 (file_of first_shape h).bytes c.kept)
-whole-is t h shape is kept =
-    subst (λ (s : Shape). IfSome t.content (λ c. ArePages s.page_size (file_of s h).bytes c.kept)) shape
-    (subst (λ (x : History). IfSome t.content (λ c. ArePages t.log.shape.page_size (file_of t.log.shape x).bytes c.kept)) (sym is) kept)
+trail-is : (shape shape' : Shape) (pages pages' : ℕ) (h : History) → shape ≡ shape' → pages ≡ pages' → IsLegalTrail shape pages h → IsLegalTrail shape' pages' h
+trail-is shape shape' pages pages' h s p legal = subst (λ (x : Shape). IsLegalTrail x pages' h) s (subst (λ n. IsLegalTrail shape n h) p legal)
 
-same-head : (a b : TowerSeen) → a ∷ [] ≡ b ∷ [] → a ≡ b
-same-head a b e = cc
+-- what is left of a file whose tower was closed and whose store was given back
+file-left : (setting : Setting) (callers file : ℕ) (over bay : AtBay) (t0 t1 : TowerSeen) (s : StoreSeen) (gone : Bool) → bay.berths_after ≡ over.berths_after → (Rose over.faults over.faults_after → Rose bay.faults bay.faults_after)
+    → OpensFile setting callers file t0.began t0.content t0 → IsOut setting bay.berths over.berths file t0.content t0.began → frame_of t1 ≡ frame_of t0 → IsShut t1 s
+    → BackFrom over (berth_at setting file over.berths) (berth_at setting file over.berths_after) gone s.content s.faults
+    → (l : FileLeft setting bay file gone t1.log.history) × (l.content ≡ t0.content) × (l.leaves.left ≡ t1.content)
+file-left setting callers file over bay t0 t1 s gone end rose opens out frame shut back =
+    let shape : t1.log.shape ≡ shape_of setting = ap (λ (f : Frame). f.shape) frame ∙ opens.shape_is in
+    let pages : t1.log.pages ≡ pages_of setting file = ap (λ (f : Frame). f.pages) frame ∙ opens.pages_are in
+    let disk : t1.disk ≡ 0 = ap (λ (f : Frame). f.disk) frame ∙ opens.disk_is in
+    let began : t1.began ≡ (berth_at setting file bay.berths).faults = ap (λ (f : Frame). f.began) frame ∙ out.count in (
+      record {
+        content = t0.content;
+        takes = record { was_in = out.was_in; opens = out.opens };
+        leaves = record {
+          legal = history-is t1.log.shape (shape_of setting) t1.log.pages (pages_of setting file) t1.log.history shape pages shut.legal;
+          trail = trail-is t1.log.shape (shape_of setting) t1.log.pages (pages_of setting file) t1.log.history shape pages shut.trail;
+          left = t1.content;
+          faults = t1.faults;
+          back = back-again over bay (berth_at setting file over.berths) (taken (berth_at setting file bay.berths)) (berth_at setting file over.berths_after) (berth_at setting file bay.berths_after) gone gone
+              s.content t1.content s.faults t1.faults rose out.berth (ap (berth_at setting file) (sym end)) refl shut.content shut.faults back;
+          rises = rises-is t1.began (berth_at setting file bay.berths).faults t1.faults t1.disk t1.log.history.log began disk shut.rises;
+          keeps = keeps-is (shape_of setting) t1.log t1.content shape shut.keeps;
+        };
+      },
+      refl,
+      refl,
+    )
 
-start-is : (t0 : History) (h : History) → t0.log ≡ [] → h.opening ≡ t0.opening → t0 ≡ start_of h
+-- all that is known of a run whose stores were given back
+pub record IsRunOver (setting : Setting) (callers : ℕ) (over bay : AtBay) (before after : List TowerSeen) (stores : List StoreSeen) (gone : List Bool) : Type 0 where
+  pub end : bay.berths_after ≡ over.berths_after
+  pub rose : Rose over.faults over.faults_after → Rose bay.faults bay.faults_after
+  pub opened : AreOpened setting callers before
+  pub below : AreBelow setting bay.berths over.berths before
+  pub same : frames after ≡ frames before
+  pub shut : AreShut after stores
+  pub given : AreGiven setting over stores gone
+
+-- the towers and the store of a file
+record FileOver (setting : Setting) (over bay : AtBay) (before after : List TowerSeen) (gone : List Bool) (file : ℕ) : Type 0 where
+  t0 : TowerSeen
+  is0 : slice_get before file ≡ Some t0
+  t1 : TowerSeen
+  is1 : slice_get after file ≡ Some t1
+  shape : t1.log.shape ≡ shape_of setting
+  bytes : IfSome t0.content (λ c. ArePages setting.page_size t0.log.history.opening c.blocks)
+  left : (l : FileLeft setting bay file (gone_at gone file) t1.log.history) × (l.content ≡ t0.content) × (l.leaves.left ≡ t1.content)
+
+file-over : (setting : Setting) (callers : ℕ) (over bay : AtBay) (before after : List TowerSeen) (stores : List StoreSeen) (gone : List Bool) (file : ℕ) → IsRunOver setting callers over bay before after stores gone → file < length setting.files
+    → FileOver setting over bay before after gone file
+file-over setting callers over bay before after stores gone file run lt =
+    let number : length before ≡ length setting.files = run.opened.number in
+    let number1 : length after ≡ length before = same-number before after run.same in
+    let number2 : length stores ≡ length after = shut-length after stores run.shut in
+    let a = there before file (omega (arith, number, lt)) in
+    let s = there stores file (omega (arith, number, number1, number2, lt)) in
+    let b = shut-at after stores file s.0 run.shut s.1 in
+    let opens = run.opened.each file a.0 a.1 in
+    let frame = frame-stays before after file a.0 b.0 run.same a.1 b.1 in
+    record {
+      t0 = a.0;
+      is0 = a.1;
+      t1 = b.0;
+      is1 = b.1;
+      shape = ap (λ (f : Frame). f.shape) frame ∙ opens.shape_is;
+      bytes = opens.bytes;
+      left = file-left setting callers file over bay a.0 b.0 s.0 (gone_at gone file) run.end run.rose opens (run.below.each file a.0 a.1) frame b.2 (run.given.each file s.0 s.1);
+    }
+
+others-over : (setting : Setting) (callers : ℕ) (over bay : AtBay) (before after : List TowerSeen) (stores : List StoreSeen) (gone : List Bool) → IsRunOver setting callers over bay before after stores gone
+    → SameOthers setting (length setting.files) bay.berths bay.berths_after
+others-over setting callers over bay before after stores gone run =
+    let number = number-over setting callers before after stores run.opened run.same run.shut in
+    same-then setting (length setting.files) bay.berths over.berths bay.berths_after run.below.others
+    (subst (λ (b : Berths). SameOthers setting (length setting.files) over.berths b) (sym run.end) (subst (λ n. SameOthers setting n over.berths over.berths_after) number run.given.others))
+
+flags-over : (setting : Setting) (callers : ℕ) (over bay : AtBay) (before after : List TowerSeen) (stores : List StoreSeen) (gone : List Bool) → IsRunOver setting callers over bay before after stores gone → length gone ≡ length setting.files
+flags-over setting callers over bay before after stores gone run =
+    run.given.flags ∙ number-over setting callers before after stores run.opened run.same run.shut
+
+-- memory lacked after the phases began
+pub ran-out : (setting : Setting) (callers : ℕ) (over bay : AtBay) (before after : List TowerSeen) (stores : List StoreSeen) (gone : List Bool) → IsRunOver setting callers over bay before after stores gone → RanOut setting bay
+ran-out setting callers over bay before after stores gone run = record {
+  gone = gone;
+  histories = histories after;
+  left = record {
+    flags = flags-over setting callers over bay before after stores gone run;
+    number = length-histories after ∙ (same-number before after run.same ∙ run.opened.number);
+    each = λ file lt.
+        let f = file-over setting callers over bay before after stores gone file run lt in
+        subst (λ (h : History). FileLeft setting bay file (gone_at gone file) h) (sym (history_at-tower after file f.t1 f.is1)) f.left.0;
+    others = others-over setting callers over bay before after stores gone run;
+  };
+}
+
+whole-is : (setting : Setting) (t : TowerSeen) → t.log.shape ≡ shape_of setting → IfSome t.content (λ c. ArePages t.log.shape.page_size (file_of t.log.shape t.log.history).bytes c.kept)
+    → IfSome t.content (λ c. ArePages setting.page_size (file_of (shape_of setting) t.log.history).bytes c.kept)
+whole-is setting t shape kept = subst (λ (s : Shape). IfSome t.content (λ c. ArePages s.page_size (file_of s t.log.history).bytes c.kept)) shape kept
+
+-- a file that was played
+file-ran : (setting : Setting) (script : Script) (over bay : AtBay) (before after : List TowerSeen) (gone : List Bool) (said : List (List Said)) (closing : List Reply) (file : ℕ) → FileOver setting over bay before after gone file
+    → ArePlayed setting script before after said closing → FileRan setting bay closing file (gone_at gone file) (history_at (histories after) file)
+file-ran setting script over bay before after gone said closing file f played =
+    let old : history_at (histories before) file ≡ f.t0.log.history = history_at-tower before file f.t0 f.is0 in
+    let new : history_at (histories after) file ≡ f.t1.log.history = history_at-tower after file f.t1 f.is1 in
+    let later : GoesOn f.t0.log.history f.t1.log.history = subst (λ (h : History). GoesOn h f.t1.log.history) old (subst (λ (h : History). GoesOn (history_at (histories before) file) h) new (played.later file)) in
+    subst (λ (h : History). FileRan setting bay closing file (gone_at gone file) h) (sym new)
+    (record {
+      part = f.left.0;
+      begun = subst (λ (c : Option Content). IfSome c (λ k. ArePages setting.page_size f.t1.log.history.opening k.blocks)) (sym f.left.1)
+          (subst (λ (o : List ℕ). IfSome f.t0.content (λ k. ArePages setting.page_size o k.blocks)) (sym later.opening) f.bytes);
+      whole = λ done. subst (λ (c : Option Content). IfSome c (λ k. ArePages setting.page_size (file_of (shape_of setting) f.t1.log.history).bytes k.kept)) (sym f.left.2)
+          (whole-is setting f.t1 f.shape (played.closed file f.t1 done f.is1).kept);
+    })
+
+start-is : (t0 h : History) → t0.log ≡ [] → h.opening ≡ t0.opening → t0 ≡ start_of h
 start-is t0 h none opening = rw (sym none, opening) refl
 
--- the run over the open file
-pub run-report : (bay : AtBay) (script : Script) (callers mount : ℕ) (towers after init : List TowerSeen) (t1 : TowerSeen) (h : History) (said : List (List Said)) (closing : List Reply) (gone : Bool) (text : List ℕ) (status : Status)
-    → IsOpened callers (bay.berths disk file).faults towers → frames after ≡ frames towers → after ≡ init ++ t1 ∷ []
-    → ArePlayed first_setting script towers after said closing → h ≡ t1.log.history → IsNumbered (trail_of h)
-    → (leaves : LeavesOut bay gone h) → leaves.left ≡ t1.content
-    → status ≡ status_of said closing gone → text ≡ report first_setting script (h ∷ []) said closing (losses gone) (number_of status)
-    → (t : TowerSeen) → towers ≡ t ∷ [] → Played bay script t.log.history.opening text status
-run-report bay script callers mount towers after init t1 h said closing gone text status opened same is played h_is numbered leaves left status_is text_is t towers_is =
-    let t0 = opened.tower in
-    let frame = frame-stays callers (bay.berths disk file).faults towers after init t1 opened same is in
-    let only : after ≡ t1 ∷ [] = one-tower after init t0 t1 (same ∙ ap frames opened.only) is in
-    let t_is : t0 ≡ t = same-head t0 t (sym opened.only ∙ towers_is) in
-    let final : histories after ≡ h ∷ [] = ap histories only ∙ ap (λ (x : History). x ∷ []) (sym h_is) in
-    let begin : histories towers ≡ t0.log.history ∷ [] = ap histories opened.only in
-    let later : GoesOn t0.log.history h = subst (λ (hs : List History). GoesOn (history_at hs 0) h) begin (subst (λ (hs : List History). GoesOn (history_at (histories towers) 0) (history_at hs 0)) final (played.later 0)) in
-    let started : t0.log.history ≡ start_of h = start-is t0.log.history h opened.no_log later.opening in
-    let fits : FitsScript first_setting script (histories towers) (histories after) said closing =
-    played.fits (subst (λ (hs : List History). AllByRecursion (λ x. IsNumbered (trail_of x)) hs) (sym final) (numbered, tt)) in
+-- the histories before were without a log
+starts-are : (before after : List TowerSeen) → length after ≡ length before → AllByRecursion IsUnwritten before → ((file : ℕ) → GoesOn (history_at (histories before) file) (history_at (histories after) file))
+    → histories before ≡ map start_of (histories after)
+starts-are [] [] len none later = refl
+starts-are [] (t ∷ ts) len none later = absurd (omega (arith, len))
+starts-are (t ∷ ts) [] len none later = absurd (omega (arith, len))
+starts-are (t ∷ ts) (u ∷ us) len none later =
+    let head : t.log.history ≡ start_of u.log.history = start-is t.log.history u.log.history none.0 (later 0).opening in
+    let tail : histories ts ≡ map start_of (histories us) = starts-are ts us (omega (arith, len)) none.1 (λ file. later (suc file)) in
+    ap (λ (h : History). h ∷ histories ts) head ∙ ap (λ (hs : List History). start_of u.log.history ∷ hs) tail
+
+-- the run of the files, by their report
+pub ran-of : (setting : Setting) (script : Script) (callers : ℕ) (over bay : AtBay) (before after : List TowerSeen) (stores : List StoreSeen) (gone : List Bool) (said : List (List Said)) (closing : List Reply) (text : List ℕ) (status : Status)
+    → IsRunOver setting callers over bay before after stores gone → ArePlayed setting script before after said closing → status ≡ status_of said closing gone
+    → text ≡ report setting script (histories after) said closing (losses gone) (number_of status) → Ran setting bay script text status
+ran-of setting script callers over bay before after stores gone said closing text status run played status_is text_is =
+    let number : length after ≡ length before = same-number before after run.same in
+    let starts = starts-are before after number (unwritten-opened setting callers before run.opened) played.later in
     record {
       gone = gone;
-      history = h;
-      opening_is = later.opening ∙ ap (λ (x : TowerSeen). x.log.history.opening) t_is;
+      histories = histories after;
       said = said;
       closing = closing;
-      leaves = leaves;
-      whole = λ done.
-          let kept = (played.closed 0 t1 (subst (λ (rs : List Reply). slice_get rs 0 ≡ Some replies.Done) (sym done) refl) (subst (λ (ts : List TowerSeen). slice_get ts 0 ≡ Some t1) (sym only) refl)).kept in
-          subst (λ (c : Option Content). IfSome c (λ k. ArePages 64 (file_of first_shape h).bytes k.kept)) (sym left) (whole-is t1 h frame.shape h_is kept);
-      fits = subst (λ (hs : List History). FitsScript first_setting script hs (h ∷ []) said closing) (begin ∙ ap (λ (x : History). x ∷ []) started)
-          (subst (λ (hs : List History). FitsScript first_setting script (histories towers) hs said closing) final fits);
+      ran = record {
+        flags = flags-over setting callers over bay before after stores gone run;
+        number = length-histories after ∙ (number ∙ run.opened.number);
+        each = λ file lt. file-ran setting script over bay before after gone said closing file (file-over setting callers over bay before after stores gone file run lt) played;
+        others = others-over setting callers over bay before after stores gone run;
+      };
+      fits = subst (λ (hs : List History). FitsScript setting script hs (histories after) said closing) starts (played.fits (shut-numbered after stores run.shut));
       status_is = status_is;
       text_is = text_is;
     }
 
--- the run over the open file, by what was told of it
-pub run-over : (bay : AtBay) (script : Script) (towers : List TowerSeen) (h : History) (said : List (List Said)) (closing : List Reply) (gone : Bool) (e : End) → Tells script h said closing gone e → LeavesOut bay gone h
-    → ((text : List ℕ) (status : Status) → status ≡ status_of said closing gone → text ≡ report first_setting script (h ∷ []) said closing (losses gone) (number_of status)
-    → (t : TowerSeen) → towers ≡ t ∷ [] → Played bay script t.log.history.opening text status)
-    → RunOver bay script towers e
-run-over bay script towers h said closing gone (ends.Report text status) tells leaves played = played text.items status tells.0 tells.1
-run-over bay script towers h said closing gone (ends.Stopped stop was) tells leaves played = absurd tells
-run-over bay script towers h said closing gone ends.Memory tells leaves played = (gone, (h, leaves))
+-- the run of the files, by what was told of it
+pub ends-of : (setting : Setting) (script : Script) (callers : ℕ) (over bay : AtBay) (before after : List TowerSeen) (stores : List StoreSeen) (gone : List Bool) (hs : List History) (said : List (List Said)) (closing : List Reply) (e : End)
+    → IsRunOver setting callers over bay before after stores gone → ArePlayed setting script before after said closing → hs ≡ histories after → Tells setting script hs said closing gone e → Ends setting bay script e
+ends-of setting script callers over bay before after stores gone hs said closing (ends.Report text status) run played is tells =
+    ran-of setting script callers over bay before after stores gone said closing text.items status run played tells.0
+    (tells.1 ∙ ap (λ (h : List History). report setting script h said closing (losses gone) (number_of status)) is)
+ends-of setting script callers over bay before after stores gone hs said closing (ends.Stopped stop was) run played is tells = absurd tells
+ends-of setting script callers over bay before after stores gone hs said closing ends.Memory run played is tells = ran-out setting callers over bay before after stores gone run

@@ -1,21 +1,27 @@
 -- How pieces of a text are written.
-use Rattle.std.proofs.Common.{◌≡◌, ℕ, suc, ◌+◌, ◌<◌, ◌≤◌, List, [], ◌∷◌, ◌++◌, length, map, take, drop, get_or, Option, Some, None, refl, sym, ap, subst, ◌∙◌, arith, append_assoc}
+use Rattle.std.proofs.Common.{◌≡◌, ℕ, suc, ◌+◌, ◌<◌, ◌≤◌, true, false, List, [], ◌∷◌, ◌++◌, length, map, take, drop, get_or, Option, Some, None, refl, sym, ap, subst, ◌∙◌, arith, append_assoc}
 use Rattle.std.proofs.lemmas.List.{append-nil, take_more, map-append}
 use Rattle.std.specs.Option.{option_map}
 use Rattle.std.specs.List.{list_any}
-use Rattle.std.specs.Prelude.{◌||◌, Bool}
-use Rattle.std.specs.List.{list_all}
+use Rattle.std.specs.Prelude.{◌||◌, Bool, if◌then◌else◌}
+use Rattle.std.specs.List.{list_all, flat_map}
+use Rattle.std.proofs.lemmas.Grind.{flat_map-append}
 use Rattle.std.specs.Fmt.{decimal}
-use Rattle.std.proofs.Common.{Result, Ok, Err, OnErr, codes, ◌-◌}
-use Rattle.std.proofs.lemmas.List.{take-append-drop, take_all, length-drop}
+use Rattle.std.proofs.Common.{Result, Ok, Err, IsErr, OnOk, OnErr, codes, ◌-◌}
+use Rattle.std.proofs.lemmas.List.{take-append-drop, take_all, length-drop, length-take-le}
 use Rattle.script_text.specs.declared.script.Said.{Said}
 use Rattle.script_text.specs.declared.script.Reply.{Reply}
+use Rattle.run_defs.specs.declared.object.LostStore.{LostStore}
+use Rattle.run_defs.specs.declared.setting.Setting.{Setting}
+use Rattle.run_defs.specs.Line.{line, spaced}
+use Rattle.run_defs.specs.Report.{lost_line}
+use Rattle.spr_io.specs.Causes.{Rose}
 use Rattle.spr_report.specs.declared.status.Status.{Status}
-use Rattle.spr_report.specs.declared.status.Status.TheVariants as statuses
-use Rattle.spr_run.specs.declared.refusal.Refusal.TheVariants as refusals
-use Rattle.spr_run.specs.Refusal.{refusal_text}
-use Rattle.spr_run.specs.Ended.{lacks_memory, has_fault, is_memory, is_done, status_by, status_of}
+use Rattle.spr_run.specs.Ended.{lacks_memory, has_fault, is_memory, is_done, any_gone, losses, losses_from, status_by, status_of}
+use Rattle.spr_run.specs.Store.{lost_text}
 use Rattle.spr_run.specs.Ways.{WroteSome, Finishes, joined}
+use Rattle.spr_run.specs.Writing.{Writes}
+use Rattle.spr_run.proofs.BerthLaws.{rose-from}
 
 pub append-then : (w before : Option (List ℕ)) (a b : List ℕ) → w ≡ option_map (λ x. x ++ a) before → option_map (λ x. x ++ b) w ≡ option_map (λ x. x ++ (a ++ b)) before
 append-then w None a b is = ap (λ (o : Option (List ℕ)). option_map (λ x. x ++ b) o) is
@@ -87,16 +93,101 @@ pub finishes-one : (before after : Option (List ℕ)) (faults faults_after : ℕ
 finishes-one before after faults faults_after piece text status result is fin =
     subst (λ (t : List ℕ). Finishes before after faults faults_after t status result) (append-nil piece ∙ is) fin
 
-pub finishes-later : (before after : Option (List ℕ)) (faults faults_after : ℕ) (stack name number : List ℕ) (line : ℕ) (result : Status) → number ≡ decimal line
-    → Finishes before after faults faults_after (joined (codes "script " ∷ number ∷ codes " " ∷ codes "later" ∷ codes "\nstatus 3\n" ∷ [])) statuses.Refused result
-    → Finishes before after faults faults_after (refusal_text stack name (refusals.ScriptLater line)) statuses.Refused result
-finishes-later before after faults faults_after stack name number line result is fin =
-    subst (λ (t : List ℕ). Finishes before after faults faults_after t statuses.Refused result)
-    (ap (λ (n : List ℕ). codes "script " ++ (n ++ (codes " " ++ (codes "later" ++ (codes "\nstatus 3\n" ++ []))))) is) fin
-
-pub status-is : {A : Type 0} (f : A → List Said) (said : List A) (closing : List Reply) (gone a b d e : Bool) → a ≡ list_any (λ v. lacks_memory (f v)) said → b ≡ list_any is_memory closing
-    → d ≡ list_any (λ v. has_fault (f v)) said → e ≡ list_all is_done closing → status_by a b gone d e ≡ status_of (map f said) closing gone
-status-is f said closing gone a b d e p q r s =
+pub status-is : {A : Type 0} (f : A → List Said) (said : List A) (closing : List Reply) (gone : List Bool) (a b g d e : Bool) → a ≡ list_any (λ v. lacks_memory (f v)) said → b ≡ list_any is_memory closing → g ≡ any_gone gone
+    → d ≡ list_any (λ v. has_fault (f v)) said → e ≡ list_all is_done closing → status_by a b g d e ≡ status_of (map f said) closing gone
+status-is f said closing gone a b g d e p q o r s =
     let x = p ∙ sym (any-map f lacks_memory said) in
     let y = r ∙ sym (any-map f has_fault said) in
-    rw (x, q, y, s) refl
+    rw (x, q, o, y, s) refl
+
+-- what was written by the end of a writing
+pub writes-of : {A E : Type 0} (before after : Option (List ℕ)) (faults faults_after : ℕ) (text : List ℕ) (r : Result A E) → OnOk r (after ≡ option_map (λ w. w ++ text) before) → OnErr r (WroteSome text before after)
+    → faults ≤ faults_after → OnErr r (Rose faults faults_after) → Writes before after faults faults_after text r
+writes-of before after faults faults_after text (Ok x) ok err later cause = (ok, later)
+writes-of before after faults faults_after text (Err e) ok err later cause = (err, cause)
+
+-- a writing that failed
+pub writes-err : {A E : Type 0} (before after : Option (List ℕ)) (faults faults_after : ℕ) (text : List ℕ) (r : Result A E) → IsErr r → WroteSome text before after → Rose faults faults_after → Writes before after faults faults_after text r
+writes-err before after faults faults_after text (Ok x) is some rose = absurd cc
+writes-err before after faults faults_after text (Err e) is some rose = (some, rose)
+
+-- a second text behind a first one
+pub writes-then : {A E : Type 0} (before mid after : Option (List ℕ)) (faults faults_mid faults_after : ℕ) (first last : List ℕ) (r : Result A E) → (mid ≡ option_map (λ w. w ++ first) before) × (faults ≤ faults_mid)
+    → Writes mid after faults_mid faults_after last r → Writes before after faults faults_after (first ++ last) r
+writes-then before mid after faults faults_mid faults_after first last (Ok x) done w =
+    (w.0 ∙ append-then mid before first last done.0, (let a = done.1 in let b = w.1 in omega (arith, a, b)))
+writes-then before mid after faults faults_mid faults_after first last (Err e) done w =
+    (wrote-more (first ++ last) first last before mid after refl done.0 w.0, rose-from faults faults_mid faults_after done.1 w.1)
+
+pub writes-as : {A E : Type 0} (before after : Option (List ℕ)) (faults faults_after : ℕ) (text text' : List ℕ) (r : Result A E) → text ≡ text' → Writes before after faults faults_after text r → Writes before after faults faults_after text' r
+writes-as before after faults faults_after text text' r is w = subst (λ (t : List ℕ). Writes before after faults faults_after t r) is w
+
+two-words : (a b : List ℕ) → spaced (a ∷ b ∷ []) ++ 10 ∷ [] ≡ 32 ∷ (a ++ (32 ∷ (b ++ 10 ∷ [])))
+two-words a b = ap (λ (t : List ℕ). 32 ∷ t) (append_assoc a (32 ∷ (b ++ [])) (10 ∷ []) ∙ ap (λ (t : List ℕ). a ++ (32 ∷ (t ++ 10 ∷ []))) (append-nil b))
+
+-- the pieces of a line of a word and two more
+pub bay-line : (disk name d n : List ℕ) → d ≡ disk → n ≡ name → joined (codes "bay " ∷ d ∷ codes " " ∷ n ∷ codes "\n" ∷ []) ≡ line (codes "bay" ∷ disk ∷ name ∷ [])
+bay-line disk name d n p q = ap (λ (x : List ℕ). joined (codes "bay " ∷ x ∷ codes " " ∷ n ∷ codes "\n" ∷ [])) p ∙ (ap (λ (x : List ℕ). joined (codes "bay " ∷ disk ∷ codes " " ∷ x ∷ codes "\n" ∷ [])) q ∙ ap (λ (t : List ℕ). codes "bay" ++ t) (sym (two-words disk name)))
+
+pub store-line : (disk name d n : List ℕ) → d ≡ disk → n ≡ name → joined (codes "store " ∷ d ∷ codes " " ∷ n ∷ codes "\n" ∷ []) ≡ line (codes "store" ∷ disk ∷ name ∷ [])
+store-line disk name d n p q = ap (λ (x : List ℕ). joined (codes "store " ∷ x ∷ codes " " ∷ n ∷ codes "\n" ∷ [])) p ∙ (ap (λ (x : List ℕ). joined (codes "store " ∷ disk ∷ codes " " ∷ x ∷ codes "\n" ∷ [])) q ∙ ap (λ (t : List ℕ). codes "store" ++ t) (sym (two-words disk name)))
+
+-- the losses among more files
+losses-append : (file : ℕ) (xs ys : List Bool) → losses_from file (xs ++ ys) ≡ losses_from file xs ++ losses_from (file + length xs) ys
+losses-append file [] ys = ap (λ n. losses_from n ys) (omega arith)
+losses-append file (x ∷ xs) ys =
+    let first : List LostStore = if x then record { file = file; disk = 0 } ∷ [] else [] in
+    ap (λ (l : List LostStore). first ++ l) (losses-append (suc file) xs ys ∙ ap (λ n. losses_from (suc file) xs ++ losses_from n ys) (omega arith)) ∙ sym (append_assoc first (losses_from (suc file) xs) (losses_from (file + length (x ∷ xs)) ys))
+
+losses-one : (file : ℕ) (g : Bool) → losses_from file (g ∷ []) ≡ (if g then record { file = file; disk = 0 } ∷ [] else [])
+losses-one file g = append-nil (if g then record { file = file; disk = 0 } ∷ [] else [])
+
+-- the losses up to a file and with it
+pub losses-upto : (gone : List Bool) (k : ℕ) (g : Bool) → k < length gone → get_or gone k false ≡ g → losses (take (k + 1) gone) ≡ losses (take k gone) ++ (if g then record { file = k; disk = 0 } ∷ [] else [])
+losses-upto gone k g lt is =
+    let len : length (take k gone) ≡ k = length-take-le k gone (omega (arith, lt)) in
+    ap losses (take_more gone k false lt ∙ ap (λ (x : Bool). take k gone ++ x ∷ []) is)
+    ∙ (losses-append 0 (take k gone) (g ∷ []) ∙ ap (λ (l : List LostStore). losses (take k gone) ++ l) (ap (λ n. losses_from n (g ∷ [])) (omega (arith, len)) ∙ losses-one k g))
+
+-- no more losses than files
+pub losses-few : (file : ℕ) (gone : List Bool) → length (losses_from file gone) ≤ length gone
+losses-few file [] = omega arith
+losses-few file (true ∷ gone) = let e = losses-few (suc file) gone in omega (arith, e)
+losses-few file (false ∷ gone) = let e = losses-few (suc file) gone in omega (arith, e)
+
+-- the lines up to a file that was lost, and with it
+lost-upto : (setting : Setting) (gone : List Bool) (k : ℕ) → k < length gone → get_or gone k false ≡ true → lost_text setting (take (k + 1) gone) ≡ lost_text setting (take k gone) ++ lost_line setting (record { file = k; disk = 0 })
+lost-upto setting gone k lt is =
+    ap (flat_map (lost_line setting)) (losses-upto gone k true lt is)
+    ∙ (flat_map-append (lost_line setting) (losses (take k gone)) (record { file = k; disk = 0 } ∷ [])
+    ∙ ap (λ (t : List ℕ). lost_text setting (take k gone) ++ t) (append-nil (lost_line setting (record { file = k; disk = 0 }))))
+
+lost-stays : (setting : Setting) (gone : List Bool) (k : ℕ) → k < length gone → get_or gone k false ≡ false → lost_text setting (take (k + 1) gone) ≡ lost_text setting (take k gone)
+lost-stays setting gone k lt is = ap (flat_map (lost_line setting)) (losses-upto gone k false lt is ∙ append-nil (losses (take k gone)))
+
+lost-rest : (setting : Setting) (gone : List Bool) (k : ℕ) → lost_text setting gone ≡ lost_text setting (take k gone) ++ flat_map (lost_line setting) (losses_from (length (take k gone)) (drop k gone))
+lost-rest setting gone k =
+    ap (lost_text setting) (sym (take-append-drop k gone))
+    ∙ (ap (flat_map (lost_line setting)) (losses-append 0 (take k gone) (drop k gone) ∙ ap (λ n. losses (take k gone) ++ losses_from n (drop k gone)) (omega arith))
+    ∙ flat_map-append (lost_line setting) (losses (take k gone)) (losses_from (length (take k gone)) (drop k gone)))
+
+-- one more line was written
+pub lost-next : (setting : Setting) (gone : List Bool) (k : ℕ) (before mid after : Option (List ℕ)) → k < length gone → get_or gone k false ≡ true → mid ≡ option_map (λ w. w ++ lost_text setting (take k gone)) before
+    → after ≡ option_map (λ w. w ++ lost_line setting (record { file = k; disk = 0 })) mid → after ≡ option_map (λ w. w ++ lost_text setting (take (k + 1) gone)) before
+lost-next setting gone k before mid after lt is done next =
+    next ∙ (append-then mid before (lost_text setting (take k gone)) (lost_line setting (record { file = k; disk = 0 })) done ∙ ap (λ (t : List ℕ). option_map (λ w. w ++ t) before) (sym (lost-upto setting gone k lt is)))
+
+-- no line was written
+pub lost-same : (setting : Setting) (gone : List Bool) (k : ℕ) (before mid : Option (List ℕ)) → k < length gone → get_or gone k false ≡ false → mid ≡ option_map (λ w. w ++ lost_text setting (take k gone)) before
+    → mid ≡ option_map (λ w. w ++ lost_text setting (take (k + 1) gone)) before
+lost-same setting gone k before mid lt is done = done ∙ ap (λ (t : List ℕ). option_map (λ w. w ++ t) before) (sym (lost-stays setting gone k lt is))
+
+-- a line was written in part
+pub lost-err : (setting : Setting) (gone : List Bool) (k : ℕ) (before mid after : Option (List ℕ)) → k < length gone → get_or gone k false ≡ true → mid ≡ option_map (λ w. w ++ lost_text setting (take k gone)) before
+    → WroteSome (lost_line setting (record { file = k; disk = 0 })) mid after → WroteSome (lost_text setting gone) before after
+lost-err setting gone k before mid after lt is done some =
+    let this : List ℕ = lost_line setting (record { file = k; disk = 0 }) in
+    let more : List ℕ = flat_map (lost_line setting) (losses_from (length (take (k + 1) gone)) (drop (k + 1) gone)) in
+    let whole : lost_text setting (take k gone) ++ (this ++ more) ≡ lost_text setting gone =
+    sym (append_assoc (lost_text setting (take k gone)) this more) ∙ (ap (λ (t : List ℕ). t ++ more) (sym (lost-upto setting gone k lt is)) ∙ sym (lost-rest setting gone (k + 1))) in
+    wrote-more (lost_text setting gone) (lost_text setting (take k gone)) (this ++ more) before mid after whole done (wrote-first this more mid after some)

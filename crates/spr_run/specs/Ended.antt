@@ -1,5 +1,5 @@
--- How a run ended, by its answers.
-use Rattle.std.specs.Prelude.{List, not, ◌||◌, Bool, true, false, if◌then◌else◌, [], ◌∷◌}
+-- How a run ended, by its answers and the stores that were lost.
+use Rattle.std.specs.Prelude.{ℕ, suc, List, not, ◌||◌, Bool, true, false, if◌then◌else◌, [], ◌∷◌, ◌++◌, slice_get, unwrap_or}
 use Rattle.std.specs.List.{list_any, list_all}
 use Rattle.script_text.specs.declared.script.Said.{Said}
 use Rattle.script_text.specs.declared.script.Reply.{Reply}
@@ -28,9 +28,20 @@ lacks_memory said = list_any (λ s. is_memory s.reply) said
 abbrev pub has_fault : List Said → Bool
 has_fault said = list_any (λ s. is_fault s.reply) said
 
--- the store of the file, if it was lost
-abbrev pub losses : Bool → List LostStore
-losses gone = if gone then record { file = 0; disk = 0 } ∷ [] else []
+-- whether the store of a file was lost, by file
+abbrev pub gone_at : List Bool → ℕ → Bool
+gone_at gone file = unwrap_or (slice_get gone file) false
+
+abbrev pub any_gone : List Bool → Bool
+any_gone gone = list_any (λ lost. lost) gone
+
+-- the stores that were lost, in the order of the files from this one on
+abbrev pub losses_from : ℕ → List Bool → List LostStore
+losses_from file [] = []
+losses_from file (gone ∷ more) = (if gone then record { file = file; disk = 0 } ∷ [] else []) ++ losses_from (suc file) more
+
+abbrev pub losses : List Bool → List LostStore
+losses gone = losses_from 0 gone
 
 -- want of memory, in a client's answers or the closing ones, comes first; then a store that was lost; then an answer of a
 -- store's failure or a closing sync that is not done
@@ -41,5 +52,5 @@ status_by lacks memory gone fault done =
     else if fault || not done then Faulted
     else Good
 
-abbrev pub status_of : List (List Said) → List Reply → Bool → Status
-status_of said closing gone = status_by (list_any lacks_memory said) (list_any is_memory closing) gone (list_any has_fault said) (list_all is_done closing)
+abbrev pub status_of : List (List Said) → List Reply → List Bool → Status
+status_of said closing gone = status_by (list_any lacks_memory said) (list_any is_memory closing) (any_gone gone) (list_any has_fault said) (list_all is_done closing)

@@ -1,7 +1,10 @@
-pub mod First
 pub mod Built
+pub mod Stacks
 pub mod Refusal
 pub mod Ended
 pub mod Play
+pub mod Berths
 pub mod Store
+pub mod Held
 pub mod Ways
+pub mod Writing

@@ -1,5 +1,5 @@
--- Why a run ends before a store is taken, and what it writes then.
-use Rattle.std.specs.Prelude.{◌≡◌, ◌≢◌, ℕ, List, [], ◌∷◌, ◌++◌, codes, Option, Some, None, IfSome, Ok, Err, Result}
+-- Why a command ends before a store is taken, and what it writes then.
+use Rattle.std.specs.Prelude.{◌≡◌, ℕ, List, [], ◌∷◌, ◌++◌, codes, Some, Err}
 use Rattle.std.specs.Option.{option_map}
 use Rattle.std.specs.List.{AllByRecursion}
 use Rattle.std.specs.Fmt.{decimal}
@@ -8,21 +8,40 @@ use Rattle.script_text.specs.Grammar.{IsScript, spelling}
 use Rattle.script_text.specs.Reading.{script_at}
 use Rattle.script_text.specs.Why.{why_word}
 use Rattle.spr_io.specs.Causes.{Rose}
+use Rattle.stack_text.specs.declared.stack.StackLine.{StackLine}
+use Rattle.stack_text.specs.declared.stack.StackText.{StackText}
+use Rattle.stack_text.specs.Reading.{stack_at}
+use Rattle.stack_text.specs.Why.{word_of}
+use Rattle.stack_accept.specs.Rules.{first_breach}
+use Rattle.stack_setting.specs.Later.{later_line}
+use Rattle.run_defs.specs.declared.setting.Setting.{Setting}
 use Rattle.plain_run.specs.Phases.{AreCalls}
 use Rattle.spr_report.specs.declared.status.Status.{Status}
 use Rattle.spr_report.specs.declared.status.Status.TheVariants as statuses
 use Rattle.spr_run.specs.declared.refusal.Refusal.{Refusal}
 use Rattle.spr_run.specs.declared.refusal.Refusal.TheVariants as refusals
-use Rattle.spr_run.specs.First.{first_text}
 use Rattle.spr_run.specs.Built.{later_call}
+use Rattle.spr_run.specs.Stacks.{Texts, IsText, SpellsStack, IsStackOf, IsMounted}
 
--- what a shelf tells of its texts, by name
-abbrev pub Texts : Type 0
-Texts = List ℕ → Option (Option (List ℕ))
+-- the first line that breaks a rule, and the lowest rule that it breaks
+abbrev pub Breaks : List StackLine → Refusal → Type 0
+Breaks lines (refusals.Unfit line rule) = first_breach lines ≡ Some (record { rule = rule; line = line })
+Breaks lines refusals.Memory = Unit {0}
+Breaks lines refusal = ⊥
 
--- a text of a name, where it is told
-abbrev pub IsText : Texts → List ℕ → List ℕ → Type 0
-IsText told name text = IfSome (told name) (λ there. there ≡ Some text)
+-- the first line that asks for a layer that a run does not build yet
+abbrev pub Lacks : List StackLine → Refusal → Type 0
+Lacks lines (refusals.StackLater line) = later_line lines ≡ Some line
+Lacks lines refusals.Memory = Unit {0}
+Lacks lines refusal = ⊥
+
+-- why a stack is refused: its first bad line and the first reason on it, or its first line that breaks a rule and the lowest
+-- rule that this line breaks
+abbrev pub RefusesStack : List ℕ → Refusal → Type 0
+RefusesStack text (refusals.Stack line why) = stack_at text ≡ Err (record { line = line; why = why })
+RefusesStack text (refusals.Unfit line rule) = (stack : StackText) × SpellsStack text stack × (first_breach stack.lines ≡ Some (record { rule = rule; line = line }))
+RefusesStack text refusals.Memory = Unit {0}
+RefusesStack text refusal = ⊥
 
 -- a script that a text spells
 pub record Spells (text : List ℕ) (script : Script) : Type 0 where
@@ -41,28 +60,57 @@ pub record Scripts (text : List ℕ) (script : Script) : Type 0 where
   pub spells : Spells text script
   pub calls : AllByRecursion AreCalls script.phases
 
--- the texts of these names are the stack that the program mounts, and this script
-pub record IsPrepared (told : Texts) (stack name : List ℕ) (script : Script) : Type 0 where
-  pub stack_is : IsText told stack first_text
+-- the text of the name spells an accepted stack, and this is its first line that asks for a layer that a run does not build yet
+abbrev pub AsksLater : Texts → List ℕ → ℕ → Type 0
+AsksLater told name line = (stack : StackText) × IsStackOf told name stack × (later_line stack.lines ≡ Some line)
+
+-- the texts of these names are a stack of this setting, and this script
+pub record IsPrepared (told : Texts) (stack name : List ℕ) (setting : Setting) (script : Script) : Type 0 where
+  pub stack_is : IsMounted told stack setting
   pub text : List ℕ
   pub text_is : IsText told name text
   pub scripts : Scripts text script
 
--- A refusal has its cause: a text that cannot be run, or a fault of the shelf.
+-- A check's refusal has its cause: a stack that cannot be mounted, or a fault of the shelf.
+abbrev pub IsStackCause : Texts → ℕ → ℕ → List ℕ → Refusal → Type 0
+IsStackCause told faults faults_after stack refusals.StackShelf = Rose faults faults_after
+IsStackCause told faults faults_after stack refusals.Memory = Unit {0}
+IsStackCause told faults faults_after stack refusal = (text : List ℕ) × IsText told stack text × RefusesStack text refusal
+
+-- A stack that is not run has its cause: that, or a layer that a run does not build yet.
+abbrev pub IsSettingCause : Texts → ℕ → ℕ → List ℕ → Refusal → Type 0
+IsSettingCause told faults faults_after stack (refusals.StackLater line) = AsksLater told stack line
+IsSettingCause told faults faults_after stack refusal = IsStackCause told faults faults_after stack refusal
+
+-- the stack of the name can be run
+abbrev pub HasStack : Texts → List ℕ → Type 0
+HasStack told stack = (setting : Setting) × IsMounted told stack setting
+
+-- A run's refusal has its cause: a stack that is not run, or behind a stack that can be run a script that cannot; or a fault
+-- of the shelf.
 abbrev pub IsCause : Texts → ℕ → ℕ → List ℕ → List ℕ → Refusal → Type 0
-IsCause told faults faults_after stack name refusals.StackShelf = Rose faults faults_after
-IsCause told faults faults_after stack name refusals.ScriptShelf = Rose faults faults_after
-IsCause told faults faults_after stack name refusals.StackLater = (text : List ℕ) × IsText told stack text × (text ≢ first_text)
-IsCause told faults faults_after stack name refusals.Memory = Unit {0}
-IsCause told faults faults_after stack name refusal = (text : List ℕ) × IsText told name text × RefusesScript text refusal
+IsCause told faults faults_after stack name (refusals.Script line why) = HasStack told stack × ((text : List ℕ) × IsText told name text × RefusesScript text (refusals.Script line why))
+IsCause told faults faults_after stack name (refusals.ScriptLater line) = HasStack told stack × ((text : List ℕ) × IsText told name text × RefusesScript text (refusals.ScriptLater line))
+IsCause told faults faults_after stack name refusals.ScriptShelf = HasStack told stack × Rose faults faults_after
+IsCause told faults faults_after stack name refusal = IsSettingCause told faults faults_after stack refusal
+
+-- the first line of a text that is refused, and the status
+abbrev pub line_text : List ℕ → ℕ → List ℕ → List ℕ
+line_text kind line word = kind ++ (codes " " ++ (decimal line ++ (codes " " ++ (word ++ codes "\nstatus 3\n"))))
+
+-- a text that could not be read, and the status
+abbrev pub shelf_text : List ℕ → List ℕ
+shelf_text name = codes "shelf " ++ (name ++ codes "\nstatus 4\n")
 
 -- the text of a refusal
 abbrev pub refusal_text : List ℕ → List ℕ → Refusal → List ℕ
-refusal_text stack name refusals.StackLater = codes "stack 1 later\nstatus 3\n"
-refusal_text stack name (refusals.Script line why) = codes "script " ++ (decimal line ++ (codes " " ++ (why_word why ++ codes "\nstatus 3\n")))
-refusal_text stack name (refusals.ScriptLater line) = codes "script " ++ (decimal line ++ (codes " " ++ (codes "later" ++ codes "\nstatus 3\n")))
-refusal_text stack name refusals.StackShelf = codes "shelf " ++ (stack ++ codes "\nstatus 4\n")
-refusal_text stack name refusals.ScriptShelf = codes "shelf " ++ (name ++ codes "\nstatus 4\n")
+refusal_text stack name (refusals.Stack line why) = line_text (codes "stack") line (word_of why)
+refusal_text stack name (refusals.Unfit line rule) = line_text (codes "stack") line (codes "A" ++ decimal rule)
+refusal_text stack name (refusals.StackLater line) = line_text (codes "stack") line (codes "later")
+refusal_text stack name (refusals.Script line why) = line_text (codes "script") line (why_word why)
+refusal_text stack name (refusals.ScriptLater line) = line_text (codes "script") line (codes "later")
+refusal_text stack name refusals.StackShelf = shelf_text stack
+refusal_text stack name refusals.ScriptShelf = shelf_text name
 refusal_text stack name refusals.Memory = codes "status 8\n"
 
 abbrev pub refusal_status : Refusal → Status

@@ -1,15 +1,13 @@
 //! How a run ended, by its answers.
 
-ghost use Rattle.std.specs.Prelude.{◌≡◌, map};
+ghost use Rattle.std.specs.Prelude.{◌≡◌, ◌≤◌, length, map};
 ghost use Rattle.std.specs.List.{list_any, list_all};
-ghost use Rattle.spr_run.specs.Ended.{is_memory, is_fault, is_done, lacks_memory, has_fault, losses, status_by, status_of};
+ghost use Rattle.spr_run.specs.Ended.{is_memory, is_fault, is_done, lacks_memory, has_fault, any_gone, losses, status_by, status_of};
+ghost use Rattle.spr_run.specs.Held.{IsRoom};
 
 use run_defs::LostStore;
 use script_text::{Reply, Said};
 use spr_report::Status;
-
-/// The store of the file, where it was lost.
-const LOST: &[LostStore] = &[LostStore { file: 0, disk: 0 }];
 
 fn is_memory(reply: &Reply) -> bool
     ensures { result ≡ is_memory reply.now }
@@ -80,21 +78,39 @@ fn status_by(lacks: bool, memory: bool, gone: bool, fault: bool, done: bool) -> 
     }
 }
 
-/// The stores that were lost.
-pub(crate) fn losses(gone: bool) -> &'static [LostStore]
-    ensures { result.now ≡ losses gone }
+/// Whether a store was lost.
+fn any_gone(gone: &[bool]) -> bool
+    ensures { result ≡ any_gone gone.now }
 {
-    if gone { LOST } else { &[] }
+    gone.iter().any(|lost| *lost)
+}
+
+/// Lists the stores that were lost, in the order of their files. The room for them is there.
+pub(crate) fn list_losses(gone: &[bool], room: Vec<LostStore>) -> Vec<LostStore>
+    requires few { length gone.now ≤ 16 }
+    requires room { IsRoom (length gone.now) room }
+    ensures { result.items ≡ losses gone.now }
+{
+    let mut list = room;
+    for (file, lost) in gone.iter().enumerate() {
+        if *lost {
+            list.push_reserved(LostStore {
+                file: file as u32,
+                disk: 0,
+            });
+        }
+    }
+    list
 }
 
 /// The status of a run that reached its phases.
-pub(crate) fn status_of(said: &[Vec<Said>], closing: &[Reply], gone: bool) -> Status
-    ensures { result ≡ status_of (map (λ v. v.items) said.now) closing.now gone }
+pub(crate) fn status_of(said: &[Vec<Said>], closing: &[Reply], gone: &[bool]) -> Status
+    ensures { result ≡ status_of (map (λ v. v.items) said.now) closing.now gone.now }
 {
     status_by(
         any_lacks(said),
         any_memory(closing),
-        gone,
+        any_gone(gone),
         any_fault(said),
         all_done(closing),
     )

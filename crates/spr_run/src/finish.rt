@@ -4,15 +4,15 @@ ghost use Rattle.std.specs.Prelude.{◌≡◌, ◌≤◌, ◌++◌, List, ℕ, O
 ghost use Rattle.std.specs.List.{flat_map};
 ghost use Rattle.std.specs.Option.{option_map};
 ghost use Rattle.spr_io.specs.Causes.{Rose};
-ghost use Rattle.script_text.specs.Why.{why_word};
-ghost use Rattle.spr_run.specs.Refusal.{refusal_text, refusal_status};
-ghost use Rattle.spr_run.specs.Store.{lost_text, stop_text, stop_status};
+ghost use Rattle.run_defs.specs.Report.{lost_line};
+ghost use Rattle.spr_run.specs.Store.{cause_text, lost_text, stop_line, stop_text, stop_status};
+ghost use Rattle.spr_run.specs.Writing.{Writes};
 ghost use Rattle.spr_run.specs.Ways.{WroteSome, Finishes, joined};
 
-use crate::refusal::Refusal;
+use crate::names::{disk_of, file_name};
 use crate::store::Stop;
-use hist_plain::Text;
 use itoa::Buffer;
+use run_defs::Setting;
 use spr_io::{Failed, Sink};
 use spr_report::Status;
 
@@ -60,66 +60,85 @@ pub(crate) fn finish<K: Sink>(sink: &mut K, pieces: &[&[u8]], status: Status) ->
     }
 }
 
-/// Ends a run whose texts cannot be run.
-pub(crate) fn refuse<K: Sink>(sink: &mut K, stack: &Text, name: &Text, refusal: Refusal) -> Status
-    ensures { Finishes (K.written sink.old) (K.written sink.new) (K.faults sink.old) (K.faults sink.new) (refusal_text stack.now name.now refusal) (refusal_status refusal) result }
+/// Writes the line of the cause of a stop; want of memory has none.
+fn write_cause<K: Sink>(sink: &mut K, setting: &Setting, stop: Stop) -> Result<(), Failed>
+    ensures { Writes (K.written sink.old) (K.written sink.new) (K.faults sink.old) (K.faults sink.new) (cause_text setting.now stop) result }
 {
-    let mut buffer = Buffer::new();
-    match refusal {
-        Refusal::StackLater => finish(sink, &[b"stack 1 later\nstatus 3\n"], Status::Refused),
-        Refusal::Script { line, why } => {
-            let line = buffer.format(line).as_bytes();
-            let why = why.word().as_bytes();
-            finish(
-                sink,
-                &[b"script ", line, b" ", why, b"\nstatus 3\n"],
-                Status::Refused,
-            )
-        }
-        Refusal::ScriptLater { line } => {
-            let line = buffer.format(line).as_bytes();
-            finish(
-                sink,
-                &[b"script ", line, b" ", b"later", b"\nstatus 3\n"],
-                Status::Refused,
-            )
-        }
-        Refusal::StackShelf => finish(
-            sink,
-            &[b"shelf ", stack.as_str().as_bytes(), b"\nstatus 4\n"],
-            Status::ShelfFault,
-        ),
-        Refusal::ScriptShelf => finish(
-            sink,
-            &[b"shelf ", name.as_str().as_bytes(), b"\nstatus 4\n"],
-            Status::ShelfFault,
-        ),
-        Refusal::Memory => finish(sink, &[MEMORY], Status::Memory),
-    }
-}
-
-/// The line of a store that was lost.
-fn lost_text(gone: bool) -> &'static [u8]
-    ensures { result.now ≡ lost_text gone }
-{
-    if gone { b"bay d f\n" } else { &[] }
-}
-
-/// Ends a run whose file could not be opened.
-pub(crate) fn stopped<K: Sink>(sink: &mut K, stop: Stop, gone: bool) -> Status
-    ensures { Finishes (K.written sink.old) (K.written sink.new) (K.faults sink.old) (K.faults sink.new) (stop_text gone stop) (stop_status stop) result }
-{
-    let mut buffer = Buffer::new();
+    let disk = disk_of(setting).as_bytes();
     match stop {
-        Stop::Bay => finish(sink, &[b"bay d f\nstatus 5\n"], Status::BayFault),
-        Stop::Store { count } => {
+        Stop::Bay { file } => write_lost_line(sink, setting, file as usize),
+        Stop::Store { count, .. } => {
+            let mut buffer = Buffer::new();
             let count = buffer.format(count).as_bytes();
-            finish(
-                sink,
-                &[b"store d ", count, b"\n", lost_text(gone), b"status 1\n"],
-                Status::Faulted,
-            )
+            write_pieces(sink, &[b"store ", disk, b" ", count, b"\n"])
         }
-        Stop::Memory => finish(sink, &[lost_text(gone), MEMORY], Status::Memory),
+        Stop::Memory => Ok(()),
     }
+}
+
+/// Writes the line of the store of a file, which the bay refused.
+fn write_lost_line<K: Sink>(sink: &mut K, setting: &Setting, file: usize) -> Result<(), Failed>
+    ensures { Writes (K.written sink.old) (K.written sink.new) (K.faults sink.old) (K.faults sink.new) (lost_line setting.now (record { file = file; disk = 0 })) result }
+{
+    let disk = disk_of(setting).as_bytes();
+    let name = file_name(setting, file).as_bytes();
+    write_pieces(sink, &[b"bay ", disk, b" ", name, b"\n"])
+}
+
+/// Writes a line for each store that was lost.
+fn write_lost<K: Sink>(sink: &mut K, setting: &Setting, gone: &[bool]) -> Result<(), Failed>
+    ensures { Writes (K.written sink.old) (K.written sink.new) (K.faults sink.old) (K.faults sink.new) (lost_text setting.now gone.now) result }
+{
+    for (file, lost) in gone.iter().enumerate() {
+        if *lost {
+            write_lost_line(sink, setting, file)?;
+        }
+    }
+    Ok(())
+}
+
+/// The line of the status of a stop.
+fn stop_line(stop: Stop) -> &'static [u8]
+    ensures { result.now ≡ stop_line stop }
+{
+    match stop {
+        Stop::Bay { .. } => b"status 5\n",
+        Stop::Store { .. } => b"status 1\n",
+        Stop::Memory => MEMORY,
+    }
+}
+
+/// The status of a stop.
+fn stop_status(stop: Stop) -> Status
+    ensures { result ≡ stop_status stop }
+{
+    match stop {
+        Stop::Bay { .. } => Status::BayFault,
+        Stop::Store { .. } => Status::Faulted,
+        Stop::Memory => Status::Memory,
+    }
+}
+
+/// Writes the text of a run that ended before its phases.
+fn write_stop<K: Sink>(
+    sink: &mut K,
+    setting: &Setting,
+    stop: Stop,
+    gone: &[bool],
+) -> Result<(), Failed>
+    ensures { Writes (K.written sink.old) (K.written sink.new) (K.faults sink.old) (K.faults sink.new) (stop_text setting.now gone.now stop) result }
+{
+    write_cause(sink, setting, stop)?;
+    write_lost(sink, setting, gone)?;
+    write_all(sink, stop_line(stop))
+}
+
+/// Ends a run that ended before its phases.
+pub(crate) fn stopped<K: Sink>(sink: &mut K, setting: &Setting, stop: Stop, gone: &[bool]) -> Status
+    ensures { Finishes (K.written sink.old) (K.written sink.new) (K.faults sink.old) (K.faults sink.new) (stop_text setting.now gone.now stop) (stop_status stop) result }
+{
+    let Ok(()) = write_stop(sink, setting, stop, gone) else {
+        return Status::SinkFault;
+    };
+    stop_status(stop)
 }

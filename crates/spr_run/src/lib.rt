@@ -1,11 +1,14 @@
 //! The program: what a command does over the outside, what it writes, and its status.
 #![tactic(auto)]
 
+mod check;
 mod ended;
 mod finish;
-mod first;
+mod held;
+mod names;
 mod play;
 mod refusal;
+mod stacks;
 mod store;
 mod texts;
 mod top;

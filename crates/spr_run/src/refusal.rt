@@ -1,12 +1,39 @@
-//! Why a run ends before a store is taken.
+//! Why a command ends before a store is taken, and what it writes then.
 
+ghost use Rattle.std.specs.Prelude.{◌++◌, codes, map};
+ghost use Rattle.spr_report.specs.declared.status.Status.TheVariants.{Refused, ShelfFault};
+ghost use Rattle.spr_run.specs.Refusal.{line_text, shelf_text, refusal_text, refusal_status};
+ghost use Rattle.spr_run.specs.Ways.{Finishes};
+
+use crate::finish::{MEMORY, finish};
+use itoa::Buffer;
 use script_text::ScriptWhy;
+use spr_io::Sink;
+use spr_report::Status;
+use stack_text::StackWhy;
 
-/// Why a run ends before a store is taken. Lines are counted from 1.
+/// Why a command ends before a store is taken. Lines are counted from 1.
 #[derive(Clone, Copy, Debug, PartialEq, Eq)]
 pub enum Refusal {
-    /// The stack is another than the one that the program mounts.
-    StackLater,
+    /// A line of the stack is none.
+    Stack {
+        /// The line.
+        line: u32,
+        /// The first reason on it.
+        why: StackWhy,
+    },
+    /// A line of the stack breaks a rule.
+    Unfit {
+        /// The line, or one past the last for what the end of the text lacks.
+        line: u32,
+        /// The number of the lowest rule that it breaks.
+        rule: u8,
+    },
+    /// A line of the stack asks for a layer that a run does not build yet.
+    StackLater {
+        /// The line.
+        line: u32,
+    },
     /// A line of the script is none.
     Script {
         /// The line.
@@ -25,4 +52,58 @@ pub enum Refusal {
     ScriptShelf,
     /// Memory ran out.
     Memory,
+}
+
+/// Ends a command one of whose texts is refused, at a line and for a reason: a mark and a word.
+fn refuse_line<'a, K: Sink>(
+    sink: &mut K,
+    kind: &'a [u8],
+    line: u32,
+    mark: &'a [u8],
+    word: &'a [u8],
+) -> Status
+    ensures { Finishes (K.written sink.old) (K.written sink.new) (K.faults sink.old) (K.faults sink.new) (line_text kind.now line (mark.now ++ word.now)) Refused result }
+{
+    let mut buffer = Buffer::new();
+    let line = buffer.format(line).as_bytes();
+    finish(
+        sink,
+        &[kind, b" ", line, b" ", mark, word, b"\nstatus 3\n"],
+        Status::Refused,
+    )
+}
+
+/// Ends a command one of whose texts could not be read.
+fn refuse_shelf<K: Sink>(sink: &mut K, name: &str) -> Status
+    ensures { Finishes (K.written sink.old) (K.written sink.new) (K.faults sink.old) (K.faults sink.new) (shelf_text name.now) ShelfFault result }
+{
+    finish(
+        sink,
+        &[b"shelf ", name.as_bytes(), b"\nstatus 4\n"],
+        Status::ShelfFault,
+    )
+}
+
+/// Ends a command that is refused. The names are those of its stack and its script.
+pub(crate) fn refuse<K: Sink>(sink: &mut K, stack: &str, name: &str, refusal: Refusal) -> Status
+    ensures { Finishes (K.written sink.old) (K.written sink.new) (K.faults sink.old) (K.faults sink.new) (refusal_text stack.now name.now refusal) (refusal_status refusal) result }
+{
+    match refusal {
+        Refusal::Stack { line, why } => {
+            refuse_line(sink, b"stack", line, b"", why.word().as_bytes())
+        }
+        Refusal::Unfit { line, rule } => {
+            let mut buffer = Buffer::new();
+            let rule = buffer.format(rule).as_bytes();
+            refuse_line(sink, b"stack", line, b"A", rule)
+        }
+        Refusal::StackLater { line } => refuse_line(sink, b"stack", line, b"", b"later"),
+        Refusal::Script { line, why } => {
+            refuse_line(sink, b"script", line, b"", why.word().as_bytes())
+        }
+        Refusal::ScriptLater { line } => refuse_line(sink, b"script", line, b"", b"later"),
+        Refusal::StackShelf => refuse_shelf(sink, stack),
+        Refusal::ScriptShelf => refuse_shelf(sink, name),
+        Refusal::Memory => finish(sink, &[MEMORY], Status::Memory),
+    }
 }

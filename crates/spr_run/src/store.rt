@@ -1,37 +1,37 @@
-//! The store of the file: how it is taken, run over and given back.
+//! A run over the files of a stack: their stores are taken, opened, run over and given back.
 
-ghost use Rattle.std.specs.Prelude.{◌≡◌, ◌∷◌, ◌<◌, ◌≤◌, ◌+◌, [], IfOk, IfErr, length, map, true, false};
+ghost use Rattle.std.specs.Prelude.{◌≡◌, ◌+◌, ◌≤◌, ℕ, List, IfOk, length, map};
 ghost use Rattle.std.specs.List.{AllByRecursion};
 ghost use Rattle.script_text.specs.Grammar.{IsScript};
-ghost use Rattle.run_defs.specs.Setting.{IsSetting};
-ghost use Rattle.run_defs.specs.Log.{IsHistory};
-ghost use Rattle.spr_io.specs.Content.{KeepsShape};
-ghost use Rattle.spr_io.specs.Berth.{taken, given, lost, SameElsewhere};
-ghost use Rattle.spr_io.specs.Causes.{Rose};
-ghost use Rattle.plain_tower.specs.Opened.{Opens};
+ghost use Rattle.run_defs.specs.Setting.{IsSetting, IsBuilt, shape_of};
+ghost use Rattle.run_defs.specs.Log.{AreHistories};
+ghost use Rattle.spr_io.specs.Berth.{Berths};
 ghost use Rattle.plain_run.specs.Phases.{AreCalls};
-ghost use Rattle.spr_run.specs.First.{first_setting, first_shape, disk, file};
-ghost use Rattle.spr_run.specs.Ended.{losses, status_of};
-ghost use Rattle.spr_run.specs.Store.{IsOpening, untaken, IsOpened, Tells, RunOver, Ends};
+ghost use Rattle.spr_run.specs.Store.{Ends};
+ghost use Rattle.spr_run.specs.Held.{StoreSeen, IsRoom, IsFor, EachAt, AreOut, AreBelow, AreOpened, OpensSome, ComeBack, Tells};
 
-use crate::ended::{losses, status_of};
-use crate::first::first_setting;
+use crate::ended::{list_losses, status_of};
+use crate::held::{Held, close_towers, give_back, open_files, put_behind, take_stores};
 use crate::play::{Answers, play};
-use plain_tower::{OpenErr, Opening, Tower, open};
-use run_defs::{History, Setting};
+use plain_tower::Tower;
+use run_defs::{History, LostStore, Setting};
 use script_text::Script;
-use spr_io::{Bay, BayErr, Store};
+use spr_io::{Bay, Store};
 use spr_report::{Run, Status, report};
 use std::alloc::{AllocError, Global};
-use std::slice::from_ref;
 
 /// Why a run ends before its phases.
 #[derive(Clone, Copy, Debug, PartialEq, Eq)]
 pub enum Stop {
-    /// The bay gave no store.
-    Bay,
-    /// The store failed while the file was opened.
+    /// The bay gave no store of a file.
+    Bay {
+        /// The number of the file.
+        file: u32,
+    },
+    /// The store of a file failed while the file was opened.
     Store {
+        /// The number of the file.
+        file: u32,
         /// The store's count of faults then.
         count: u64,
     },
@@ -39,7 +39,7 @@ pub enum Stop {
     Memory,
 }
 
-/// How a run over the store ended.
+/// How a run over the stores ended.
 #[derive(Debug, Drop)]
 pub enum End {
     /// The phases were run; the report, and the status.
@@ -53,85 +53,98 @@ pub enum End {
     Stopped {
         /// Why.
         stop: Stop,
-        /// Whether the bay refused to take the store back.
-        gone: bool,
+        /// By file, as far as stores had been taken, whether the bay refused to take it back.
+        gone: Vec<bool>,
     },
     /// Memory ran out after the phases began.
     Memory,
 }
 
-/// Opens the file over its store. A refusal hands the store back. The room for the tower is there.
-fn open_file<S: Store>(
-    alloc: Global,
-    setting: &Setting,
-    callers: u32,
-    store: S,
-) -> Result<Tower<S>, (Stop, S)>
-    requires setting { setting.now ≡ first_setting }
-    requires shape { KeepsShape 64 2 (S.size store) (S.number store) (S.content store) }
-    ensures opened { IfOk result (Opens first_shape 2 callers 0 (S.faults store) (S.content store)) }
-    ensures same { IfErr result (λ e. S.content e.1 ≡ S.content store) }
-    ensures later { IfErr result (λ e. S.faults store ≤ S.faults e.1) }
-    ensures cause { IfErr result (λ e. IsOpening (S.faults store) e.0) }
-{
-    let opening = Opening {
-        page_size: 64,
-        parents: setting.parents.as_slice(),
-        pages: 2,
-        disk: 0,
-        callers,
-    };
-    match open(alloc, &opening, store) {
-        Ok(tower) => Ok(tower),
-        Err((OpenErr::StoreFault { count }, store)) => Err((Stop::Store { count }, store)),
-        Err((OpenErr::Memory, store)) => Err((Stop::Memory, store)),
-    }
+/// Room for what is left of the files.
+#[derive(Drop)]
+struct Left<S: Store> {
+    /// The stores of closed files.
+    stores: Vec<Held<S>>,
+    /// The histories of the files.
+    histories: Vec<History>,
+    /// By file, whether its store was lost.
+    gone: Vec<bool>,
+    /// The stores that were lost.
+    lost: Vec<LostStore>,
 }
 
-/// Why a run ends whose store was not taken.
-fn untaken(why: BayErr) -> Stop
-    ensures { result ≡ untaken why }
-{
-    match why {
-        BayErr::Failed => Stop::Bay,
-        BayErr::Memory => Stop::Memory,
-    }
+/// Room for the opening of the files and what comes after it.
+#[derive(Drop)]
+struct Opening<S: Store> {
+    /// The open files.
+    towers: Vec<Tower<S>>,
+    /// The stores of files that were not opened.
+    rest: Vec<Held<S>>,
+    /// What is left of the files.
+    left: Left<S>,
 }
 
-/// Gives the store back, and answers whether the bay refused it.
-fn give_back<B: Bay>(bay: &mut B, store: B::Store) -> bool
-    ensures given { result ≡ false → B.berth bay.new disk file ≡ given (B.Store.content store) (B.Store.faults store) (B.berth bay.old disk file) }
-    ensures lost { result ≡ true → (B.berth bay.new disk file ≡ lost (B.Store.faults store) (B.berth bay.old disk file)) × Rose (B.faults bay.old) (B.faults bay.new) }
-    ensures others { SameElsewhere disk file (B.berth bay.old) (B.berth bay.new) }
-    ensures later { B.faults bay.old ≤ B.faults bay.new }
-{
-    bay.give("d", "f", store).is_err()
+/// Room for all that a run needs once it has taken a store.
+#[derive(Drop)]
+struct Room<S: Store> {
+    /// The stores that were taken.
+    taken: Vec<Held<S>>,
+    /// The opening of the files.
+    opening: Opening<S>,
 }
 
-/// The report of a run, and its status.
+/// Makes the room for so many files.
+fn room_for<S: Store>(alloc: Global, files: usize) -> Result<Room<S>, AllocError>
+    ensures taken { IfOk result (λ r. IsRoom files r.taken) }
+    ensures towers { IfOk result (λ r. IsRoom files r.opening.towers) }
+    ensures rest { IfOk result (λ r. IsRoom files r.opening.rest) }
+    ensures stores { IfOk result (λ r. IsRoom files r.opening.left.stores) }
+    ensures histories { IfOk result (λ r. IsRoom files r.opening.left.histories) }
+    ensures gone { IfOk result (λ r. IsRoom files r.opening.left.gone) }
+    ensures lost { IfOk result (λ r. IsRoom files r.opening.left.lost) }
+{
+    Ok(Room {
+        taken: Vec::with_capacity(alloc, files)?,
+        opening: Opening {
+            towers: Vec::with_capacity(alloc, files)?,
+            rest: Vec::with_capacity(alloc, files)?,
+            left: Left {
+                stores: Vec::with_capacity(alloc, files)?,
+                histories: Vec::with_capacity(alloc, files)?,
+                gone: Vec::with_capacity(alloc, files)?,
+                lost: Vec::with_capacity(alloc, files)?,
+            },
+        },
+    })
+}
+
+/// The report of a run, and its status. The room for the stores that were lost is there.
 fn tell(
     alloc: Global,
     setting: &Setting,
     script: &Script,
-    history: &History,
+    histories: &[History],
     answers: &Answers,
-    gone: bool,
+    gone: &[bool],
+    lost: Vec<LostStore>,
 ) -> End
-    requires setting { setting.now ≡ first_setting }
     requires limits { IsSetting setting.now }
-    requires history { IsHistory first_shape 2 history.now }
+    requires histories { AreHistories (shape_of setting.now) setting.now.files histories.now }
     requires said { length answers.now.said.items ≡ length script.now.clients }
-    requires closing { length answers.now.closing.items ≡ 1 }
-    ensures { Tells script.now history.now (map (λ v. v.items) answers.now.said.items) answers.now.closing.items gone result }
+    requires closing { length answers.now.closing.items ≡ length setting.now.files }
+    requires flags { length gone.now ≤ 16 }
+    requires room { IsRoom (length gone.now) lost }
+    ensures { Tells setting.now script.now histories.now (map (λ v. v.items) answers.now.said.items) answers.now.closing.items gone.now result }
 {
+    let lost = list_losses(gone, lost);
     let status = status_of(&answers.said, &answers.closing, gone);
     let run = Run {
         setting,
         script,
-        histories: from_ref(history),
+        histories,
         said: &answers.said,
         closing: &answers.closing,
-        lost: losses(gone),
+        lost: &lost,
         status,
     };
     match report(alloc, &run) {
@@ -140,71 +153,154 @@ fn tell(
     }
 }
 
-/// Runs the script over the open file, and gives its store back.
-fn run_over<B: Bay>(
+/// Runs the script over the open files, and gives their stores back.
+fn run_open<B: Bay>(
     alloc: Global,
     setting: &Setting,
     script: &Script,
     bay: &mut B,
     towers: Vec<Tower<B::Store>>,
+    left: Left<B::Store>,
 ) -> End
-    requires setting { setting.now ≡ first_setting }
-    requires limits { IsSetting setting.now }
+    requires built { IsBuilt setting.now }
     requires script { IsScript script.now }
     requires calls { AllByRecursion AreCalls script.now.phases }
-    requires one { IsOpened (length script.now.clients + 1) (B.berth bay.old disk file).faults towers.items }
-    requires out { (B.berth bay.old disk file).out ≡ true }
-    ensures ended { RunOver (record { berths = B.berth bay.old; berths_after = B.berth bay.new; faults = B.faults bay.old; faults_after = B.faults bay.new }) script.now towers.items result }
+    requires opened { AreOpened setting.now (length script.now.clients + 1) towers.items }
+    requires stores { IsRoom (length setting.now.files) left.stores }
+    requires histories { IsRoom (length setting.now.files) left.histories }
+    requires gone { IsRoom (length setting.now.files) left.gone }
+    requires lost { IsRoom (length setting.now.files) left.lost }
+    ensures ended { (before : Berths) (faults : ℕ) → AreBelow setting.now before (B.berth bay.old) towers.items → faults ≤ B.faults bay.old → Ends setting.now (record { berths = before; berths_after = B.berth bay.new; faults = faults; faults_after = B.faults bay.new }) script.now result }
 {
     let mut towers = towers;
     let played = play(alloc, setting, script, &mut towers);
-    let Some(tower) = towers.pop() else {
-        unreachable!()
-    };
-    let (store, history) = tower.close();
-    let gone = give_back(bay, store);
+    let Left {
+        mut stores,
+        mut histories,
+        gone,
+        lost,
+    } = left;
+    close_towers(towers, &mut stores, &mut histories);
+    let gone = give_back(setting, bay, stores, gone);
     match played {
-        Ok(answers) => tell(alloc, setting, script, &history, &answers, gone),
+        Ok(answers) => tell(alloc, setting, script, &histories, &answers, &gone, lost),
         Err(AllocError) => End::Memory,
     }
 }
 
-/// Takes the store, opens the file and runs the script over it, and gives the store back.
-pub(crate) fn run_file<B: Bay>(alloc: Global, script: &Script, bay: &mut B) -> End
+/// Closes the open files, and gives their stores and those of the other files back. Answers by file whether the store was lost.
+fn return_all<B: Bay>(
+    setting: &Setting,
+    bay: &mut B,
+    towers: Vec<Tower<B::Store>>,
+    rest: Vec<Held<B::Store>>,
+    left: Left<B::Store>,
+) -> Vec<bool>
+    requires built { IsBuilt setting.now }
+    requires few { length towers.items + length rest.items ≤ length setting.now.files }
+    requires stores { IsRoom (length setting.now.files) left.stores }
+    requires histories { IsRoom (length setting.now.files) left.histories }
+    requires gone { IsRoom (length setting.now.files) left.gone }
+    ensures { (callers : ℕ) (stores : List StoreSeen) → OpensSome setting.now callers stores towers.items rest.items → ComeBack setting.now (record { berths = B.berth bay.old; berths_after = B.berth bay.new; faults = B.faults bay.old; faults_after = B.faults bay.new }) stores result.items }
+{
+    let Left {
+        mut stores,
+        mut histories,
+        gone,
+        ..
+    } = left;
+    close_towers(towers, &mut stores, &mut histories);
+    put_behind(&mut stores, rest);
+    give_back(setting, bay, stores, gone)
+}
+
+/// Opens the files over their stores and runs the script over them, and gives the stores back.
+fn run_taken<B: Bay>(
+    alloc: Global,
+    setting: &Setting,
+    script: &Script,
+    bay: &mut B,
+    stores: Vec<Held<B::Store>>,
+    opening: Opening<B::Store>,
+) -> End
+    requires built { IsBuilt setting.now }
     requires script { IsScript script.now }
     requires calls { AllByRecursion AreCalls script.now.phases }
-    ensures ends { Ends (record { berths = B.berth bay.old; berths_after = B.berth bay.new; faults = B.faults bay.old; faults_after = B.faults bay.new }) script.now result }
+    requires number { length stores.items ≡ length setting.now.files }
+    requires shapes { EachAt (IsFor setting.now) stores.items }
+    requires towers { IsRoom (length setting.now.files) opening.towers }
+    requires rest { IsRoom (length setting.now.files) opening.rest }
+    requires stores { IsRoom (length setting.now.files) opening.left.stores }
+    requires histories { IsRoom (length setting.now.files) opening.left.histories }
+    requires gone { IsRoom (length setting.now.files) opening.left.gone }
+    requires lost { IsRoom (length setting.now.files) opening.left.lost }
+    ensures ended { (before : Berths) (faults : ℕ) → AreOut setting.now before (B.berth bay.old) stores.items → faults ≤ B.faults bay.old → Ends setting.now (record { berths = before; berths_after = B.berth bay.new; faults = faults; faults_after = B.faults bay.new }) script.now result }
 {
-    let Ok(setting) = first_setting(alloc) else {
-        return End::Stopped {
-            stop: Stop::Memory,
-            gone: false,
-        };
-    };
-    let Ok(mut towers) = Vec::with_capacity(alloc, 1) else {
-        return End::Stopped {
-            stop: Stop::Memory,
-            gone: false,
-        };
-    };
     let callers = script.clients.as_slice().len() as u32 + 1;
-    let store = match bay.take("d", "f", 64, 2) {
-        Ok(store) => store,
-        Err(why) => {
-            return End::Stopped {
-                stop: untaken(why),
-                gone: false,
-            };
-        }
-    };
-    match open_file(alloc, &setting, callers, store) {
-        Ok(tower) => {
-            towers.push_reserved(tower);
-            run_over(alloc, &setting, script, bay, towers)
-        }
-        Err((stop, store)) => {
-            let gone = give_back(bay, store);
+    let Opening {
+        mut towers,
+        mut rest,
+        left,
+    } = opening;
+    match open_files(alloc, setting, callers, stores, &mut towers, &mut rest) {
+        Ok(()) => run_open(alloc, setting, script, bay, towers, left),
+        Err(stop) => {
+            let gone = return_all(setting, bay, towers, rest, left);
             End::Stopped { stop, gone }
         }
+    }
+}
+
+/// Takes the stores of the files, opens the files and runs the script over them, and gives the stores back. The room for that
+/// is there.
+fn run_all<B: Bay>(
+    alloc: Global,
+    setting: &Setting,
+    script: &Script,
+    bay: &mut B,
+    room: Room<B::Store>,
+) -> End
+    requires built { IsBuilt setting.now }
+    requires script { IsScript script.now }
+    requires calls { AllByRecursion AreCalls script.now.phases }
+    requires taken { IsRoom (length setting.now.files) room.taken }
+    requires towers { IsRoom (length setting.now.files) room.opening.towers }
+    requires rest { IsRoom (length setting.now.files) room.opening.rest }
+    requires stores { IsRoom (length setting.now.files) room.opening.left.stores }
+    requires histories { IsRoom (length setting.now.files) room.opening.left.histories }
+    requires gone { IsRoom (length setting.now.files) room.opening.left.gone }
+    requires lost { IsRoom (length setting.now.files) room.opening.left.lost }
+    ensures ends { Ends setting.now (record { berths = B.berth bay.old; berths_after = B.berth bay.new; faults = B.faults bay.old; faults_after = B.faults bay.new }) script.now result }
+{
+    let Room { mut taken, opening } = room;
+    match take_stores(setting, bay, &mut taken) {
+        Ok(()) => run_taken(alloc, setting, script, bay, taken, opening),
+        Err(stop) => {
+            let Opening { left, .. } = opening;
+            let Left { gone, .. } = left;
+            let gone = give_back(setting, bay, taken, gone);
+            End::Stopped { stop, gone }
+        }
+    }
+}
+
+/// Runs a script over the files of a stack: takes and opens them, and gives their stores back.
+pub(crate) fn run_files<B: Bay>(
+    alloc: Global,
+    setting: &Setting,
+    script: &Script,
+    bay: &mut B,
+) -> End
+    requires built { IsBuilt setting.now }
+    requires script { IsScript script.now }
+    requires calls { AllByRecursion AreCalls script.now.phases }
+    ensures ends { Ends setting.now (record { berths = B.berth bay.old; berths_after = B.berth bay.new; faults = B.faults bay.old; faults_after = B.faults bay.new }) script.now result }
+{
+    match room_for(alloc, setting.files.as_slice().len()) {
+        Ok(room) => run_all(alloc, setting, script, bay, room),
+        Err(AllocError) => End::Stopped {
+            stop: Stop::Memory,
+            gone: Vec::new(alloc),
+        },
     }
 }

@@ -5,7 +5,9 @@ use hist_plain::Text;
 use spr_io::{MemBay, MemShelf, MemSink, MemStore, OpenGate};
 use spr_report::Status;
 use std::alloc::Global;
+use std::sync::Wait;
 use std::test::Fail;
+use std::thread::Threads;
 
 const STACK: &[u8] = b"page 64\nfile f 2\ndisk d m\ncoherency c m d\n";
 
@@ -13,41 +15,116 @@ const SCRIPT: &[u8] =
     b"client a m\nphase\na open x c/f\na write x 0 0 61626364\na read x 0 0 4\na sync x\n";
 
 const REPORT: &str =
-    "client a\n3 life 0\n4 done\n5 61626364\n6 done\nfile f\n0 a 0 c 0 open life 0\n1 a 1 c 0 write 0 0 61626364 done\n2 a 2 c 0 read 0 0 4 61626364\n3 a 3 c synced 3 done\n4 mount 0 c synced 4 done\nstatus 0\n";
+    "client a\n3 life 0\n4 done\n5 61626364\n6 done\nfile f\n0 a 0 c 0 open life 0\n2 a 1 c 0 write 0 0 61626364 done\n3 a 2 c 0 read 0 0 4 61626364\n5 a 3 c synced 4 done\n6 mount 0 c synced 6 done\nstatus 0\n";
 
+/// The disk refuses the page of the first sync.
+const UNWRITTEN: &str =
+    "client a\n3 life 0\n4 done\n5 61626364\n6 store d 1\nfile f\n0 a 0 c 0 open life 0\n2 a 1 c 0 write 0 0 61626364 done\n3 a 2 c 0 read 0 0 4 61626364\n5 mount 0 c synced 4 done\nstatus 1\n";
+
+/// The disk takes that page, and refuses to make it last.
 const UNSYNCED: &str =
-    "client a\n3 life 0\n4 done\n5 61626364\n6 store d 1\nfile f\n0 a 0 c 0 open life 0\n1 a 1 c 0 write 0 0 61626364 done\n2 a 2 c 0 read 0 0 4 61626364\n3 mount 0 c synced 3 done\nstatus 1\n";
+    "client a\n3 life 0\n4 done\n5 61626364\n6 store d 1\nfile f\n0 a 0 c 0 open life 0\n2 a 1 c 0 write 0 0 61626364 done\n3 a 2 c 0 read 0 0 4 61626364\n5 mount 0 c synced 5 done\nstatus 1\n";
 
 const UNCLOSED: &str =
-    "client a\n3 life 0\n4 done\n5 61626364\n6 done\nfile f\n0 a 0 c 0 open life 0\n1 a 1 c 0 write 0 0 61626364 done\n2 a 2 c 0 read 0 0 4 61626364\n3 a 3 c synced 3 done\nclosing f store d 1\nstatus 1\n";
+    "client a\n3 life 0\n4 done\n5 61626364\n6 done\nfile f\n0 a 0 c 0 open life 0\n2 a 1 c 0 write 0 0 61626364 done\n3 a 2 c 0 read 0 0 4 61626364\n5 a 3 c synced 4 done\nclosing f store d 1\nstatus 1\n";
 
 const LOST: &str =
-    "client a\n3 life 0\n4 done\n5 61626364\n6 done\nfile f\n0 a 0 c 0 open life 0\n1 a 1 c 0 write 0 0 61626364 done\n2 a 2 c 0 read 0 0 4 61626364\n3 a 3 c synced 3 done\n4 mount 0 c synced 4 done\nbay d f\nstatus 5\n";
+    "client a\n3 life 0\n4 done\n5 61626364\n6 done\nfile f\n0 a 0 c 0 open life 0\n2 a 1 c 0 write 0 0 61626364 done\n3 a 2 c 0 read 0 0 4 61626364\n5 a 3 c synced 4 done\n6 mount 0 c synced 6 done\nbay d f\nstatus 5\n";
 
 /// Ranges that end with their page, and ranges that do not lie within one page of the file.
 const EDGES: &[u8] =
     b"client a m\nphase\na open x c/f\na write x 0 60 61626364\na write x 0 61 61626364\na read x 2 0 1\na read x 0 0 0\n";
 
 const EDGES_REPORT: &str =
-    "client a\n3 life 0\n4 done\n5 not one page\n6 not one page\n7 not one page\nfile f\n0 a 0 c 0 open life 0\n1 a 1 c 0 write 0 60 61626364 done\n2 mount 0 c synced 2 done\nstatus 0\n";
+    "client a\n3 life 0\n4 done\n5 not one page\n6 not one page\n7 not one page\nfile f\n0 a 0 c 0 open life 0\n2 a 1 c 0 write 0 60 61626364 done\n4 mount 0 c synced 3 done\nstatus 0\n";
 
-/// Two clients in two phases, whose lines stand in the order of the clients.
+/// A page that was never written.
+const ZEROS: &[u8] = b"client a m\nphase\na open x c/f\na read x 1 0 64\n";
+
+const ZEROS_REPORT: &str =
+    "client a\n3 life 0\n4 00000000000000000000000000000000000000000000000000000000000000000000000000000000000000000000000000000000000000000000000000000000\nfile f\n0 a 0 c 0 open life 0\n2 a 1 c 0 read 1 0 64 00000000000000000000000000000000000000000000000000000000000000000000000000000000000000000000000000000000000000000000000000000000\n3 mount 0 c synced 3 done\nstatus 0\n";
+
+/// Two clients in two phases, whose lines alternate.
 const TWO_CLIENTS: &[u8] =
-    b"client a m\nclient b m\nphase\na open x c/f\na write x 1 0 61\nb open y c/f\nphase\na read x 1 0 1\nb read y 1 0 2\nb clear y 1\n";
+    b"client a m\nclient b m\nphase\nb open y c/f\na open x c/f\na write x 1 0 61\nphase\nb read y 1 0 2\na read x 1 0 1\nb clear y 1\n";
 
 const TWO_CLIENTS_REPORT: &str =
-    "client a\n4 life 0\n5 done\n8 61\nclient b\n6 life 0\n9 6100\n10 done\nfile f\n0 a 0 c 0 open life 0\n1 a 1 c 0 write 1 0 61 done\n2 b 0 c 0 open life 0\n3 a 2 c 0 read 1 0 1 61\n4 b 1 c 0 read 1 0 2 6100\n5 b 2 c 0 clear 1 done\n6 mount 0 c synced 6 done\nstatus 0\n";
+    "client a\n5 life 0\n6 done\n9 61\nclient b\n4 life 0\n8 6100\n10 done\nfile f\n0 b 0 c 0 open life 0\n1 a 0 c 0 open life 0\n3 a 1 c 0 write 1 0 61 done\n4 b 1 c 0 read 1 0 2 6100\n5 a 2 c 0 read 1 0 1 61\n6 b 2 c 0 clear 1 done\n8 mount 0 c synced 7 done\nstatus 0\n";
 
-/// Which calls of the outside are to fail, counted from 1.
+/// Names that lead nowhere.
+const LOST_NAMES: &[u8] = b"client a m\nphase\na open x c\na open x q\na read x 0 0 1\n";
+
+const LOST_NAMES_REPORT: &str =
+    "client a\n3 not object c\n4 not bound q\n5 no object\nfile f\n0 mount 0 c synced 0 done\nstatus 0\n";
+
+/// Managers and a distributed layer on a coherency layer.
+const SPREAD: &[u8] =
+    b"page 64\nfile f 2\ndisk d m\ncoherency c m d\nvmm v m c 2\ndfs r m c\nvmm w n r 2\nvmm u m r 2\n";
+
+const SPREAD_TREE: &str =
+    "0 d disk m\n1 c coherency m 0\n2 v vmm m 1\n3 r dfs m 1\n4 w vmm n 3\n5 u vmm m 1\nstatus 0\n";
+
+/// A layer upon a layer.
+const TWO_LAYERS: &[u8] = b"page 64\nfile f 2\ndisk d m\ncoherency c m d\ncoherency k m c\n";
+
+const WRITE_ABOVE: &[u8] =
+    b"client a m\nphase\na open x k/f\na write x 0 0 61\nphase\na open y c/f\na read y 0 0 1\n";
+
+const WRITE_ABOVE_REPORT: &str =
+    "client a\n3 life 0\n4 done\n6 life 0\n7 61\nfile f\n0 a 0 k 0 open life 0\n3 a 1 k 0 write 0 0 61 done\n4 a 2 c 0 open life 0\n6 a 3 c 0 read 0 0 1 61\n8 mount 0 c synced 7 done\nstatus 0\n";
+
+const WRITE_BELOW: &[u8] =
+    b"client a m\nphase\na open x c/f\na write x 0 0 61\nphase\na open y k/f\na read y 0 0 1\n";
+
+const WRITE_BELOW_REPORT: &str =
+    "client a\n3 life 0\n4 done\n6 life 0\n7 61\nfile f\n0 a 0 c 0 open life 0\n2 a 1 c 0 write 0 0 61 done\n3 a 2 k 0 open life 0\n5 a 3 k 0 read 0 0 1 61\n7 mount 0 c synced 6 done\nstatus 0\n";
+
+/// Three layers, one upon another.
+const DEEP: &[u8] =
+    b"page 64\nfile f 2\ndisk d m\ncoherency c m d\ncoherency k m c\ncoherency l m k\n";
+
+/// Written at the top, read and written at the bottom, and read at the top.
+const DEEP_SCRIPT: &[u8] =
+    b"client a m\nphase\na open x l/f\na write x 0 0 61\na open y c/f\na read y 0 0 1\na write y 0 1 62\na read x 0 0 2\n";
+
+const DEEP_REPORT: &str =
+    "client a\n3 life 0\n4 done\n5 life 0\n6 61\n7 done\n8 6162\nfile f\n0 a 0 l 0 open life 0\n4 a 1 l 0 write 0 0 61 done\n5 a 2 c 0 open life 0\n8 a 3 c 0 read 0 0 1 61\n11 a 4 c 0 write 0 1 62 done\n14 a 5 l 0 read 0 0 2 6162\n16 mount 0 c synced 15 done\nstatus 0\n";
+
+/// Three layers upon one.
+const WIDE: &[u8] =
+    b"page 64\nfile f 2\ndisk d m\ncoherency c m d\ncoherency k m c\ncoherency l m c\ncoherency n m c\n";
+
+/// Written at one, read at both others, written at another, and read at the third.
+const WIDE_SCRIPT: &[u8] =
+    b"client a m\nphase\na open x k/f\na open y l/f\na open z n/f\na write x 0 0 61\na read y 0 0 1\na read z 0 0 1\na write y 0 1 62\na read z 0 0 2\n";
+
+const WIDE_REPORT: &str =
+    "client a\n3 life 0\n4 life 0\n5 life 0\n6 done\n7 61\n8 61\n9 done\n10 6162\nfile f\n0 a 0 k 0 open life 0\n1 a 1 l 0 open life 0\n2 a 2 n 0 open life 0\n5 a 3 k 0 write 0 0 61 done\n8 a 4 l 0 read 0 0 1 61\n10 a 5 n 0 read 0 0 1 61\n14 a 6 l 0 write 0 1 62 done\n17 a 7 n 0 read 0 0 2 6162\n19 mount 0 c synced 18 done\nstatus 0\n";
+
+/// Two files.
+const FILES: &[u8] = b"page 64\nfile f 1\nfile g 2\ndisk d m\ncoherency c m d\n";
+
+const FILES_SCRIPT: &[u8] = b"client a m\nphase\na open x c/f\na open y c/g\na write y 1 0 62\n";
+
+const FILES_REPORT: &str =
+    "client a\n3 life 0\n4 life 0\n5 done\nfile f\n0 a 0 c 0 open life 0\n1 mount 0 c synced 1 done\nfile g\n0 a 0 c 0 open life 0\n2 a 1 c 0 write 1 0 62 done\n4 mount 0 c synced 3 done\nstatus 0\n";
+
+const FILES_LOST: &str =
+    "client a\n3 life 0\n4 life 0\n5 done\nfile f\n0 a 0 c 0 open life 0\n1 mount 0 c synced 1 done\nfile g\n0 a 0 c 0 open life 0\n2 a 1 c 0 write 1 0 62 done\n4 mount 0 c synced 3 done\nbay d g\nstatus 5\n";
+
+/// Which calls of the outside are to fail, counted from 1. Those of a store are of the file of this name.
 #[derive(Clone, Copy)]
 struct Outside<'a> {
     shelf: &'a [u64],
     takes: &'a [u64],
     gives: &'a [u64],
+    file: &'a str,
     reads: &'a [u64],
     writes: &'a [u64],
     flushes: &'a [u64],
     sinks: &'a [u64],
+    /// The most bytes that the sink takes at once.
+    width: u32,
 }
 
 /// Nothing fails.
@@ -55,28 +132,40 @@ const SOUND: Outside<'static> = Outside {
     shelf: &[],
     takes: &[],
     gives: &[],
+    file: "f",
     reads: &[],
     writes: &[],
     flushes: &[],
     sinks: &[],
+    width: 7,
 };
 
-/// A shelf with a stack `S` and a script `T`.
-fn shelf_of(alloc: Global, fails: &[u64], stack: &[u8], script: &[u8]) -> Result<MemShelf, Fail> {
-    let mut shelf = MemShelf::new(alloc, fails)?;
-    shelf.put(alloc, "S", stack)?;
-    shelf.put(alloc, "T", script)?;
-    Ok(shelf)
+/// A kind of call of the outside.
+#[derive(Clone, Copy, Debug)]
+enum Call {
+    Shelf,
+    Take,
+    Give,
+    Read,
+    Write,
+    Flush,
+    Sink,
 }
 
-/// A bay with the store of the file.
-fn bay_of(alloc: Global, outside: &Outside<'_>) -> Result<MemBay, Fail> {
-    let mut bay = MemBay::new(alloc, outside.takes, outside.gives)?;
-    let store = MemStore::new(alloc, 64, 2, outside.reads, outside.writes, outside.flushes)?;
-    match bay.put(alloc, "d", "f", store) {
-        Ok(()) => Ok(bay),
-        Err(_) => Err(Fail::from("the store")),
+/// These calls of one kind fail.
+fn refusing(call: Call, fails: &[u64]) -> Outside<'_> {
+    let mut outside = SOUND;
+    outside.width = 4_096;
+    match call {
+        Call::Shelf => outside.shelf = fails,
+        Call::Take => outside.takes = fails,
+        Call::Give => outside.gives = fails,
+        Call::Read => outside.reads = fails,
+        Call::Write => outside.writes = fails,
+        Call::Flush => outside.flushes = fails,
+        Call::Sink => outside.sinks = fails,
     }
+    outside
 }
 
 /// The words of a command.
@@ -88,30 +177,60 @@ fn words_of(alloc: Global, words: &[&str]) -> Result<Vec<Text>, Fail> {
     Ok(texts)
 }
 
+/// A bay with the store of one file, of two pages.
+fn bay_of(alloc: Global, outside: &Outside<'_>) -> Result<MemBay, Fail> {
+    let mut bay = MemBay::new(alloc, outside.takes, outside.gives)?;
+    let store = MemStore::new(alloc, 64, 2, outside.reads, outside.writes, outside.flushes)?;
+    match bay.put(alloc, "d", outside.file, store) {
+        Ok(()) => Ok(bay),
+        Err(_) => Err(Fail::from("the store")),
+    }
+}
+
+/// Runs a command over a stack `S` and a script `T`: its status, and what it wrote.
+fn command<R: Threads + Wait + Sync>(
+    rt: &R,
+    alloc: Global,
+    words: &[&str],
+    stack: &[u8],
+    script: &[u8],
+    outside: &Outside<'_>,
+) -> Result<(Status, MemSink), Fail> {
+    let words = words_of(alloc, words)?;
+    let mut shelf = MemShelf::new(alloc, outside.shelf)?;
+    shelf.put(alloc, "S", stack)?;
+    shelf.put(alloc, "T", script)?;
+    let mut bay = bay_of(alloc, outside)?;
+    if outside.width == 0 {
+        return Err(Fail::from("the width"));
+    }
+    let mut sink = MemSink::new(alloc, outside.width, outside.sinks)?;
+    let status = spring(
+        rt, alloc, &words, &mut shelf, &mut bay, &mut sink, &OpenGate,
+    );
+    Ok((status, sink))
+}
+
+const RUN: &[&str] = &["run", "I", "S", "T"];
+
+const CHECK: &[&str] = &["check", "S"];
+
 #[test]
-fn words_and_texts(rt: HostRuntime) -> Result<(), Fail> {
+fn refusals(rt: HostRuntime) -> Result<(), Fail> {
     let usage = "usage: spring run, gen, check, format, dump or idl\nstatus 2\n";
-    let run: &[&str] = &["run", "I", "S", "T"];
-    let rows: [(&[&str], &[u8], &[u8], Status, &str); 11] = [
-        (run, STACK, SCRIPT, Status::Good, REPORT),
+    let rows: [(&[&str], &[u8], &[u8], Status, &str); 16] = [
         (&[], STACK, SCRIPT, Status::Usage, usage),
         (&["run", "I", "S"], STACK, SCRIPT, Status::Usage, usage),
+        (&["check", "S", "T"], STACK, SCRIPT, Status::Usage, usage),
         (
-            run,
-            b"page 64\n",
-            SCRIPT,
-            Status::Refused,
-            "stack 1 later\nstatus 3\n",
-        ),
-        (
-            run,
+            RUN,
             STACK,
             b"client a m\nphase\na clean x\n",
             Status::Refused,
             "script 3 later\nstatus 3\n",
         ),
         (
-            run,
+            RUN,
             STACK,
             b"client a m\nphase\na jump x\n",
             Status::Refused,
@@ -125,36 +244,66 @@ fn words_and_texts(rt: HostRuntime) -> Result<(), Fail> {
             "shelf U\nstatus 4\n",
         ),
         (
-            run,
+            &["run", "I", "S", "U"],
             STACK,
-            b"client a m\nphase\na open x c\na open x q\na read x 0 0 1\n",
-            Status::Good,
-            "client a\n3 not object c\n4 not bound q\n5 no object\nfile f\n0 mount 0 c synced 0 done\nstatus 0\n",
+            SCRIPT,
+            Status::ShelfFault,
+            "shelf U\nstatus 4\n",
         ),
         (
-            run,
-            STACK,
+            &["run", "I", "S", "U"],
+            b"page 96\n",
             b"",
-            Status::Good,
-            "file f\n0 mount 0 c synced 0 done\nstatus 0\n",
+            Status::Refused,
+            "stack 1 A10\nstatus 3\n",
         ),
-        (run, STACK, EDGES, Status::Good, EDGES_REPORT),
-        (run, STACK, TWO_CLIENTS, Status::Good, TWO_CLIENTS_REPORT),
+        (
+            RUN,
+            b"page 64\nfile f 2\ndisk d m\ncoherency c m d",
+            b"",
+            Status::Refused,
+            "stack 4 end\nstatus 3\n",
+        ),
+        (
+            RUN,
+            b"page 64\nfile f 2\ndisk d m\ncoherency c m d\nvmm v m c 2\n",
+            b"",
+            Status::Refused,
+            "stack 5 later\nstatus 3\n",
+        ),
+        (
+            RUN,
+            b"page 64\nfile f 2\ndisk d m\ncoherency c m d\nvmm v m c 4\ncoherency k m v\n",
+            b"",
+            Status::Refused,
+            "stack 6 A8\nstatus 3\n",
+        ),
+        (RUN, b"", b"", Status::Refused, "stack 1 A1\nstatus 3\n"),
+        (CHECK, SPREAD, b"", Status::Good, SPREAD_TREE),
+        (
+            &["check", "U"],
+            SPREAD,
+            b"",
+            Status::ShelfFault,
+            "shelf U\nstatus 4\n",
+        ),
+        (
+            CHECK,
+            b"page 64\nfile f two\n",
+            b"",
+            Status::Refused,
+            "stack 2 number\nstatus 3\n",
+        ),
+        (
+            CHECK,
+            b"page 64\nfile f 2\ndisk d m\nvmm v m d 4\n",
+            b"",
+            Status::Refused,
+            "stack 4 A7\nstatus 3\n",
+        ),
     ];
     for (words, stack, script, status, text) in rows {
-        let words = words_of(rt.alloc(), words)?;
-        let mut shelf = shelf_of(rt.alloc(), &[], stack, script)?;
-        let mut bay = MemBay::new(rt.alloc(), &[], &[])?;
-        let mut sink = MemSink::new(rt.alloc(), 1, &[])?;
-        let got = spring(
-            &rt,
-            rt.alloc(),
-            &words,
-            &mut shelf,
-            &mut bay,
-            &mut sink,
-            &OpenGate,
-        );
+        let (got, sink) = command(&rt, rt.alloc(), words, stack, script, &SOUND)?;
         assert_eq!(rt; got, status, "at {text}");
         assert_eq!(rt; sink.bytes(), text.as_bytes(), "at {text}");
     }
@@ -162,107 +311,208 @@ fn words_and_texts(rt: HostRuntime) -> Result<(), Fail> {
 }
 
 #[test]
-fn faults(rt: HostRuntime) -> Result<(), Fail> {
-    let rows: [(Outside<'_>, Status, &str); 11] = [
-        (SOUND, Status::Good, REPORT),
+fn runs(rt: HostRuntime) -> Result<(), Fail> {
+    let empty = "file f\n0 mount 0 c synced 0 done\nstatus 0\n";
+    let rows: [(&[u8], &[u8], &str); 11] = [
+        (STACK, SCRIPT, REPORT),
+        (STACK, b"", empty),
+        (STACK, LOST_NAMES, LOST_NAMES_REPORT),
+        (STACK, EDGES, EDGES_REPORT),
+        (STACK, ZEROS, ZEROS_REPORT),
+        (STACK, TWO_CLIENTS, TWO_CLIENTS_REPORT),
+        (TWO_LAYERS, WRITE_ABOVE, WRITE_ABOVE_REPORT),
+        (TWO_LAYERS, WRITE_BELOW, WRITE_BELOW_REPORT),
+        (DEEP, DEEP_SCRIPT, DEEP_REPORT),
+        (WIDE, WIDE_SCRIPT, WIDE_REPORT),
         (
-            Outside {
-                shelf: &[1],
-                ..SOUND
-            },
-            Status::ShelfFault,
-            "shelf S\nstatus 4\n",
-        ),
-        (
-            Outside {
-                shelf: &[2],
-                ..SOUND
-            },
-            Status::ShelfFault,
-            "shelf T\nstatus 4\n",
-        ),
-        (
-            Outside {
-                takes: &[1],
-                ..SOUND
-            },
-            Status::BayFault,
-            "bay d f\nstatus 5\n",
-        ),
-        (
-            Outside {
-                reads: &[2],
-                ..SOUND
-            },
-            Status::Faulted,
-            "store d 1\nstatus 1\n",
-        ),
-        (
-            Outside {
-                reads: &[1],
-                gives: &[1],
-                ..SOUND
-            },
-            Status::Faulted,
-            "store d 1\nbay d f\nstatus 1\n",
-        ),
-        (
-            Outside {
-                writes: &[1],
-                ..SOUND
-            },
-            Status::Faulted,
-            UNSYNCED,
-        ),
-        (
-            Outside {
-                flushes: &[1],
-                ..SOUND
-            },
-            Status::Faulted,
-            UNSYNCED,
-        ),
-        (
-            Outside {
-                flushes: &[2],
-                ..SOUND
-            },
-            Status::Faulted,
-            UNCLOSED,
-        ),
-        (
-            Outside {
-                gives: &[1],
-                ..SOUND
-            },
-            Status::BayFault,
-            LOST,
-        ),
-        (
-            Outside {
-                sinks: &[2],
-                ..SOUND
-            },
-            Status::SinkFault,
-            "client ",
+            b"page 128\nfile h 3\ndisk e m\ncoherency c m e\n",
+            b"",
+            "file h\n0 mount 0 c synced 0 done\nstatus 0\n",
         ),
     ];
-    for (outside, status, text) in rows {
-        let words = words_of(rt.alloc(), &["run", "I", "S", "T"])?;
-        let mut shelf = shelf_of(rt.alloc(), outside.shelf, STACK, SCRIPT)?;
-        let mut bay = bay_of(rt.alloc(), &outside)?;
-        let mut sink = MemSink::new(rt.alloc(), 7, outside.sinks)?;
-        let got = spring(
-            &rt,
-            rt.alloc(),
-            &words,
-            &mut shelf,
-            &mut bay,
-            &mut sink,
-            &OpenGate,
-        );
-        assert_eq!(rt; got, status, "at {text}");
+    for (stack, script, text) in rows {
+        let (got, sink) = command(&rt, rt.alloc(), RUN, stack, script, &SOUND)?;
+        assert_eq!(rt; got, Status::Good, "at {text}");
         assert_eq!(rt; sink.bytes(), text.as_bytes(), "at {text}");
+    }
+    Ok(())
+}
+
+/// What is to fail in a run over one file, and how it ends.
+const FAULTS: [(Outside<'static>, Status, &str); 11] = [
+    (
+        Outside {
+            shelf: &[1],
+            ..SOUND
+        },
+        Status::ShelfFault,
+        "shelf S\nstatus 4\n",
+    ),
+    (
+        Outside {
+            shelf: &[2],
+            ..SOUND
+        },
+        Status::ShelfFault,
+        "shelf T\nstatus 4\n",
+    ),
+    (
+        Outside {
+            takes: &[1],
+            ..SOUND
+        },
+        Status::BayFault,
+        "bay d f\nstatus 5\n",
+    ),
+    (
+        Outside {
+            reads: &[2],
+            ..SOUND
+        },
+        Status::Faulted,
+        "store d 1\nstatus 1\n",
+    ),
+    (
+        Outside {
+            reads: &[1],
+            gives: &[1],
+            ..SOUND
+        },
+        Status::Faulted,
+        "store d 1\nbay d f\nstatus 1\n",
+    ),
+    (
+        Outside {
+            writes: &[1],
+            ..SOUND
+        },
+        Status::Faulted,
+        UNWRITTEN,
+    ),
+    (
+        Outside {
+            flushes: &[1],
+            ..SOUND
+        },
+        Status::Faulted,
+        UNSYNCED,
+    ),
+    (
+        Outside {
+            flushes: &[2],
+            ..SOUND
+        },
+        Status::Faulted,
+        UNCLOSED,
+    ),
+    (
+        Outside {
+            gives: &[1],
+            ..SOUND
+        },
+        Status::BayFault,
+        LOST,
+    ),
+    (
+        Outside {
+            sinks: &[2],
+            ..SOUND
+        },
+        Status::SinkFault,
+        "client ",
+    ),
+    (
+        Outside {
+            sinks: &[3],
+            width: 1,
+            ..SOUND
+        },
+        Status::SinkFault,
+        "cl",
+    ),
+];
+
+/// The same over two files.
+const FILES_FAULTS: [(Outside<'static>, Status, &str); 5] = [
+    (Outside { file: "g", ..SOUND }, Status::Good, FILES_REPORT),
+    (
+        Outside {
+            file: "g",
+            takes: &[2],
+            ..SOUND
+        },
+        Status::BayFault,
+        "bay d g\nstatus 5\n",
+    ),
+    (
+        Outside {
+            file: "g",
+            takes: &[2],
+            gives: &[1],
+            ..SOUND
+        },
+        Status::BayFault,
+        "bay d g\nbay d f\nstatus 5\n",
+    ),
+    (
+        Outside {
+            file: "g",
+            reads: &[1],
+            gives: &[1, 2],
+            ..SOUND
+        },
+        Status::Faulted,
+        "store d 1\nbay d f\nbay d g\nstatus 1\n",
+    ),
+    (
+        Outside {
+            file: "g",
+            gives: &[2],
+            ..SOUND
+        },
+        Status::BayFault,
+        FILES_LOST,
+    ),
+];
+
+#[test]
+fn faults(rt: HostRuntime) -> Result<(), Fail> {
+    for (outside, status, text) in FAULTS {
+        let (got, sink) = command(&rt, rt.alloc(), RUN, STACK, SCRIPT, &outside)?;
+        assert_eq!(rt; got, status);
+        assert_eq!(rt; sink.bytes(), text.as_bytes());
+    }
+    for (outside, status, text) in FILES_FAULTS {
+        let (got, sink) = command(&rt, rt.alloc(), RUN, FILES, FILES_SCRIPT, &outside)?;
+        assert_eq!(rt; got, status);
+        assert_eq!(rt; sink.bytes(), text.as_bytes());
+    }
+    Ok(())
+}
+
+/// Each call of the outside that the first run makes is refused in turn, until a run meets none.
+#[test]
+fn each_call(rt: HostRuntime) -> Result<(), Fail> {
+    for (call, count) in [
+        (Call::Shelf, 2),
+        (Call::Take, 1),
+        (Call::Give, 1),
+        (Call::Read, 2),
+        (Call::Write, 1),
+        (Call::Flush, 2),
+        (Call::Sink, 1),
+    ] {
+        for nth in 1..4 {
+            let (got, _sink) = command(
+                &rt,
+                rt.alloc(),
+                RUN,
+                STACK,
+                SCRIPT,
+                &refusing(call, &[nth]),
+            )?;
+            assert_eq!(rt; got == Status::Good, nth > count, "at {call:?} {nth}");
+        }
     }
     Ok(())
 }

@@ -1,23 +1,26 @@
-//! What a run reads before it takes a store: the stack and the script.
+//! What a command reads before it takes a store: the stack and the script.
 
-ghost use Rattle.std.specs.Prelude.{◌≡◌, ◌≢◌, ◌⊎◌, ◌≤◌, ℕ, List, IfOk, IfErr, OnOk, Some};
+ghost use Rattle.std.specs.Prelude.{◌≡◌, ◌⊎◌, ◌≤◌, ℕ, List, IfOk, IfErr, Some};
 ghost use Rattle.std.specs.Option.{option_map, option_copied};
 ghost use Rattle.spr_io.specs.Causes.{Rose};
-ghost use Rattle.spr_run.specs.First.{first_text};
+ghost use Rattle.stack_accept.specs.Mount.{mounted};
+ghost use Rattle.run_defs.specs.Setting.{IsBuilt};
 ghost use Rattle.spr_run.specs.Built.{is_built, later_in, later_call};
-ghost use Rattle.spr_run.specs.Refusal.{Spells, RefusesScript, IsText, Scripts, IsPrepared, IsCause};
+ghost use Rattle.spr_run.specs.Stacks.{IsText, IsStackOf, IsMounted};
+ghost use Rattle.spr_run.specs.Refusal.{Spells, RefusesScript, Scripts, IsPrepared, IsStackCause, IsSettingCause, IsCause};
 
 use crate::refusal::Refusal;
+use crate::stacks::{accept_text, setting_in};
 use hist_plain::{Items, Text};
+use run_defs::Setting;
 use script_text::{Call, CallLine, Script, ScriptWhy, parse_script};
 use spr_io::{Shelf, ShelfErr};
+use stack_accept::Mounted;
+use stack_text::StackText;
 use std::alloc::Global;
 
 /// The most bytes that a text may have.
 const TEXT_LIMIT: u32 = 16_777_216;
-
-/// The stack that the program mounts.
-const STACK: &[u8] = b"page 64\nfile f 2\ndisk d m\ncoherency c m d\n";
 
 /// The text of a name.
 fn read_text<H: Shelf>(
@@ -98,20 +101,32 @@ fn read_script(alloc: Global, text: &[u8]) -> Result<Script, Refusal>
     }
 }
 
-/// Reads the stack of a name, which is the one that the program mounts.
-fn read_stack<H: Shelf>(alloc: Global, shelf: &mut H, name: &Text) -> Result<(), Refusal>
-    ensures ok { OnOk result (IsText (H.text shelf.old) name.now first_text) }
-    ensures err { IfErr result (IsCause (H.text shelf.old) (H.faults shelf.old) (H.faults shelf.new) name.now name.now) }
-    ensures stack { IfErr result (λ why. (why ≡ Refusal.StackLater) ⊎ ((why ≡ Refusal.StackShelf) ⊎ (why ≡ Refusal.Memory))) }
+/// Reads the stack of a name, which keeps every rule, and mounts it.
+pub(crate) fn read_accepted<H: Shelf>(
+    alloc: Global,
+    shelf: &mut H,
+    name: &Text,
+) -> Result<(StackText, Mounted), Refusal>
+    ensures stack { IfOk result (λ found. IsStackOf (H.text shelf.old) name.now found.0) }
+    ensures value { IfOk result (λ found. found.1 ≡ mounted found.0.lines) }
+    ensures err { IfErr result (IsStackCause (H.text shelf.old) (H.faults shelf.old) (H.faults shelf.new) name.now) }
     ensures same { (other : List ℕ) → H.text shelf.new other ≡ H.text shelf.old other }
     ensures later { H.faults shelf.old ≤ H.faults shelf.new }
 {
     let text = read_text(alloc, shelf, name, Refusal::StackShelf)?;
-    if text.as_slice() == STACK {
-        Ok(())
-    } else {
-        Err(Refusal::StackLater)
-    }
+    accept_text(alloc, &text)
+}
+
+/// Reads the stack of a name, and gives its setting.
+fn read_stack<H: Shelf>(alloc: Global, shelf: &mut H, name: &Text) -> Result<Setting, Refusal>
+    ensures mounted { IfOk result (IsMounted (H.text shelf.old) name.now) }
+    ensures built { IfOk result IsBuilt }
+    ensures err { IfErr result (IsSettingCause (H.text shelf.old) (H.faults shelf.old) (H.faults shelf.new) name.now) }
+    ensures same { (other : List ℕ) → H.text shelf.new other ≡ H.text shelf.old other }
+    ensures later { H.faults shelf.old ≤ H.faults shelf.new }
+{
+    let (stack, mount) = read_accepted(alloc, shelf, name)?;
+    setting_in(alloc, &stack, &mount)
 }
 
 /// Reads the stack and the script of these names.
@@ -120,11 +135,13 @@ pub(crate) fn read_texts<H: Shelf>(
     shelf: &mut H,
     stack: &Text,
     name: &Text,
-) -> Result<Script, Refusal>
-    ensures ok { IfOk result (IsPrepared (H.text shelf.old) stack.now name.now) }
+) -> Result<(Setting, Script), Refusal>
+    ensures ok { IfOk result (λ found. IsPrepared (H.text shelf.old) stack.now name.now found.0 found.1) }
+    ensures built { IfOk result (λ found. IsBuilt found.0) }
     ensures err { IfErr result (IsCause (H.text shelf.old) (H.faults shelf.old) (H.faults shelf.new) stack.now name.now) }
 {
-    read_stack(alloc, shelf, stack)?;
+    let setting = read_stack(alloc, shelf, stack)?;
     let text = read_text(alloc, shelf, name, Refusal::ScriptShelf)?;
-    read_script(alloc, &text)
+    let script = read_script(alloc, &text)?;
+    Ok((setting, script))
 }

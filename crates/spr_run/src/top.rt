@@ -4,12 +4,16 @@ ghost use Rattle.std.specs.Prelude.{◌≡◌, ◌∷◌, [], ℕ, List, IfSome,
 ghost use Rattle.std.specs.List.{AllByRecursion};
 ghost use Rattle.script_text.specs.Grammar.{IsScript};
 ghost use Rattle.plain_run.specs.Phases.{AreCalls};
-ghost use Rattle.spr_run.specs.Ways.{IsRun, RunsScript, Ends};
+ghost use Rattle.run_defs.specs.Setting.{IsBuilt};
+ghost use Rattle.spr_run.specs.Ways.{IsCheck, IsRun, RunsScript, Ends};
 
-use crate::finish::{MEMORY, finish, refuse, stopped};
-use crate::store::{End, run_file};
+use crate::check::check_stack;
+use crate::finish::{MEMORY, finish, stopped};
+use crate::refusal::refuse;
+use crate::store::{End, run_files};
 use crate::texts::read_texts;
 use hist_plain::Text;
+use run_defs::Setting;
 use script_text::Script;
 use spr_io::{Bay, Gate, Shelf, Sink};
 use spr_report::Status;
@@ -18,6 +22,17 @@ use std::sync::Wait;
 use std::thread::Threads;
 
 const USAGE: &[u8] = b"usage: spring run, gen, check, format, dump or idl\nstatus 2\n";
+
+/// The name of a check's stack.
+fn check_words(words: &[Text]) -> Option<&Text>
+    ensures some { IfSome result (λ stack. IsCheck words.now stack.now) }
+    ensures none { IfNone result ((stack : List ℕ) → IsCheck words.now stack → ⊥) }
+{
+    match words {
+        [check, stack] if check.as_str() == "check" => Some(stack),
+        _ => None,
+    }
+}
 
 /// The names of a run's stack and script.
 fn run_words(words: &[Text]) -> Option<(&Text, &Text)>
@@ -30,15 +45,22 @@ fn run_words(words: &[Text]) -> Option<(&Text, &Text)>
     }
 }
 
-/// Runs a script over the file, and writes how it ended.
-fn run_script<B: Bay, K: Sink>(alloc: Global, script: &Script, bay: &mut B, sink: &mut K) -> Status
+/// Runs a script over the files of a stack, and writes how it ended.
+fn run_script<B: Bay, K: Sink>(
+    alloc: Global,
+    setting: &Setting,
+    script: &Script,
+    bay: &mut B,
+    sink: &mut K,
+) -> Status
+    requires built { IsBuilt setting.now }
     requires script { IsScript script.now }
     requires calls { AllByRecursion AreCalls script.now.phases }
-    ensures { RunsScript (record { berths = B.berth bay.old; berths_after = B.berth bay.new; faults = B.faults bay.old; faults_after = B.faults bay.new }) script.now (K.written sink.old) (K.written sink.new) (K.faults sink.old) (K.faults sink.new) result }
+    ensures { RunsScript setting.now (record { berths = B.berth bay.old; berths_after = B.berth bay.new; faults = B.faults bay.old; faults_after = B.faults bay.new }) script.now (K.written sink.old) (K.written sink.new) (K.faults sink.old) (K.faults sink.new) result }
 {
-    match run_file(alloc, script, bay) {
+    match run_files(alloc, setting, script, bay) {
         End::Report { text, status } => finish(sink, &[&text], status),
-        End::Stopped { stop, gone } => stopped(sink, stop, gone),
+        End::Stopped { stop, gone } => stopped(sink, setting, stop, &gone),
         End::Memory => finish(sink, &[MEMORY], Status::Memory),
     }
 }
@@ -48,8 +70,8 @@ fn run_script<B: Bay, K: Sink>(alloc: Global, script: &Script, bay: &mut B, sink
 /// Headline: each access within one page, by file call, mapping or any stacked view, unless a store
 /// failed in it or memory lacked, answers what one plain file answers at its place in the file's one
 /// history, which begins with all its caller had seen and holds its calls once each; after a successful
-/// sync every live store holds that history's bytes. So far the program mounts one stack, of one view,
-/// and its calls are file calls.
+/// sync every live store holds that history's bytes. So far a run builds stacks of coherency layers
+/// over one disk, and its calls are file calls.
 pub fn spring<R: Threads + Wait + Sync, H: Shelf, B: Bay, K: Sink, G: Gate>(
     _rt: &R,
     alloc: Global,
@@ -61,11 +83,14 @@ pub fn spring<R: Threads + Wait + Sync, H: Shelf, B: Bay, K: Sink, G: Gate>(
 ) -> Status
     ensures ends { Ends words.now (record { texts = H.text shelf.old; shelf = H.faults shelf.old; shelf_after = H.faults shelf.new; bay = record { berths = B.berth bay.old; berths_after = B.berth bay.new; faults = B.faults bay.old; faults_after = B.faults bay.new }; written = K.written sink.old; written_after = K.written sink.new; sink = K.faults sink.old; sink_after = K.faults sink.new }) result }
 {
+    if let Some(stack) = check_words(words) {
+        return check_stack(alloc, shelf, stack, sink);
+    }
     let Some((stack, name)) = run_words(words) else {
         return finish(sink, &[USAGE], Status::Usage);
     };
     match read_texts(alloc, shelf, stack, name) {
-        Ok(script) => run_script(alloc, &script, bay, sink),
-        Err(refusal) => refuse(sink, stack, name, refusal),
+        Ok((setting, script)) => run_script(alloc, &setting, &script, bay, sink),
+        Err(refusal) => refuse(sink, stack.as_str(), name.as_str(), refusal),
     }
 }

@@ -7,9 +7,11 @@ pub const HELP: &str =
     "spring: a stack of coherent file system layers, as the file services of Spring had them.
 
 usage: spring run IDL STACK SCRIPT
+       spring check STACK
 
   run IDL STACK SCRIPT   mounts the stack, runs the script over it, syncs each file, and writes each
                          client's answers and each file's one history
+  check STACK            writes the tree of layers that the stack makes, or why it cannot be mounted
   --help, -h             writes this
   --version              writes the version
 

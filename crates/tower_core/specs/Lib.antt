@@ -1,8 +1,11 @@
 pub mod TreeShape
 pub mod Count
+pub mod Tournament
+pub mod Lowest
 pub mod Column
 pub mod Trail
 pub mod Legal
 pub mod Messages
 pub mod Page
+pub mod Kept
 pub mod Sheet

@@ -1,24 +1,30 @@
 //! A trail's rights, places, uses and lives, kept as tables.
 
-ghost use Rattle.std.specs.Prelude.{◌≡◌, ◌≢◌, ◌<◌, ◌≤◌, ◌+◌, ℕ, All, IfOk, length, slice_index, vec_len};
+ghost use Rattle.std.specs.Prelude.{◌≡◌, ◌≢◌, ◌<◌, ◌≤◌, ◌+◌, ℕ, All, IfOk, length, slice_get, slice_index, vec_len, Some};
 ghost use Rattle.std.specs.Int.{from_bool};
 ghost use Rattle.std.proofs.Props.{props};
 ghost use Rattle.tower_core.specs.TreeShape.{nodes, IsUpper};
 ghost use Rattle.tower_core.specs.Trail.{lives_after};
 ghost use Rattle.tower_core.specs.Page.{IsHeldCounted};
+ghost use Rattle.tower_core.specs.Kept.{AreUsesKept, KeepsStale, StartsUses};
+ghost use Rattle.tower_core.specs.declared.lowest.Lowest.{Lowest as ALowest};
 
+use crate::lowest::Lowest;
 use crate::page::Page;
 use crate::{Right, Step, Tree};
 use hist_plain::{Event, Op};
 use std::alloc::{AllocError, Global};
 
 /// What a file's trail is worth: the rights, places, uses and lives after it. `seen` tells contracts
-/// the state that it stands for.
+/// the state that it stands for. Each node's uses, and the places of the pages that the ground lacks, are
+/// kept in order too, so that no call looks at all pages.
 #[derive(Drop)]
 pub struct Sheet {
     lives: Vec<u32>,
     held: Vec<u32>,
     pages: Vec<Page>,
+    uses: Vec<Lowest>,
+    stale: Lowest,
     len: u64,
     ghost grounded: { 0 < vec_len lives },
     ghost few: { vec_len pages ≤ 1024 },
@@ -26,6 +32,9 @@ pub struct Sheet {
     ghost sized: { All (λ page. vec_len page.cells ≡ vec_len lives) pages.items } by { Prim.hlevel props },
     ghost counted: { All (λ life. life ≤ len) lives.items } by { Prim.hlevel props },
     ghost held_counted: { IsHeldCounted pages.items held.items } by { Prim.hlevel props },
+    ghost nodes_used: { vec_len uses ≡ vec_len lives },
+    ghost uses_kept: { AreUsesKept pages.items uses.items } by { Prim.hlevel props },
+    ghost stale_kept: { KeepsStale pages.items stale } by { Prim.hlevel props },
 }
 
 impl Sheet {
@@ -54,6 +63,8 @@ impl Sheet {
             lives: zeros(alloc, nodes)?,
             held: counts_at_start(alloc, nodes, pages)?,
             pages: tables,
+            uses: uses_at_start(alloc, nodes, pages)?,
+            stale: Lowest::new(alloc, pages, None)?,
             len: 0,
         })
     }
@@ -135,19 +146,7 @@ impl Sheet {
         ensures none { IfNone result (HoldsNothing (pages_of self.now) (seen self.now) node) }
         ensures some { IfSome result (IsOldest (pages_of self.now) (seen self.now) node) }
     {
-        let mut oldest: Option<u32> = None;
-        for page in 0..self.pages() {
-            if self.right(node, page) != Right::Nothing {
-                let earlier = match oldest {
-                    Some(best) => self.used(node, page) < self.used(node, best),
-                    None => true,
-                };
-                if earlier {
-                    oldest = Some(page);
-                }
-            }
-        }
-        oldest
+        self.uses[node as usize].first()
     }
 
     /// How many pages the node has a right on.
@@ -175,13 +174,10 @@ impl Sheet {
         requires page_in { page < pages_of self.now }
         ensures { IsTrue result ↔ IsLeastRecentlyUsed (pages_of self.now) (seen self.now) node page }
     {
-        let used = self.used(node, page);
-        for other in 0..self.pages() {
-            if self.right(node, other) != Right::Nothing && self.used(node, other) < used {
-                return false;
-            }
+        match self.uses[node as usize].lowest() {
+            Some(first) => self.used(node, page) <= first,
+            None => true,
         }
-        true
     }
 
     /// Whether the node has no right on any page.
@@ -209,13 +205,10 @@ impl Sheet {
     fn is_settled(&self, from: u64) -> bool
         ensures { IsTrue result ↔ IsAllSettled (pages_of self.now) from (seen self.now) }
     {
-        for page in 0..self.pages() {
-            let at = self.at(0, page);
-            if at < from && at < self.newest(page) {
-                return false;
-            }
+        match self.stale.lowest() {
+            Some(first) => from <= first,
+            None => true,
         }
-        true
     }
 
     /// Whether the event may come next, by the table of events.
@@ -312,7 +305,11 @@ impl Sheet {
         let had = table.holds(node);
         table.take(tree, step, len);
         let has = table.holds(node);
+        let used = table.use_of(node);
+        let stale = table.stale();
         recount(&mut self.held, node, had, has);
+        self.uses[node as usize].set(page, used);
+        self.stale.set(page, stale);
         self.len += 1;
     }
 
@@ -422,6 +419,21 @@ fn counts_at_start(alloc: Global, nodes: usize, pages: u32) -> Result<Vec<u32>, 
     let mut counts = zeros(alloc, nodes)?;
     counts[0] = pages;
     Ok(counts)
+}
+
+/// The orders of uses at the start, where the ground alone holds pages.
+fn uses_at_start(alloc: Global, nodes: usize, pages: u32) -> Result<Vec<Lowest>, AllocError>
+    requires nodes { 0 < nodes }
+    requires pages { pages ≤ 1024 }
+    ensures len { IfOk result (λ uses. vec_len uses ≡ nodes) }
+    ensures starts { IfOk result (λ uses. (node : ℕ) (l : ALowest) → slice_get uses.items node ≡ Some l → StartsUses pages node l) }
+{
+    let mut uses = Vec::new(alloc);
+    uses.push(Lowest::new(alloc, pages, Some(0))?)?;
+    for _ in 1..nodes {
+        uses.push(Lowest::new(alloc, pages, None)?)?;
+    }
+    Ok(uses)
 }
 
 /// Counts a page that a node had or has a right on.

@@ -13,7 +13,7 @@ access_at-requires-clause-file g c κs within = file-lt c.args.setting.now c.arg
 
 pub access_at-requires-clause-call : goal.access_at-requires-clause-call
 access_at-requires-clause-call g c κs within =
-    may-access c.args.setting.now c.args.client.now.caller c.args.towers.now c.args.object.now.file c.args.object.now.node c.args.op c.requires.towers c.requires.object.node c.requires.fits
+    may-access c.args.setting.now c.args.client.now.caller c.args.towers.now c.args.object.now.file c.args.object.now.node c.args.op c.requires.towers c.requires.object.above c.requires.object.node c.requires.fits
 
 pub returns-in-Ok-access_at : goal.returns-in-Ok-access_at
 returns-in-Ok-access_at g c =

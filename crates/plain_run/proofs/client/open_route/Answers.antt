@@ -16,7 +16,7 @@ pub access_at-requires-clause-file : goal.access_at-requires-clause-file
 access_at-requires-clause-file g c κs within = file-lt c.args.setting.now c.args.client.now.caller c.args.towers.now c.args.file c.requires.towers c.requires.route.0
 
 pub access_at-requires-clause-call : goal.access_at-requires-clause-call
-access_at-requires-clause-call g c κs within = may-access c.args.setting.now c.args.client.now.caller c.args.towers.now c.args.file c.args.node ops.Open c.requires.towers c.requires.route.1 (search rules)
+access_at-requires-clause-call g c κs within = may-access c.args.setting.now c.args.client.now.caller c.args.towers.now c.args.file c.args.node ops.Open c.requires.towers c.requires.route.1 c.requires.route.2 (search rules)
 
 pub returns-in-Ok-access_at-clause-done : goal.returns-in-Ok-access_at-clause-done
 returns-in-Ok-access_at-clause-done g c =

@@ -25,7 +25,7 @@ sync_at-requires-clause-call g c κs within =
     let objects = c.args.client.now.objects.items in
     let some = found-some c.args.name.now c.deref.result.now objects c.find.result c.in-Some.object c.deref.ensures.value c.find.ensures c.in-Some.is in
     let is = found_has (IsObject c.args.setting.now) (λ (o : OpenObject). bytes_eq o.name c.args.name.now) c.in-Some.object.now objects c.requires.objects some in
-    may-sync c.args.setting.now c.args.client.now.caller c.args.towers.now c.in-Some.object.now.file c.in-Some.object.now.node c.requires.towers is.node
+    may-sync c.args.setting.now c.args.client.now.caller c.args.towers.now c.in-Some.object.now.file c.in-Some.object.now.node c.requires.towers is.above is.node
 
 pub returns-in-Ok : goal.returns-in-Ok
 returns-in-Ok g c =

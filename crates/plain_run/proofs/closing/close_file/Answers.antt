@@ -10,7 +10,7 @@ pub sync_at-requires-clause-file : goal.sync_at-requires-clause-file
 sync_at-requires-clause-file g c κs within = file-lt c.args.setting.now c.args.mount c.args.towers.now c.args.file c.requires.towers c.requires.file
 
 pub sync_at-requires-clause-call : goal.sync_at-requires-clause-call
-sync_at-requires-clause-call g c κs within = may-sync c.args.setting.now c.args.mount c.args.towers.now c.args.file 1 c.requires.towers (let u = c.requires.setting.upper in omega (arith, u))
+sync_at-requires-clause-call g c κs within = may-sync c.args.setting.now c.args.mount c.args.towers.now c.args.file 1 c.requires.towers (omega arith) (let u = c.requires.setting.upper in omega (arith, u))
 
 pub returns-in-Ok-clause-done : goal.returns-in-Ok-clause-done
 returns-in-Ok-clause-done g c =

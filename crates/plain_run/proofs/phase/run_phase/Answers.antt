@@ -1,21 +1,29 @@
-use Rattle.std.proofs.Common.{◌≡◌, length, ◌∙◌, arith}
-use Rattle.plain_run.proofs.PhaseLaws.{phase-next, phase-all, ready-next}
+use Rattle.std.proofs.Common.{◌≡◌, ◌<◌, ◌∙◌, length, refl, ap, sym, arith}
+use Rattle.script_text.specs.declared.script.CallLine.{CallLine}
+use Rattle.plain_run.specs.Towers.{histories}
+use Rattle.plain_run.proofs.PhaseLaws.{phase-none, phase-step, client-at, ready-next}
 use Rattle.plain_run.proofs.phase.run_phase.Goals as goal
 
-pub loop-i-preserved : goal.loop-i-preserved
-loop-i-preserved g c =
-    let inv = c.loop-i.invariant in
-    let lt = c.loop-i-test.true in
-    let len = inv.so_far.len in
-    let alone = c.in_ok-run_lines.ensures.done in
-    record {
-      so_far = phase-next c.args.setting.now c.args.lines.now c.loop-i.i c.args.clients.now c.loop-i.clients c.args.towers.now c.loop-i.towers c.run_lines.new.towers c.index-clients-i.result c.run_lines.new.client
-          (omega (arith, lt, len)) (λ number k there. (c.requires.clients number k there).caller) inv.so_far alone;
-      ready = ready-next c.args.setting.now c.loop-i.i c.loop-i.clients c.loop-i.towers c.run_lines.new.towers c.index-clients-i.result c.run_lines.new.client
-          (omega (arith, lt, len)) inv.ready alone.done.caller_same c.run_lines.ensures.objects c.run_lines.ensures.same;
-      same = c.run_lines.ensures.same ∙ inv.same;
-    }
+pub loop-line-init : goal.loop-line-init
+loop-line-init g c = record {
+  done = phase-none c.args.setting.now c.args.clients.now (histories c.args.towers.now);
+  ready = c.requires.clients;
+  same = refl;
+}
 
-pub returns-clause-done : goal.returns-clause-done
-returns-clause-done g c =
-    phase-all c.args.setting.now c.args.lines.now c.loop-i.i c.args.clients.now c.loop-i.clients c.args.towers.now c.loop-i.towers c.loop-i.invariant.so_far (omega arith) (omega arith)
+pub loop-line-preserved : goal.loop-line-preserved
+loop-line-preserved g c =
+    let inv = c.loop-line.invariant in
+    let line : CallLine = c.line-item.result in
+    let at = client-at (length c.args.clients.now) c.args.lines.now c.loop-line.line-index line c.requires.each c.loop-line-test.true in
+    let is = ap (λ (l : CallLine). l.client) c.line-item.is in
+    let len = inv.done.len in
+    let lt : line.client < length c.loop-line.clients = omega (arith, at, is, len) in
+    let alone = c.in_ok-run_line.ensures.done in
+    record {
+      done = phase-step c.args.setting.now c.args.lines.now c.loop-line.line-index line c.args.clients.now c.loop-line.clients (histories c.args.towers.now) c.loop-line.towers c.run_line.new.towers c.index-clients-number.result c.run_line.new.client
+          c.line-item.is c.loop-line-test.true lt (λ number k there. (c.requires.clients number k there).caller) inv.done alone;
+      ready = ready-next c.args.setting.now line.client c.loop-line.clients c.loop-line.towers c.run_line.new.towers c.index-clients-number.result c.run_line.new.client
+          lt inv.ready alone.done.caller_same c.run_line.ensures.objects c.run_line.ensures.same;
+      same = c.run_line.ensures.same ∙ inv.same;
+    }

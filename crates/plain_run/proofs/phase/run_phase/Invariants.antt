@@ -1,13 +1,12 @@
-use Rattle.std.proofs.Common.{◌≡◌, ◌≤◌, length}
-use Rattle.plain_run.specs.Towers.{frames}
-use Rattle.plain_run.specs.Phases.{AreReady}
-use Rattle.plain_run.proofs.PhaseLaws.{PhaseSoFar}
+use Rattle.std.proofs.Common.{◌≡◌, take}
+use Rattle.plain_run.specs.Towers.{frames, histories}
+use Rattle.plain_run.specs.Phases.{AreReady, PhaseDone}
 use Rattle.plain_run.proofs.phase.run_phase.Given as goal
 
--- the clients so far did their lines
-abbrev pub invariant-loop-i : goal.invariant-loop-i
-invariant-loop-i g l = record {
-  so_far : PhaseSoFar l.setting l.lines l.i l.fn.clients l.clients l.fn.towers l.towers;
+-- the lines so far are done
+abbrev pub invariant-loop-line : goal.invariant-loop-line
+invariant-loop-line g l = record {
+  done : PhaseDone l.setting (take l.line-index l.lines) l.fn.clients l.clients (histories l.fn.towers) (histories l.towers);
   ready : AreReady l.setting l.towers l.clients;
   same : frames l.towers ≡ frames l.fn.towers;
 }

@@ -12,7 +12,7 @@ access-requires-clause-caller g c κs within =
 
 pub access-requires-clause-node : goal.access-requires-clause-node
 access-requires-clause-node g c κs within =
-    read-tower (λ (t : TowerSeen). c.args.node < length t.log.shape.parents) c.args.towers.now c.args.file c.index-towers-file.result c.requires.file (λ t there. (c.requires.call t there).1)
+    read-tower (λ (t : TowerSeen). (0 < c.args.node) × (c.args.node < length t.log.shape.parents)) c.args.towers.now c.args.file c.index-towers-file.result c.requires.file (λ t there. (c.requires.call t there).1)
 
 pub access-requires-clause-fits : goal.access-requires-clause-fits
 access-requires-clause-fits g c κs within =

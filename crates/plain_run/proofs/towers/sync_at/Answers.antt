@@ -13,7 +13,7 @@ sync-requires-clause-caller g c κs within =
 
 pub sync-requires-clause-node : goal.sync-requires-clause-node
 sync-requires-clause-node g c κs within =
-    read-tower (λ (t : TowerSeen). c.args.node < length t.log.shape.parents) c.args.towers.now c.args.file c.index-towers-file.result c.requires.file (λ t there. (c.requires.call t there).1)
+    read-tower (λ (t : TowerSeen). (0 < c.args.node) × (c.args.node < length t.log.shape.parents)) c.args.towers.now c.args.file c.index-towers-file.result c.requires.file (λ t there. ((c.requires.call t there).1, (c.requires.call t there).2))
 
 pub returns-clause-called : goal.returns-clause-called
 returns-clause-called g c = λ t there.

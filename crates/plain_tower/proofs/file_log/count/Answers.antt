@@ -1,6 +1,5 @@
-use Rattle.std.proofs.Common.{◌≡◌, ◌+◌, ◌<◌, ◌^◌, ◌∙◌, length, get_or, sym, arith, Fits, w32}
+use Rattle.std.proofs.Common.{◌≡◌, ◌∙◌, get_or, sym, arith}
 use Rattle.std.proofs.lemmas.List.{get_or_default}
-use Rattle.plain_tower.proofs.LogSteps.{counts-some, counts-none}
 use Rattle.plain_tower.proofs.file_log.count.Goals as goal
 
 pub index_mut-requires : goal.index_mut-requires

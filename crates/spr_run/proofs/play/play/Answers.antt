@@ -1,17 +1,25 @@
-use Rattle.std.proofs.Common.{◌≡◌, ℕ, List, map, length, sym, ap, subst, ◌∙◌}
+use Rattle.std.proofs.Common.{◌≡◌, ℕ, suc, List, map, length, sym, ap, subst, ◌∙◌}
+use Rattle.std.specs.List.{AllByRecursion}
 use Rattle.std.proofs.lemmas.List.{with_items_is}
 use Rattle.script_text.specs.declared.script.CallLine.{CallLine}
 use Rattle.script_text.specs.declared.script.Said.{Said}
 use Rattle.plain_run.specs.declared.client.Client.{Client}
 use Rattle.plain_run.specs.Towers.{histories}
-use Rattle.plain_run.specs.Phases.{AreReady, PhasesDone, FilesClosed}
-use Rattle.spr_run.proofs.PlayLaws.{ready, played}
+use Rattle.plain_run.specs.Phases.{AreReady, HaveClients, PhasesDone, FilesClosed}
+use Rattle.spr_run.proofs.PlayLaws.{ready, played, phases-have}
 use Rattle.spr_run.proofs.play.play.Goals as goal
 
 pub run_phases-requires-clause-clients : goal.run_phases-requires-clause-clients
 run_phases-requires-clause-clients g c κs within =
     subst (λ (cs : List Client). AreReady c.args.setting.now c.args.towers.now cs) (sym c.deref_mut.ensures.value)
     (ready c.args.setting.now (length c.args.script.now.clients) c.args.towers.now c.in_ok-clients.clients.items (c.in_ok-clients.ensures.len ∙ ap length c.as_slice-count.ensures) c.requires.towers c.in_ok-clients.ensures.fresh c.in_ok-clients.ensures.callers)
+
+pub run_phases-requires-clause-each : goal.run_phases-requires-clause-each
+run_phases-requires-clause-each g c κs within =
+    let count : length c.deref_mut.result.now ≡ length c.args.script.now.clients = ap length c.deref_mut.ensures.value ∙ (c.in_ok-clients.ensures.len ∙ ap length c.as_slice-count.ensures) in
+    subst (λ n. AllByRecursion (HaveClients n) c.as_slice.result.now) (sym count)
+    (subst (λ (ps : List (List CallLine)). AllByRecursion (HaveClients (length c.args.script.now.clients)) ps) (sym c.as_slice.ensures)
+    (phases-have (length c.args.script.now.clients) (suc (length c.args.script.now.clients)) c.args.script.now.phases c.requires.script.phases))
 
 pub returns-clause-played : goal.returns-clause-played
 returns-clause-played g c =

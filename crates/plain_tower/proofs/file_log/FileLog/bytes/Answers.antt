@@ -1,6 +1,5 @@
-use Rattle.std.proofs.Common.{◌≡◌, ◌*◌, ap, length, ◌∙◌, subst}
+use Rattle.std.proofs.Common.{◌*◌, ap, length, ◌∙◌}
 use Rattle.hist_plain.specs.File.{File}
-use Rattle.run_defs.specs.Log.{file_of}
 use Rattle.plain_tower.specs.Seen.{LogSeen}
 use Rattle.run_defs.proofs.Histories.{length-file_of}
 use Rattle.plain_tower.proofs.file_log.FileLog.bytes.Goals as goal

@@ -1,9 +1,9 @@
-use Rattle.std.proofs.Common.{◌≡◌, ◌+◌, ◌<◌, ◌∙◌, ℕ, length, Some, ap, refl, sym, subst}
-use Rattle.hist_plain.specs.Event.{caller_of, number_of}
+use Rattle.std.proofs.Common.{◌≡◌, ◌<◌, length, ap, refl, sym, subst}
+use Rattle.hist_plain.specs.Event.{number_of}
 use Rattle.hist_plain.specs.Plain.{Suits}
 use Rattle.hist_plain.specs.History.{mine}
 use Rattle.run_defs.specs.declared.log.Logged.TheVariants.{Entered}
-use Rattle.run_defs.specs.Log.{trail_of, file_of, place_of, more}
+use Rattle.run_defs.specs.Log.{trail_of, file_of, place_of}
 use Rattle.run_defs.proofs.Logs.{log-is}
 use Rattle.plain_tower.specs.Seen.{LogSeen}
 use Rattle.plain_tower.proofs.LogSteps.{log-entered, count-fits}

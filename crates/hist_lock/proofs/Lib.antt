@@ -1,0 +1,4 @@
+pub mod Lists
+pub mod RuleLemmas
+pub mod Seen
+pub mod SampleLemmas

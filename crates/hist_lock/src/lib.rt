@@ -1,0 +1,15 @@
+//! A lock round a value that keeps a list that only grows. What a seat knows of the list is a beginning of it, and a
+//! value that is taken goes on from there with no entry of the seat's own callers.
+#![tactic(auto)]
+
+mod lock;
+mod rule;
+mod sample;
+mod storied;
+#[cfg(test)]
+mod tests;
+mod threads;
+mod view;
+
+pub use lock::{HistLock, Seat};
+pub use storied::Storied;

@@ -1,0 +1,159 @@
+//! Two trails, worked out by hand.
+
+ghost use Rattle.std.specs.Prelude.{◌≡◌, ◌<◌, length};
+ghost use Rattle.hist_plain.specs.Plain.{IsTree};
+
+use super::*;
+use hist_plain::{Bytes, Event, Keep, Op, fits};
+use run_defs::Logged;
+use spr_io::MemStore;
+use std::alloc::{AllocError, Global};
+use std::process::Abort;
+use std::test::Fail;
+
+/// What a caller asks, of the first page.
+#[derive(Clone, Copy)]
+enum Wish {
+    Open,
+    Read,
+    Write,
+    Sync,
+}
+
+/// Does what is asked at a node.
+fn ask(
+    rt: &impl Abort,
+    alloc: Global,
+    tower: &mut Tower<MemStore>,
+    caller: u32,
+    node: u32,
+    wish: Wish,
+) -> Result<(), Fail>
+    requires size { tower.old.log.shape.page_size ≡ 64 }
+    requires pages { tower.old.log.pages ≡ 2 }
+    requires caller { caller < tower.old.log.callers }
+    requires node { (0 < node) × (node < length tower.old.log.shape.parents) }
+    ensures shape { tower.new.log.shape ≡ tower.old.log.shape }
+    ensures pages { tower.new.log.pages ≡ tower.old.log.pages }
+    ensures callers { tower.new.log.callers ≡ tower.old.log.callers }
+{
+    let (page, off, len) = (0, 0, 4);
+    let mut out = [0; 4];
+    let done = match wish {
+        Wish::Open => tower.access(caller, node, 0, Op::Open, &mut []),
+        Wish::Read => {
+            let op = Op::Read { page, off, len };
+            assert!(rt; fits(&op, 64, 2));
+            tower.access(caller, node, 0, op, &mut out)
+        }
+        Wish::Write => {
+            let bytes = Bytes::of(alloc, b"abcd")?;
+            let op = Op::Write { page, off, bytes };
+            assert!(rt; fits(&op, 64, 2));
+            tower.access(caller, node, 0, op, &mut [])
+        }
+        Wish::Sync => tower.sync(caller, node, Keep::Write),
+    };
+    assert!(rt; done.is_ok());
+    Ok(())
+}
+
+/// What an access is, in short.
+fn short_op(op: &Op) -> &'static str {
+    match op {
+        Op::Open => "open",
+        Op::Read { .. } => "read",
+        Op::Write { .. } => "write",
+        Op::Clear { .. } => "clear",
+    }
+}
+
+/// An entry in short.
+fn short(alloc: Global, entry: &Logged) -> Result<String, AllocError> {
+    let Logged::Entered { event } = entry else {
+        return format!(in alloc; "note; ");
+    };
+    match event {
+        Event::Access { node, op, .. } => {
+            let done = short_op(op);
+            format!(in alloc; "{done} {node}; ")
+        }
+        Event::ZeroFill { node, page, write } => {
+            format!(in alloc; "zero fill {node} {page} {write}; ")
+        }
+        Event::PageIn { node, page, write } => format!(in alloc; "page in {node} {page} {write}; "),
+        Event::SyncOut { node, page } => format!(in alloc; "sync out {node} {page}; "),
+        Event::DenyWrites { node, page } => format!(in alloc; "deny {node} {page}; "),
+        Event::Synced { node, from, .. } => format!(in alloc; "synced {node} from {from}; "),
+        _ => format!(in alloc; "another; "),
+    }
+}
+
+/// Follows the wishes over a store of zeros, and compares the log with what is expected.
+fn follow(
+    rt: &impl Abort,
+    alloc: Global,
+    parents: &[u32],
+    wishes: &[(u32, u32, Wish)],
+    want: &str,
+) -> Result<(), Fail>
+    requires { IsTree parents.now }
+{
+    let store = MemStore::new(alloc, 64, 2, &[], &[], &[])?;
+    let opening = Opening {
+        page_size: 64,
+        parents,
+        pages: 2,
+        disk: 0,
+        callers: 2,
+    };
+    let Ok(mut tower) = open(alloc, &opening, store) else {
+        panic!(rt; "the file is not open");
+    };
+    for (caller, node, wish) in wishes {
+        assert!(rt; *caller < 2 && *node > 0 && (*node as usize) < parents.len());
+        ask(rt, alloc, &mut tower, *caller, *node, *wish)?;
+    }
+    let (_store, history) = tower.close();
+    let mut told = String::new(alloc);
+    for entry in history.log.as_slice() {
+        told.push_str(short(alloc, entry)?.as_str())?;
+    }
+    assert_eq!(rt; told.as_str(), want);
+    Ok(())
+}
+
+/// One layer on the disk, and a layer on it.
+#[test]
+fn trails(rt: HostRuntime) -> Result<(), Fail> {
+    let alloc = rt.alloc();
+    let one = [
+        (0, 1, Wish::Open),
+        (0, 1, Wish::Write),
+        (0, 1, Wish::Read),
+        (0, 1, Wish::Sync),
+        (1, 1, Wish::Sync),
+    ];
+    follow(
+        &rt,
+        alloc,
+        &[0, 0],
+        &one,
+        "open 1; zero fill 1 0 true; write 1; read 1; sync out 1 0; synced 1 from 4; synced 1 from 6; ",
+    )?;
+    let two = [
+        (0, 2, Wish::Open),
+        (0, 2, Wish::Write),
+        (0, 1, Wish::Open),
+        (0, 1, Wish::Read),
+        (1, 1, Wish::Sync),
+    ];
+    follow(
+        &rt,
+        alloc,
+        &[0, 0, 1],
+        &two,
+        "open 2; zero fill 1 0 true; zero fill 2 0 true; write 2; open 1; deny 2 0; read 1; sync out 1 0; synced 1 from 7; ",
+    )?;
+    Ok(())
+}

@@ -1,0 +1,4 @@
+pub mod Names
+pub mod OneDisk
+pub mod Upper
+pub mod BuiltLaws
