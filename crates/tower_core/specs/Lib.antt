@@ -1,4 +1,5 @@
 pub mod TreeShape
+pub mod Flags
 pub mod Count
 pub mod Tournament
 pub mod Lowest

@@ -11,7 +11,7 @@ ghost use Rattle.tower_core.specs.declared.lowest.Lowest.{Lowest as ALowest};
 
 use crate::lowest::Lowest;
 use crate::page::Page;
-use crate::{Right, Step, Tree};
+use crate::{Right, Step, Tree, subtree};
 use hist_plain::{Event, Op};
 use std::alloc::{AllocError, Global};
 
@@ -193,8 +193,9 @@ impl Sheet {
         requires { nodes tree.now ≡ nodes_of self.now }
         ensures { IsTrue result ↔ IsSubtreeEmpty tree.now (pages_of self.now) (seen self.now) top }
     {
+        let within = subtree(tree, top);
         for node in 0..tree.nodes() {
-            if tree.within(node, top) && !self.holds_nothing(node) {
+            if within[node as usize] && !self.holds_nothing(node) {
                 return false;
             }
         }
@@ -458,8 +459,9 @@ fn raise_lives(lives: &mut [u32], tree: &Tree, top: u32)
     requires room { All (λ life. life < 4194304) lives.old }
     ensures { (n : ℕ) → slice_index lives.new n ≡ lives_after tree.now (slice_index lives.old) top n }
 {
+    let within = subtree(tree, top);
     for node in 0..tree.nodes() {
-        if tree.within(node, top) {
+        if within[node as usize] {
             lives[node as usize] += 1;
         }
     }

@@ -4,19 +4,10 @@ use Rattle.std.proofs.Math.ListN.{set}
 use Rattle.std.proofs.lemmas.List.{get_or-set_same, get_or-replicate}
 use Rattle.tower_core.specs.TreeShape.{TreeShape, parent, nodes, is_within, IsUpper, IsTree}
 use Rattle.tower_core.proofs.Paths.{is_within-same, is_within-ground, is_within-parent, ground_on_path}
+use Rattle.tower_core.proofs.Flags.{set_other}
 use Rattle.tower_plan.proofs.Rules.{same_or_not}
 
-set_other : {A : Type 0} (xs : List A) (i n : ℕ) (v d : A) → n ≢ i → get_or (set xs i v) n d ≡ get_or xs n d
-set_other xs i n v d other = get_or-set_other xs i n v d other
-
--- one more value in its place
-pub filled : {A : Type 0} (xs : List A) (i : ℕ) (v d : A) (f : ℕ → A) → i < length xs → v ≡ f i → ((n : ℕ) → n < i → get_or xs n d ≡ f n) → (n : ℕ) → n < i + 1 → get_or (set xs i v) n d ≡ f n
-filled xs i v d f inside is done n lt = elim (same_or_not n i) [
-  | inl same ↦ subst (λ m. get_or (set xs i v) m d ≡ f m) (sym same) (get_or-set_same xs i v d inside ∙ is)
-  | inr other ↦ set_other xs i n v d other ∙ done n (omega arith)
-]
-
--- the same of a bound
+-- one more number in its place, which keeps its bound
 pub filled_low : (xs : List ℕ) (i v : ℕ) → i < length xs → v ≤ i → ((n : ℕ) → n < i → get_or xs n 0 ≤ n) → (n : ℕ) → n < i + 1 → get_or (set xs i v) n 0 ≤ n
 filled_low xs i v inside is done n lt = elim (same_or_not n i) [
   | inl same ↦ subst (λ m. get_or (set xs i v) m 0 ≤ m) (sym same) (omega (arith, get_or-set_same xs i v 0 inside))

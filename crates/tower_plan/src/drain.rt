@@ -6,12 +6,12 @@ ghost use Rattle.tower_core.specs.Column.{IsCoherent};
 ghost use Rattle.tower_core.specs.Trail.{HoldsNothing, IsAllowed, IsSubtreeEmpty, state_after};
 ghost use Rattle.tower_plan.specs.Plan.{IfDo};
 ghost use Rattle.tower_plan.specs.Drain.{IsDrainAnswer, IsFirstHolder, IsLowestHeld, NoHolder, rights_below};
-ghost use Rattle.tower_plan.specs.Table.{AreFlags};
+ghost use Rattle.tower_core.specs.Flags.{AreFlags};
 
 use crate::plan::revoke;
-use crate::table::{depths, subtree};
+use crate::table::depths;
 use crate::{Next, Rights};
-use tower_core::{Right, Tree};
+use tower_core::{Right, Tree, subtree};
 
 /// The event that comes next on the way to the end of the channels of a subtree. On the lowest page
 /// on which a node of the subtree has a right, the deepest such node, and of equal depth the one of

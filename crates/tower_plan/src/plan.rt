@@ -23,7 +23,8 @@ pub enum Next {
 ghost use Rattle.tower_plan.specs.Plan.{IfDo, IsAnswer, IsFirstHindrance, IsFirstLacking, IsReady, IsVictim, MayAccessFor, NoHindrance, NoneLacks, cost_of, hinders, is_full, is_left, is_write, lacks, must_change, revoking};
 ghost use Rattle.tower_core.specs.Count.{count_below};
 ghost use Rattle.tower_core.specs.TreeShape.{is_within};
-ghost use Rattle.tower_plan.specs.Table.{AreFlags, AreNumbers};
+ghost use Rattle.tower_core.specs.Flags.{AreFlags};
+ghost use Rattle.tower_plan.specs.Table.{AreNumbers};
 
 /// Whether a node on the path lacks what is wanted.
 fn lacks(want: Right, right: Right) -> bool

@@ -1,9 +1,10 @@
-//! What the rules ask of the tree, worked out once per call: a path, a subtree and the depths.
+//! What the rules ask of the tree, worked out once per call: a path and the depths.
 
 ghost use Rattle.std.specs.Prelude.{◌<◌, ◌≡◌};
 ghost use Rattle.tower_core.specs.TreeShape.{is_within, nodes};
 ghost use Rattle.tower_plan.specs.Plan.{depth_of};
-ghost use Rattle.tower_plan.specs.Table.{AreFlags, AreNumbers};
+ghost use Rattle.tower_core.specs.Flags.{AreFlags};
+ghost use Rattle.tower_plan.specs.Table.{AreNumbers};
 
 use tower_core::Tree;
 
@@ -21,30 +22,6 @@ pub fn path(tree: &Tree, node: u32) -> [bool; 32]
     }
     on[0] = true;
     on
-}
-
-/// Which nodes are the top or below it.
-pub fn subtree(tree: &Tree, top: u32) -> [bool; 32]
-    ensures { AreFlags (λ node. is_within tree.now node top) (nodes tree.now) result }
-{
-    let mut within = [false; 32];
-    for node in 0..tree.nodes() {
-        within[node as usize] = is_next_within(tree, &within, node, top);
-    }
-    within
-}
-
-/// Whether a node is the top or below it, where that is known of each earlier node.
-fn is_next_within(tree: &Tree, earlier: &[bool; 32], node: u32, top: u32) -> bool
-    requires node_in { node < nodes tree.now }
-    requires earlier { AreFlags (λ n. is_within tree.now n top) node earlier.now }
-    ensures { result ≡ is_within tree.now node top }
-{
-    let _nodes = tree.nodes();
-    if node == top {
-        return true;
-    }
-    node != 0 && earlier[tree.parent(node) as usize]
 }
 
 /// How many steps up from each node the ground is.

@@ -2,7 +2,8 @@ use Rattle.std.proofs.Common.{◌∙◌, ◌+◌, arith, ap, sym, length-set}
 use Rattle.tower_core.specs.TreeShape.{IsChild}
 use Rattle.tower_plan.specs.Plan.{depth_of}
 use Rattle.tower_plan.proofs.Rules.{depth_of-child}
-use Rattle.tower_plan.proofs.Tables.{filled, filled_low}
+use Rattle.tower_core.proofs.Flags.{filled}
+use Rattle.tower_plan.proofs.Tables.{filled_low}
 use Rattle.tower_plan.proofs.table.depths.Goals as goal
 
 pub loop-node-preserved : goal.loop-node-preserved

@@ -1,6 +1,6 @@
 use Rattle.std.proofs.Common.{◌≡◌, ◌<◌, ℕ, false, length, get_or}
 use Rattle.tower_core.specs.TreeShape.{is_within}
-use Rattle.tower_plan.proofs.table.subtree.Given as goal
+use Rattle.tower_core.proofs.below.subtree.Given as goal
 
 abbrev pub invariant-loop-node : goal.invariant-loop-node
 invariant-loop-node l = record {

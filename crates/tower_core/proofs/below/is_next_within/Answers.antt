@@ -1,7 +1,7 @@
 use Rattle.std.proofs.Common.{◌∙◌, arith, ap, sym}
 use Rattle.tower_core.specs.TreeShape.{is_within, IsUpper}
 use Rattle.tower_core.proofs.Paths.{is_within-parent}
-use Rattle.tower_plan.proofs.table.is_next_within.Goals as goal
+use Rattle.tower_core.proofs.below.is_next_within.Goals as goal
 
 pub returns-then-node-ne0 : goal.returns-then-node-ne0
 returns-then-node-ne0 c =

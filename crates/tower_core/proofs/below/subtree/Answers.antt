@@ -1,7 +1,7 @@
 use Rattle.std.proofs.Common.{◌∙◌, arith, false, length-set}
 use Rattle.tower_core.specs.TreeShape.{is_within}
-use Rattle.tower_plan.proofs.Tables.{filled}
-use Rattle.tower_plan.proofs.table.subtree.Goals as goal
+use Rattle.tower_core.proofs.Flags.{filled}
+use Rattle.tower_core.proofs.below.subtree.Goals as goal
 
 pub loop-node-preserved : goal.loop-node-preserved
 loop-node-preserved c =
