@@ -1,0 +1,11 @@
+pub mod TokenLaws
+pub mod Refusals
+pub mod WordLaws
+pub mod TypeLaws
+pub mod Results
+pub mod Many
+pub mod Bases
+pub mod Found
+pub mod Again
+pub mod Printed
+pub mod Exactly

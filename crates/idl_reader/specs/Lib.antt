@@ -1,0 +1,9 @@
+pub mod Why
+pub mod Words
+pub mod Tokens
+pub mod Left
+pub mod Tree
+pub mod Grammar
+pub mod Places
+pub mod Spelling
+pub mod Reading
