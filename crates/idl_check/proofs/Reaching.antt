@@ -1,0 +1,273 @@
+-- The table of what reaches what is right.
+use Rattle.std.proofs.Common.{◌≡◌, ℕ, zero, suc, ◌+◌, ◌<◌, ◌≤◌, List, [], ◌∷◌, length, map, Bool, true, false, ◌&&◌, ◌||◌, get_or, cond, count_by, Option, Some, None, add-zero, ◌⊎◌, refl, sym, ap, subst, ◌∙◌, arith}
+use Rattle.std.proofs.Common.{inl, inr}
+use Rattle.std.proofs.lemmas.Bool.{or_cases, and_parts, cases_lt}
+use Rattle.std.proofs.lemmas.List.Recursion.{is_count_by}
+use Rattle.std.proofs.lemmas.List.{get_or-map, length-map}
+use Rattle.idl_reader.specs.Tree.{DeclTree}
+use Rattle.idl_check.specs.Reach.{at, Reaches, Step, Onward, direct, direct_row, either_row, through_row, through, ways, reached, ranks_of}
+use Rattle.idl_check.specs.Names.{decl_name}
+use Rattle.idl_check.specs.declared.why.UnfitWhy.{UnfitWhy}
+use Rattle.idl_check.specs.declared.why.UnfitWhy.TheVariants.{Repeated, UnknownType, NotInterface, Cycle}
+use Rattle.idl_check.specs.declared.why.IdlUnfit.{IdlUnfit}
+use Rattle.idl_check.specs.Verdict.{repeat_in, first_unknown, first_wrong_base, cycle_from, first_cycle, or_unfit, unfit}
+use Rattle.idl_check.proofs.Ways.{length-through}
+
+-- beyond the end there is nothing
+get_or_beyond : {X : Type 0} (xs : List X) (i : ℕ) (d : X) → length xs ≤ i → get_or xs i d ≡ d
+get_or_beyond [] i d h = refl
+get_or_beyond (x ∷ xs) zero d h = absurd (omega arith)
+get_or_beyond (x ∷ xs) (suc i) d h = get_or_beyond xs i d (omega arith)
+
+length-either : (row via : List Bool) → length (either_row row via) ≡ length row
+length-either [] via = refl
+length-either (a ∷ row) [] = ap (λ n. suc n) (length-either row [])
+length-either (a ∷ row) (b ∷ via) = ap (λ n. suc n) (length-either row via)
+
+or_nothing : (b : Bool) → b ≡ (b || false)
+or_nothing true = refl
+or_nothing false = refl
+
+either_at : (row via : List Bool) (j : ℕ) → j < length row → get_or (either_row row via) j false ≡ (get_or row j false || get_or via j false)
+either_at [] via j below = absurd (omega arith)
+either_at (a ∷ row) [] zero below = or_nothing a
+either_at (a ∷ row) [] (suc j) below = either_at row [] j (omega arith)
+either_at (a ∷ row) (b ∷ via) zero below = refl
+either_at (a ∷ row) (b ∷ via) (suc j) below = either_at row via j (omega arith)
+
+length-through_row : (k : ℕ) (via row : List Bool) → length (through_row k via row) ≡ length row
+length-through_row k via row = cases (get_or row k false) where
+  cases : (b : Bool) → length (cond b (either_row row via) row) ≡ length row
+  cases true = length-either row via
+  cases false = refl
+
+through_row_at : (k : ℕ) (via row : List Bool) (j : ℕ) → j < length row → get_or (through_row k via row) j false ≡ (get_or row j false || (get_or row k false && get_or via j false))
+through_row_at k via row j below = cases (get_or row k false) where
+  cases : (b : Bool) → get_or (cond b (either_row row via) row) j false ≡ (get_or row j false || (b && get_or via j false))
+  cases true = either_at row via j below
+  cases false = or_nothing (get_or row j false)
+
+-- as many rows as there are declarations, and as many answers in each
+record Square (n : ℕ) (rows : List (List Bool)) : Type 0 where
+  tall : length rows ≡ n
+  wide : (i : ℕ) → i < n → length (get_or rows i []) ≡ n
+
+row_through : (k i : ℕ) (rows : List (List Bool)) → i < length rows → get_or (through k rows) i [] ≡ through_row k (get_or rows k []) (get_or rows i [])
+unfolding through
+row_through k i rows below = get_or-map (λ row. through_row k (get_or rows k []) row) rows i [] [] below
+
+square_through : (n k : ℕ) (rows : List (List Bool)) → Square n rows → Square n (through k rows)
+square_through n k rows s = record {
+  tall = length-through k rows ∙ s.tall;
+  wide = λ i below.
+      let tall = s.tall in
+      ap length (row_through k i rows (omega arith)) ∙ length-through_row k (get_or rows k []) (get_or rows i []) ∙ s.wide i below;
+}
+
+at_through : (n k i j : ℕ) (rows : List (List Bool)) → Square n rows → i < n → j < n → at (through k rows) i j ≡ (at rows i j || (at rows i k && at rows k j))
+at_through n k i j rows s below within =
+    let tall = s.tall in
+    let wide = s.wide i below in
+    ap (λ row. get_or row j false) (row_through k i rows (omega arith)) ∙ through_row_at k (get_or rows k []) (get_or rows i []) j (omega arith)
+
+-- only within the table is an answer is
+at_within : (n i j : ℕ) (rows : List (List Bool)) → Square n rows → at rows i j ≡ true → (i < n) × (j < n)
+at_within n i j rows s is = rows_first (cases_lt i n) where
+  no_row : n ≤ i → ⊥
+  no_row h =
+      let tall = s.tall in
+      let none : get_or rows i [] ≡ [] = get_or_beyond rows i [] (omega arith) in
+      let isnt : get_or (get_or rows i []) j false ≡ false = ap (λ row. get_or row j false) none in
+      let both = sym isnt ∙ is in
+      absurd cc
+
+  columns : i < n → (j < n) ⊎ (n ≤ j) → (i < n) × (j < n)
+  columns below (inl within) = (below, within)
+  columns below (inr beyond) =
+      let wide = s.wide i below in
+      let isnt = get_or_beyond (get_or rows i []) j false (omega arith) in
+      let both = sym isnt ∙ is in
+      absurd cc
+
+  rows_first : (i < n) ⊎ (n ≤ i) → (i < n) × (j < n)
+  rows_first (inl below) = columns below (cases_lt j n)
+  rows_first (inr beyond) = absurd (no_row beyond)
+
+reaches_on : (rows : List (List Bool)) (i j k : ℕ) → Reaches rows i j → Reaches rows j k → Reaches rows i k
+reaches_on rows i j k (Step i' j' is) onward = Onward i' j' k is onward
+reaches_on rows i j k (Onward i' m j' is rest) onward = Onward i' m k is (reaches_on rows m j' k rest onward)
+
+-- what holds of the ways through the first k declarations
+record Right (n k : ℕ) (base rows : List (List Bool)) : Type 0 where
+  square : Square n rows
+  sound : (i j : ℕ) → at rows i j ≡ true → Reaches base i j
+  more : (i j : ℕ) → at base i j ≡ true → at rows i j ≡ true
+  joined : (m i j : ℕ) → m < k → at rows i m ≡ true → at rows m j ≡ true → at rows i j ≡ true
+
+or_first : (a b : Bool) → a ≡ true → (a || b) ≡ true
+or_first a b e = ap (λ t. t || b) e
+
+or_second : (a b : Bool) → b ≡ true → (a || b) ≡ true
+or_second true b e = refl
+or_second false b e = e
+
+and_both : (a b : Bool) → a ≡ true → b ≡ true → (a && b) ≡ true
+and_both a b e f = ap (λ t. t && b) e ∙ f
+
+-- an answer is through the k-th: directly, or by it
+by_through : (n k i j : ℕ) (rows : List (List Bool)) → Square n rows → at (through k rows) i j ≡ true → (at rows i j ≡ true) ⊎ ((at rows i k ≡ true) × (at rows k j ≡ true))
+by_through n k i j rows s is = either (or_cases (at rows i j) (at rows i k && at rows k j) (sym (at_through n k i j rows s inside.0 inside.1) ∙ is)) where
+  inside : (i < n) × (j < n)
+  inside = at_within n i j (through k rows) (square_through n k rows s) is
+
+  either : (at rows i j ≡ true) ⊎ ((at rows i k && at rows k j) ≡ true) → (at rows i j ≡ true) ⊎ ((at rows i k ≡ true) × (at rows k j ≡ true))
+  either (inl direct_way) = inl direct_way
+  either (inr both) = inr (and_parts (at rows i k) (at rows k j) both)
+
+kept : (n k i j : ℕ) (rows : List (List Bool)) → Square n rows → at rows i j ≡ true → at (through k rows) i j ≡ true
+kept n k i j rows s is =
+    let inside = at_within n i j rows s is in
+    at_through n k i j rows s inside.0 inside.1 ∙ or_first (at rows i j) (at rows i k && at rows k j) is
+
+added : (n k i j : ℕ) (rows : List (List Bool)) → Square n rows → at rows i k ≡ true → at rows k j ≡ true → at (through k rows) i j ≡ true
+added n k i j rows s first second =
+    let a = at_within n i k rows s first in
+    let b = at_within n k j rows s second in
+    at_through n k i j rows s a.0 b.1 ∙ or_second (at rows i j) (at rows i k && at rows k j) (and_both (at rows i k) (at rows k j) first second)
+
+right_next : (n k : ℕ) (base rows : List (List Bool)) → Right n k base rows → Right n (suc k) base (through k rows)
+right_next n k base rows r = record {
+  square = square_through n k rows r.square;
+  sound = λ i j is. sound_by i j (by_through n k i j rows r.square is);
+  more = λ i j is. kept n k i j rows r.square (r.more i j is);
+  joined = λ m i j below first second. joined_by m i j below (by_through n k i m rows r.square first) (by_through n k m j rows r.square second);
+} where
+  sound_by : (i j : ℕ) → (at rows i j ≡ true) ⊎ ((at rows i k ≡ true) × (at rows k j ≡ true)) → Reaches base i j
+  sound_by i j (inl is) = r.sound i j is
+  sound_by i j (inr both) = reaches_on base i k j (r.sound i k both.0) (r.sound k j both.1)
+
+  -- the ways to and from m
+  through_k : (m i j : ℕ) → m ≡ k → at rows i k ≡ true → at rows k j ≡ true → at (through k rows) i j ≡ true
+  through_k m i j same first second = added n k i j rows r.square first second
+
+  joined_by : (m i j : ℕ) → m < suc k → (at rows i m ≡ true) ⊎ ((at rows i k ≡ true) × (at rows k m ≡ true)) → (at rows m j ≡ true) ⊎ ((at rows m k ≡ true) × (at rows k j ≡ true)) → at (through k rows) i j ≡ true
+  joined_by m i j below (inr a) (inr b) = added n k i j rows r.square a.0 b.1
+  joined_by m i j below (inl a) (inl b) = here (cases_lt m k) where
+    here : (m < k) ⊎ (k ≤ m) → at (through k rows) i j ≡ true
+    here (inl low) = kept n k i j rows r.square (r.joined m i j low a b)
+    here (inr high) =
+        let same : m ≡ k = omega arith in
+        added n k i j rows r.square (subst (λ x. at rows i x ≡ true) same a) (subst (λ x. at rows x j ≡ true) same b)
+  joined_by m i j below (inl a) (inr b) = here (cases_lt m k) where
+    here : (m < k) ⊎ (k ≤ m) → at (through k rows) i j ≡ true
+    here (inl low) = added n k i j rows r.square (r.joined m i k low a b.0) b.1
+    here (inr high) =
+        let same : m ≡ k = omega arith in
+        added n k i j rows r.square (subst (λ x. at rows i x ≡ true) same a) b.1
+  joined_by m i j below (inr a) (inl b) = here (cases_lt m k) where
+    here : (m < k) ⊎ (k ≤ m) → at (through k rows) i j ≡ true
+    here (inl low) = added n k i j rows r.square a.0 (r.joined m k j low a.1 b)
+    here (inr high) =
+        let same : m ≡ k = omega arith in
+        added n k i j rows r.square a.0 (subst (λ x. at rows x j ≡ true) same b)
+
+right_ways : (n k : ℕ) (base : List (List Bool)) → Square n base → Right n k base (ways k base)
+unfolding ways
+right_ways n zero base s = record { square = s; sound = λ i j is. Step i j is; more = λ i j is. is; joined = λ m i j below a b. absurd (omega arith) }
+right_ways n (suc k) base s = right_next n k base (ways k base) (right_ways n k base s)
+
+wide_at : (all some : List DeclTree) (i : ℕ) → i < length some → length (get_or (map (λ d. direct_row all d) some) i []) ≡ length all
+unfolding direct_row
+wide_at all [] i below = absurd (omega arith)
+wide_at all (d ∷ ds) zero below = length-map all _
+wide_at all (d ∷ ds) (suc i) below = wide_at all ds i (omega arith)
+
+direct_square : (decls : List DeclTree) → Square (length decls) (direct decls)
+direct_square decls = record { tall = length-map decls (λ d. direct_row decls d); wide = λ i below. wide_at decls decls i below }
+
+complete : (n : ℕ) (base rows : List (List Bool)) → Square n base → Right n n base rows → (i j : ℕ) → Reaches base i j → at rows i j ≡ true
+complete n base rows s r i j (Step i' j' is) = r.more i' j' is
+complete n base rows s r i j (Onward i' m j' is rest) =
+    let inside = at_within n i' m base s is in
+    r.joined m i' j' inside.1 (r.more i' m is) (complete n base rows s r m j' rest)
+
+pub reached_sound : (decls : List DeclTree) (i j : ℕ) → at (reached decls) i j ≡ true → Reaches (direct decls) i j
+reached_sound decls i j is = (right_ways (length decls) (length decls) (direct decls) (direct_square decls)).sound i j is
+
+pub reached_complete : (decls : List DeclTree) (i j : ℕ) → Reaches (direct decls) i j → at (reached decls) i j ≡ true
+reached_complete decls i j way = complete (length decls) (direct decls) (reached decls) (direct_square decls) (right_ways (length decls) (length decls) (direct decls) (direct_square decls)) i j way
+
+abbrev trues : List Bool → ℕ
+trues [] = 0
+trues (b ∷ bs) = cond b (1 + trues bs) (trues bs)
+
+counts : (bs : List Bool) → trues bs ≡ count_by (λ b. b) bs
+counts bs = is_count_by trues (λ b. b) refl (λ b cs. refl) bs
+
+-- a row that has all of another and one more counts more
+count_least : (few more : List Bool) → length few ≡ length more → ((k : ℕ) → get_or few k false ≡ true → get_or more k false ≡ true) → trues few ≤ trues more
+count_least [] more e sub = omega arith
+count_least (f ∷ few) [] e sub = absurd (omega arith)
+count_least (f ∷ few) (m ∷ more) e sub = heads f m (sub 0) (count_least few more (omega arith) (λ k. sub (suc k))) where
+  heads : (a b : Bool) → (a ≡ true → b ≡ true) → trues few ≤ trues more → trues (a ∷ few) ≤ trues (b ∷ more)
+  heads true true h rest = omega arith
+  heads true false h rest = let isnt = h refl in absurd cc
+  heads false true h rest = omega arith
+  heads false false h rest = omega arith
+
+count_less : (few more : List Bool) → length few ≡ length more → ((k : ℕ) → get_or few k false ≡ true → get_or more k false ≡ true) → (m : ℕ) → get_or few m false ≡ false → get_or more m false ≡ true → trues few < trues more
+count_less [] [] e sub m isnt is = absurd cc
+count_less [] (b ∷ more) e sub m isnt is = absurd (omega arith)
+count_less (f ∷ few) [] e sub m isnt is = absurd (omega arith)
+count_less (f ∷ few) (b ∷ more) e sub zero isnt is = heads f b isnt is (count_least few more (omega arith) (λ k. sub (suc k))) where
+  heads : (a c : Bool) → a ≡ false → c ≡ true → trues few ≤ trues more → trues (a ∷ few) < trues (c ∷ more)
+  heads false true h g rest = omega arith
+  heads true c h g rest = absurd cc
+  heads false false h g rest = absurd cc
+count_less (f ∷ few) (b ∷ more) e sub (suc m) isnt is = heads f b (sub 0) (count_less few more (omega arith) (λ k. sub (suc k)) m isnt is) where
+  heads : (a c : Bool) → (a ≡ true → c ≡ true) → trues few < trues more → trues (a ∷ few) < trues (c ∷ more)
+  heads true true h rest = omega arith
+  heads true false h rest = let bad = h refl in absurd cc
+  heads false true h rest = omega arith
+  heads false false h rest = omega arith
+
+cycle_none : (rows : List (List Bool)) (i : ℕ) (ds : List DeclTree) → cycle_from rows i ds ≡ None → (k : ℕ) → k < length ds → at rows (i + k) (i + k) ≡ false
+cycle_none rows i [] none k below = absurd (omega arith)
+cycle_none rows i (d ∷ ds) none zero below = cases (at rows i i) refl none where
+  cases : (b : Bool) → at rows i i ≡ b → cond b (Some (decl_name d).place) (cycle_from rows (i + 1) ds) ≡ None → at rows (i + 0) (i + 0) ≡ false
+  cases true e h = absurd cc
+  cases false e h = ap (λ n. at rows n n) (add-zero i) ∙ e
+cycle_none rows i (d ∷ ds) none (suc k) below = cases (at rows i i) none (λ h. cycle_none rows (i + 1) ds h k (omega arith)) where
+  cases : (b : Bool) → cond b (Some (decl_name d).place) (cycle_from rows (i + 1) ds) ≡ None → (cycle_from rows (i + 1) ds ≡ None → at rows (i + 1 + k) (i + 1 + k) ≡ false) → at rows (i + suc k) (i + suc k) ≡ false
+  cases true h rest = absurd cc
+  cases false h rest = let same : i + suc k ≡ i + 1 + k = omega arith in ap (λ n. at rows n n) same ∙ rest h
+
+none_of : (why : UnfitWhy) (o : Option ℕ) (other : Option IdlUnfit) → or_unfit why o other ≡ None → (o ≡ None) × (other ≡ None)
+none_of why None other e = (refl, e)
+none_of why (Some place) other e = absurd cc
+
+pub no_cycle : (decls : List DeclTree) → unfit decls ≡ None → (i : ℕ) → i < length decls → at (reached decls) i i ≡ false
+unfolding unfit
+no_cycle decls fit i below =
+    let a = none_of Repeated (repeat_in [] decls) _ fit in
+    let b = none_of UnknownType (first_unknown decls) _ a.1 in
+    let c = none_of NotInterface (first_wrong_base decls) _ b.1 in
+    let d = none_of Cycle (first_cycle decls) _ c.1 in
+    let same : 0 + i ≡ i = omega arith in
+    sym (ap (λ n. at (reached decls) n n) same) ∙ cycle_none (reached decls) 0 decls d.0 i below
+
+-- what a declaration is made of has a smaller number
+pub rank_falls : (decls : List DeclTree) → unfit decls ≡ None → (i j : ℕ) → at (direct decls) i j ≡ true → get_or (ranks_of decls) j 0 < get_or (ranks_of decls) i 0
+rank_falls decls fit i j is =
+    let n = length decls in
+    let r = right_ways n n (direct decls) (direct_square decls) in
+    let inside = at_within n i j (direct decls) (direct_square decls) is in
+    let rows = reached decls in
+    let tall = r.square.tall in
+    let sub : (k : ℕ) → at rows j k ≡ true → at rows i k ≡ true = λ k h. r.joined j i k inside.1 (r.more i j is) h in
+    let less = count_less (get_or rows j []) (get_or rows i []) (r.square.wide j inside.1 ∙ sym (r.square.wide i inside.0)) sub j (no_cycle decls fit j inside.1) (r.more i j is) in
+    let a : get_or (ranks_of decls) j 0 ≡ count_by (λ b. b) (get_or rows j []) = get_or-map (λ row. count_by (λ b. b) row) rows j [] 0 (omega arith) in
+    let b : get_or (ranks_of decls) i 0 ≡ count_by (λ b. b) (get_or rows i []) = get_or-map (λ row. count_by (λ b. b) row) rows i [] 0 (omega arith) in
+    let c = counts (get_or rows j []) in
+    let d = counts (get_or rows i []) in
+    omega (arith, a, b, c, d, less)

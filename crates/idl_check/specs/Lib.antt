@@ -1,0 +1,5 @@
+pub mod Why
+pub mod Names
+pub mod Reach
+pub mod Verdict
+pub mod Fit
