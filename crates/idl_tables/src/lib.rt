@@ -1,0 +1,15 @@
+//! The operations of interfaces, with those that they inherit, and their numbers.
+#![tactic(auto)]
+
+mod entries;
+mod entry;
+mod lines;
+mod print;
+mod table_set;
+
+pub use entry::Entry;
+pub use lines::lines_and_bases;
+pub use table_set::{TableSet, print_tables, tables};
+
+#[cfg(test)]
+mod tests;
