@@ -1,0 +1,12 @@
+pub mod Trees
+pub mod Puts
+pub mod Steps
+pub mod Again
+pub mod Found
+pub mod One
+pub mod Texts
+pub mod Weights
+pub mod Fronts
+pub mod TypeTests
+pub mod Ranks
+pub mod Fitting

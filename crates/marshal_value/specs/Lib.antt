@@ -1,0 +1,10 @@
+pub mod Tree
+pub mod Spelling
+pub mod Room
+pub mod Types
+pub mod Reading
+pub mod Laws
+pub mod Decls
+pub mod Lookup
+pub mod KindView
+pub mod TypeTest
