@@ -1,0 +1,10 @@
+pub mod ShapeLaws
+pub mod EntryLaws
+pub mod HeaderLaws
+pub mod SeenLaws
+pub mod TableLaws
+pub mod RowLaws
+pub mod PageLaws
+pub mod MapLaws
+pub mod FreshLaws
+pub mod ImageLaws

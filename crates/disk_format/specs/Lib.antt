@@ -1,0 +1,5 @@
+pub mod Shape
+pub mod Why
+pub mod Table
+pub mod VersionOne
+pub mod Image
