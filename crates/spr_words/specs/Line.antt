@@ -1,0 +1,35 @@
+-- The command line of the program, as it is told to clap.
+use Rattle.std.specs.Prelude.{codes, true}
+use Rattle.clap.specs.Words.{App, Rule, Shape, Text, new_app, new_rule, with_rule, with_subcommand}
+
+-- a name that a command needs
+abbrev pub name : Text → Rule
+name id = record (new_rule id) { required = true }
+
+-- run IDL STACK SCRIPT
+abbrev pub run : Shape
+run = (with_rule (with_rule (with_rule (new_app (codes "run")) (name (codes "idl"))) (name (codes "stack"))) (name (codes "script"))).top
+
+-- check STACK
+abbrev pub check : Shape
+check = (with_rule (new_app (codes "check")) (name (codes "stack"))).top
+
+-- idl IDL
+abbrev pub idl : Shape
+idl = (with_rule (new_app (codes "idl")) (name (codes "idl"))).top
+
+-- no words of its own, no flag, and no call for help: a command must follow
+abbrev pub bare : App
+bare = record (new_app (codes "spring")) {
+  top = record (new_app (codes "spring")).top {
+    no_binary_name = true;
+    disable_help_flag = true;
+    disable_help_subcommand = true;
+    disable_version_flag = true;
+    subcommand_required = true;
+  };
+}
+
+-- the line is one of the commands with its names
+abbrev pub line : App
+line = with_subcommand (with_subcommand (with_subcommand bare run) check) idl
