@@ -3,8 +3,7 @@ use Rattle.std.proofs.Common.{◌≡◌, ℕ, List, [], ◌∷◌, ◌++◌, cod
 use Rattle.std.specs.Fmt.{decimal}
 use Rattle.spr_report.specs.declared.status.Status.{Status}
 use Rattle.spr_report.specs.declared.status.Status.TheVariants as statuses
-use Rattle.spr_run.specs.declared.refusal.Refusal.{Refusal}
-use Rattle.spr_run.specs.Refusal.{line_text, refusal_text, refusal_status}
+use Rattle.spr_run.specs.Refusal.{line_text}
 use Rattle.spr_run.specs.Ways.{Finishes, joined}
 
 -- the pieces of a refused line are its text
@@ -23,9 +22,3 @@ pub finishes-ended : (before after : Option (List ℕ)) (faults faults_after : �
     → Finishes before after faults faults_after (piece ++ end) status result → Finishes before after faults faults_after (text ++ end) status result
 finishes-ended before after faults faults_after piece text end status result is fin =
     subst (λ (t : List ℕ). Finishes before after faults faults_after (t ++ end) status result) is fin
-
--- the refusal of a check names its stack alone
-pub finishes-named : (before after : Option (List ℕ)) (faults faults_after : ℕ) (own name : List ℕ) (refusal : Refusal) (result : Status) → own ≡ name
-    → Finishes before after faults faults_after (refusal_text own [] refusal) (refusal_status refusal) result → Finishes before after faults faults_after (refusal_text name [] refusal) (refusal_status refusal) result
-finishes-named before after faults faults_after own name refusal result is fin =
-    subst (λ (n : List ℕ). Finishes before after faults faults_after (refusal_text n [] refusal) (refusal_status refusal) result) is fin

@@ -1,5 +1,5 @@
 -- How a command ends, from how its parts ended.
-use Rattle.std.proofs.Common.{◌≡◌, ◌⊎◌, ⊎_elim, inl, inr, ℕ, List, [], ◌∷◌, ◌++◌, length, get_or, codes, Bool, refl, sym, ap, subst, ◌∙◌, arith, append_assoc}
+use Rattle.std.proofs.Common.{◌≡◌, ℕ, List, [], ◌++◌, codes, Option, None, refl, subst}
 use Rattle.std.proofs.lemmas.List.{append-nil}
 use Rattle.std.specs.Option.{option_map}
 use Rattle.script_text.specs.declared.script.Script.{Script}
@@ -8,74 +8,96 @@ use Rattle.spr_report.specs.declared.status.Status.{Status}
 use Rattle.spr_report.specs.declared.status.Status.TheVariants as statuses
 use Rattle.spr_run.specs.declared.refusal.Refusal.{Refusal}
 use Rattle.spr_run.specs.declared.store.Stop.{Stop}
+use Rattle.spr_run.specs.Stacks.{TextNames}
 use Rattle.spr_run.specs.Refusal.{IsPrepared, IsCause, refusal_text, refusal_status}
 use Rattle.spr_run.specs.Store.{AtBay, Ran, RanOut, Stops, stop_text, stop_status}
-use Rattle.spr_run.specs.Ways.{Outside, IsCheck, IsRun, IsIdle, usage_text, Finishes, ChecksStack, checked, unchecked, RunsScript, reported, stopped, lacked, Ends}
+use Rattle.spr_words.specs.Asked.{asked}
+use Rattle.spr_run.specs.Ways.{Outside, IsCheck, IsIdl, IsRun, IsIdle, usage_text, only_stack, only_idl, unread, usage, check, unchecked, tables, untabled, refusal, stop, report, memory, Finishes, ChecksStack, mounts, refuses, PrintsTables, prints, prints_none, RunsScript, reported, stopped, lacked, RunsNames, is_refused, is_run, Ends}
 
-pub ends-usage : (words : List (List ℕ)) (o : Outside) (text : List ℕ) (result : Status) → ((stack name : List ℕ) → IsRun words stack name → ⊥) → ((stack : List ℕ) → IsCheck words stack → ⊥) → IsIdle o.bay
-    → text ≡ usage_text → Finishes o.written o.written_after o.sink o.sink_after text statuses.Usage result → Ends words o result
-ends-usage words o text result no_run no_check idle is fin = record {
-  text = text;
+pub ends-unread : (words : List (List ℕ)) (o : Outside) (result : Status) → IsIdle o.bay
+    → Finishes o.written o.written_after o.sink o.sink_after (codes "status 8\n") statuses.Memory result → Ends words o result
+ends-unread words o result idle fin = record {
+  text = codes "status 8\n";
+  status = statuses.Memory;
+  says = unread (record { text_is = refl; status_is = refl; idle = idle });
+  finishes = fin;
+}
+
+pub ends-usage : (words : List (List ℕ)) (o : Outside) (result : Status) → asked words ≡ None → IsIdle o.bay
+    → Finishes o.written o.written_after o.sink o.sink_after usage_text statuses.Usage result → Ends words o result
+ends-usage words o result none idle fin = record {
+  text = usage_text;
   status = statuses.Usage;
-  says = inl (record { no_run = no_run; no_check = no_check; text_is = is; status_is = refl; idle = idle });
+  says = usage (record { none = none; text_is = refl; status_is = refl; idle = idle });
   finishes = fin;
 }
 
 pub ends-check : (words : List (List ℕ)) (name : List ℕ) (o : Outside) (result : Status) → IsCheck words name → IsIdle o.bay
     → ChecksStack o.texts o.shelf o.shelf_after name o.written o.written_after o.sink o.sink_after result → Ends words o result
-ends-check words name o result check idle (checked tree is fin) = record {
+ends-check words name o result asks idle (mounts tree is fin) = record {
   text = tree ++ codes "status 0\n";
   status = statuses.Good;
-  says = inr (inl (record { name = name; check = check; tree = tree; tree_is = is; text_is = refl; status_is = refl; idle = idle }));
+  says = check (record { name = name; check = asks; tree = tree; tree_is = is; text_is = refl; status_is = refl; idle = idle });
   finishes = fin;
 }
-ends-check words name o result check idle (unchecked refusal cause fin) = record {
-  text = refusal_text name [] refusal;
-  status = refusal_status refusal;
-  says = inr (inr (inl (record { stack = name; check = check; refusal = refusal; cause = cause; text_is = refl; status_is = refl; idle = idle })));
-  finishes = fin;
-}
-
-pub ends-refusal : (words : List (List ℕ)) (stack name : List ℕ) (o : Outside) (refusal : Refusal) (result : Status) → IsRun words stack name → IsCause o.texts o.shelf o.shelf_after stack name refusal → IsIdle o.bay
-    → Finishes o.written o.written_after o.sink o.sink_after (refusal_text stack name refusal) (refusal_status refusal) result → Ends words o result
-ends-refusal words stack name o refusal result run cause idle fin = record {
-  text = refusal_text stack name refusal;
-  status = refusal_status refusal;
-  says = inr (inr (inr (inl (record { stack = stack; name = name; run = run; refusal = refusal; cause = cause; text_is = refl; status_is = refl; idle = idle }))));
+ends-check words name o result asks idle (refuses why cause fin) = record {
+  text = refusal_text (only_stack name) why;
+  status = refusal_status why;
+  says = unchecked (record { stack = name; check = asks; refusal = why; cause = cause; text_is = refl; status_is = refl; idle = idle });
   finishes = fin;
 }
 
-pub ends-run : (words : List (List ℕ)) (stack name : List ℕ) (o : Outside) (setting : Setting) (script : Script) (result : Status) → IsRun words stack name → IsPrepared o.texts stack name setting script
+pub ends-tables : (words : List (List ℕ)) (name : List ℕ) (o : Outside) (result : Status) → IsIdl words name → IsIdle o.bay
+    → PrintsTables o.texts o.shelf o.shelf_after name o.written o.written_after o.sink o.sink_after result → Ends words o result
+ends-tables words name o result asks idle (prints lines are fin) = record {
+  text = lines ++ codes "status 0\n";
+  status = statuses.Good;
+  says = tables (record { name = name; idl = asks; tables = lines; tables_are = are; text_is = refl; status_is = refl; idle = idle });
+  finishes = fin;
+}
+ends-tables words name o result asks idle (prints_none why cause fin) = record {
+  text = refusal_text (only_idl name) why;
+  status = refusal_status why;
+  says = untabled (record { name = name; idl = asks; refusal = why; cause = cause; text_is = refl; status_is = refl; idle = idle });
+  finishes = fin;
+}
+
+-- a refusal is written with the names that it was given
+pub refusal-named : (before after : Option (List ℕ)) (faults faults_after : ℕ) (a b : TextNames) (why : Refusal) (result : Status) → a.idl ≡ b.idl → a.stack ≡ b.stack → a.script ≡ b.script
+    → Finishes before after faults faults_after (refusal_text a why) (refusal_status why) result → Finishes before after faults faults_after (refusal_text b why) (refusal_status why) result
+refusal-named before after faults faults_after a b why result idl stack script fin =
+    subst (λ (n : TextNames). Finishes before after faults faults_after (refusal_text n why) (refusal_status why) result) (λ i. record { idl = idl i; stack = stack i; script = script i }) fin
+
+ends-refusal : (words : List (List ℕ)) (names : TextNames) (o : Outside) (why : Refusal) (result : Status) → IsRun words names → IsCause o.texts o.shelf o.shelf_after names why → IsIdle o.bay
+    → Finishes o.written o.written_after o.sink o.sink_after (refusal_text names why) (refusal_status why) result → Ends words o result
+ends-refusal words names o why result run cause idle fin = record {
+  text = refusal_text names why;
+  status = refusal_status why;
+  says = refusal (record { names = names; run = run; refusal = why; cause = cause; text_is = refl; status_is = refl; idle = idle });
+  finishes = fin;
+}
+
+ends-run : (words : List (List ℕ)) (names : TextNames) (o : Outside) (setting : Setting) (script : Script) (result : Status) → IsRun words names → IsPrepared o.texts names setting script
     → RunsScript setting o.bay script o.written o.written_after o.sink o.sink_after result → Ends words o result
-ends-run words stack name o setting script result run prepared (reported text status ran fin) = record {
+ends-run words names o setting script result run prepared (reported text status ran fin) = record {
   text = text;
   status = status;
-  says = inr (inr (inr (inr (inr (inl (record { stack = stack; name = name; run = run; setting = setting; script = script; prepared = prepared; ran = ran }))))));
+  says = report (record { names = names; run = run; setting = setting; script = script; prepared = prepared; ran = ran });
   finishes = fin;
 }
-ends-run words stack name o setting script result run prepared (stopped stop gone stops fin) = record {
-  text = stop_text setting gone stop;
-  status = stop_status stop;
-  says = inr (inr (inr (inr (inl (record { stack = stack; name = name; run = run; setting = setting; script = script; prepared = prepared; gone = gone; stop = stop; stops = stops; text_is = refl; status_is = refl })))));
+ends-run words names o setting script result run prepared (stopped why gone stops fin) = record {
+  text = stop_text setting gone why;
+  status = stop_status why;
+  says = stop (record { names = names; run = run; setting = setting; script = script; prepared = prepared; gone = gone; stop = why; stops = stops; text_is = refl; status_is = refl });
   finishes = fin;
 }
-ends-run words stack name o setting script result run prepared (lacked ran fin) = record {
+ends-run words names o setting script result run prepared (lacked ran fin) = record {
   text = codes "status 8\n";
   status = statuses.Memory;
-  says = inr (inr (inr (inr (inr (inr (record { stack = stack; name = name; run = run; setting = setting; script = script; prepared = prepared; ran = ran; text_is = refl; status_is = refl }))))));
+  says = memory (record { names = names; run = run; setting = setting; script = script; prepared = prepared; ran = ran; text_is = refl; status_is = refl });
   finishes = fin;
 }
 
-pub four : {X : Type 0} (xs : List X) (a b c d : X) → length xs ≡ 4 → a ≡ get_or xs 0 a → b ≡ get_or xs 1 b → c ≡ get_or xs 2 c → d ≡ get_or xs 3 d → xs ≡ a ∷ b ∷ c ∷ d ∷ []
-four [] a b c d len p q r s = absurd (omega (arith, len))
-four (w ∷ []) a b c d len p q r s = absurd (omega (arith, len))
-four (w ∷ x ∷ []) a b c d len p q r s = absurd (omega (arith, len))
-four (w ∷ x ∷ y ∷ []) a b c d len p q r s = absurd (omega (arith, len))
-four (w ∷ x ∷ y ∷ z ∷ []) a b c d len p q r s = rw (p, q, r, s) refl
-four (w ∷ x ∷ y ∷ z ∷ v ∷ rest) a b c d len p q r s = absurd (omega (arith, len))
-
-pub two : {X : Type 0} (xs : List X) (a b : X) → length xs ≡ 2 → a ≡ get_or xs 0 a → b ≡ get_or xs 1 b → xs ≡ a ∷ b ∷ []
-two [] a b len p q = absurd (omega (arith, len))
-two (w ∷ []) a b len p q = absurd (omega (arith, len))
-two (w ∷ x ∷ []) a b len p q = rw (p, q) refl
-two (w ∷ x ∷ y ∷ rest) a b len p q = absurd (omega (arith, len))
+pub ends-names : (words : List (List ℕ)) (names : TextNames) (o : Outside) (result : Status) → IsRun words names → RunsNames names o result → Ends words o result
+ends-names words names o result run (is_refused why cause idle fin) = ends-refusal words names o why result run cause idle fin
+ends-names words names o result run (is_run setting script prepared runs) = ends-run words names o setting script result run prepared runs

@@ -1,5 +1,6 @@
 pub mod Built
 pub mod Stacks
+pub mod Interfaces
 pub mod Refusal
 pub mod Ended
 pub mod Play

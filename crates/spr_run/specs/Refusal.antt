@@ -21,7 +21,10 @@ use Rattle.spr_report.specs.declared.status.Status.TheVariants as statuses
 use Rattle.spr_run.specs.declared.refusal.Refusal.{Refusal}
 use Rattle.spr_run.specs.declared.refusal.Refusal.TheVariants as refusals
 use Rattle.spr_run.specs.Built.{later_call}
-use Rattle.spr_run.specs.Stacks.{Texts, IsText, SpellsStack, IsStackOf, IsMounted}
+use Rattle.idl_reader.specs.Why.{word_of as idl_word}
+use Rattle.idl_check.specs.Why.{word_of as unfit_word}
+use Rattle.spr_run.specs.Stacks.{Texts, TextNames, IsText, SpellsStack, IsStackOf, IsMounted}
+use Rattle.spr_run.specs.Interfaces.{HasInterfaces, IsInterfacesCause}
 
 -- the first line that breaks a rule, and the lowest rule that it breaks
 abbrev pub Breaks : List StackLine → Refusal → Type 0
@@ -60,16 +63,21 @@ pub record Scripts (text : List ℕ) (script : Script) : Type 0 where
   pub spells : Spells text script
   pub calls : AllByRecursion AreCalls script.phases
 
+-- the text of the name spells this script, of calls that the program makes
+pub record HasScript (told : Texts) (name : List ℕ) (script : Script) : Type 0 where
+  pub text : List ℕ
+  pub text_is : IsText told name text
+  pub scripts : Scripts text script
+
 -- the text of the name spells an accepted stack, and this is its first line that asks for a layer that a run does not build yet
 abbrev pub AsksLater : Texts → List ℕ → ℕ → Type 0
 AsksLater told name line = (stack : StackText) × IsStackOf told name stack × (later_line stack.lines ≡ Some line)
 
--- the texts of these names are a stack of this setting, and this script
-pub record IsPrepared (told : Texts) (stack name : List ℕ) (setting : Setting) (script : Script) : Type 0 where
-  pub stack_is : IsMounted told stack setting
-  pub text : List ℕ
-  pub text_is : IsText told name text
-  pub scripts : Scripts text script
+-- the texts of these names are interfaces, a stack of this setting, and this script
+pub record IsPrepared (told : Texts) (names : TextNames) (setting : Setting) (script : Script) : Type 0 where
+  pub interfaces : HasInterfaces told names.idl
+  pub stack_is : IsMounted told names.stack setting
+  pub script_is : HasScript told names.script script
 
 -- A check's refusal has its cause: a stack that cannot be mounted, or a fault of the shelf.
 abbrev pub IsStackCause : Texts → ℕ → ℕ → List ℕ → Refusal → Type 0
@@ -86,15 +94,23 @@ IsSettingCause told faults faults_after stack refusal = IsStackCause told faults
 abbrev pub HasStack : Texts → List ℕ → Type 0
 HasStack told stack = (setting : Setting) × IsMounted told stack setting
 
--- A run's refusal has its cause: a stack that is not run, or behind a stack that can be run a script that cannot; or a fault
--- of the shelf.
-abbrev pub IsCause : Texts → ℕ → ℕ → List ℕ → List ℕ → Refusal → Type 0
-IsCause told faults faults_after stack name (refusals.Script line why) = HasStack told stack × ((text : List ℕ) × IsText told name text × RefusesScript text (refusals.Script line why))
-IsCause told faults faults_after stack name (refusals.ScriptLater line) = HasStack told stack × ((text : List ℕ) × IsText told name text × RefusesScript text (refusals.ScriptLater line))
-IsCause told faults faults_after stack name refusals.ScriptShelf = HasStack told stack × Rose faults faults_after
-IsCause told faults faults_after stack name refusal = IsSettingCause told faults faults_after stack refusal
+-- Behind interfaces a run's refusal has its cause: a stack that is not run, or behind a stack that can be run a script that
+-- cannot; or a fault of the shelf.
+abbrev pub IsRunCause : Texts → ℕ → ℕ → List ℕ → List ℕ → Refusal → Type 0
+IsRunCause told faults faults_after stack name (refusals.Script line why) = HasStack told stack × ((text : List ℕ) × IsText told name text × RefusesScript text (refusals.Script line why))
+IsRunCause told faults faults_after stack name (refusals.ScriptLater line) = HasStack told stack × ((text : List ℕ) × IsText told name text × RefusesScript text (refusals.ScriptLater line))
+IsRunCause told faults faults_after stack name refusals.ScriptShelf = HasStack told stack × Rose faults faults_after
+IsRunCause told faults faults_after stack name refusal = IsSettingCause told faults faults_after stack refusal
 
--- the first line of a text that is refused, and the status
+-- A run's refusal has its cause: interfaces that are refused, or behind interfaces a stack or a script.
+abbrev pub IsCause : Texts → ℕ → ℕ → TextNames → Refusal → Type 0
+IsCause told faults faults_after names (refusals.Idl place why) = IsInterfacesCause told faults faults_after names.idl (refusals.Idl place why)
+IsCause told faults faults_after names (refusals.IdlUnfit place why) = IsInterfacesCause told faults faults_after names.idl (refusals.IdlUnfit place why)
+IsCause told faults faults_after names refusals.IdlShelf = Rose faults faults_after
+IsCause told faults faults_after names refusals.Memory = Unit {0}
+IsCause told faults faults_after names refusal = HasInterfaces told names.idl × IsRunCause told faults faults_after names.stack names.script refusal
+
+-- the first line or place of a text that is refused, and the status
 abbrev pub line_text : List ℕ → ℕ → List ℕ → List ℕ
 line_text kind line word = kind ++ (codes " " ++ (decimal line ++ (codes " " ++ (word ++ codes "\nstatus 3\n"))))
 
@@ -103,17 +119,21 @@ abbrev pub shelf_text : List ℕ → List ℕ
 shelf_text name = codes "shelf " ++ (name ++ codes "\nstatus 4\n")
 
 -- the text of a refusal
-abbrev pub refusal_text : List ℕ → List ℕ → Refusal → List ℕ
-refusal_text stack name (refusals.Stack line why) = line_text (codes "stack") line (word_of why)
-refusal_text stack name (refusals.Unfit line rule) = line_text (codes "stack") line (codes "A" ++ decimal rule)
-refusal_text stack name (refusals.StackLater line) = line_text (codes "stack") line (codes "later")
-refusal_text stack name (refusals.Script line why) = line_text (codes "script") line (why_word why)
-refusal_text stack name (refusals.ScriptLater line) = line_text (codes "script") line (codes "later")
-refusal_text stack name refusals.StackShelf = shelf_text stack
-refusal_text stack name refusals.ScriptShelf = shelf_text name
-refusal_text stack name refusals.Memory = codes "status 8\n"
+abbrev pub refusal_text : TextNames → Refusal → List ℕ
+refusal_text names (refusals.Idl place why) = line_text (codes "idl") place (idl_word why)
+refusal_text names (refusals.IdlUnfit place why) = line_text (codes "idl") place (unfit_word why)
+refusal_text names (refusals.Stack line why) = line_text (codes "stack") line (word_of why)
+refusal_text names (refusals.Unfit line rule) = line_text (codes "stack") line (codes "A" ++ decimal rule)
+refusal_text names (refusals.StackLater line) = line_text (codes "stack") line (codes "later")
+refusal_text names (refusals.Script line why) = line_text (codes "script") line (why_word why)
+refusal_text names (refusals.ScriptLater line) = line_text (codes "script") line (codes "later")
+refusal_text names refusals.IdlShelf = shelf_text names.idl
+refusal_text names refusals.StackShelf = shelf_text names.stack
+refusal_text names refusals.ScriptShelf = shelf_text names.script
+refusal_text names refusals.Memory = codes "status 8\n"
 
 abbrev pub refusal_status : Refusal → Status
+refusal_status refusals.IdlShelf = statuses.ShelfFault
 refusal_status refusals.StackShelf = statuses.ShelfFault
 refusal_status refusals.ScriptShelf = statuses.ShelfFault
 refusal_status refusals.Memory = statuses.Memory

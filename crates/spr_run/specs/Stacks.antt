@@ -13,6 +13,12 @@ use Rattle.run_defs.specs.declared.setting.Setting.{Setting}
 abbrev pub Texts : Type 0
 Texts = List ℕ → Option (Option (List ℕ))
 
+-- the names of the texts of a command; one that it does not have is empty
+pub record TextNames : Type 0 where
+  pub idl : List ℕ
+  pub stack : List ℕ
+  pub script : List ℕ
+
 -- a text of a name, where it is told
 abbrev pub IsText : Texts → List ℕ → List ℕ → Type 0
 IsText told name text = IfSome (told name) (λ there. there ≡ Some text)

@@ -1,5 +1,5 @@
 -- The ways in which a command ends, each with the text that it writes and its status.
-use Rattle.std.specs.Prelude.{◌≡◌, ◌⊎◌, ℕ, List, [], ◌∷◌, ◌++◌, codes, Option, Some, IfSome, Bool}
+use Rattle.std.specs.Prelude.{◌≡◌, ◌⊎◌, ℕ, List, [], ◌∷◌, ◌++◌, codes, Option, Some, None, Bool}
 use Rattle.std.specs.Option.{option_map}
 use Rattle.script_text.specs.declared.script.Script.{Script}
 use Rattle.run_defs.specs.declared.setting.Setting.{Setting}
@@ -7,9 +7,12 @@ use Rattle.spr_io.specs.Berth.{SameBerths}
 use Rattle.spr_io.specs.Causes.{Rose}
 use Rattle.spr_report.specs.declared.status.Status.{Status}
 use Rattle.spr_report.specs.declared.status.Status.TheVariants as statuses
+use Rattle.spr_words.specs.declared.words.Asked.TheVariants.{Run, Check, Idl}
+use Rattle.spr_words.specs.Asked.{asked}
 use Rattle.spr_run.specs.declared.refusal.Refusal.{Refusal}
 use Rattle.spr_run.specs.declared.store.Stop.{Stop}
-use Rattle.spr_run.specs.Stacks.{Texts, IsTreeOf}
+use Rattle.spr_run.specs.Stacks.{Texts, TextNames, IsTreeOf}
+use Rattle.spr_run.specs.Interfaces.{AreTablesOf, IsInterfacesCause}
 use Rattle.spr_run.specs.Refusal.{IsPrepared, IsStackCause, IsCause, refusal_text, refusal_status}
 use Rattle.spr_run.specs.Store.{AtBay, Ran, RanOut, Stops, stop_text, stop_status}
 
@@ -24,14 +27,17 @@ pub record Outside : Type 0 where
   pub sink : ℕ
   pub sink_after : ℕ
 
--- the words are those of a run, with these names of the stack and the script
-pub record IsRun (words : List (List ℕ)) (stack name : List ℕ) : Type 0 where
-  pub idl : List ℕ
-  pub are : words ≡ codes "run" ∷ idl ∷ stack ∷ name ∷ []
+-- the words ask for a run, with these names of the interfaces, the stack and the script
+abbrev pub IsRun : List (List ℕ) → TextNames → Type 0
+IsRun words names = asked words ≡ Some (Run names.idl names.stack names.script)
 
--- the words are those of a check, with this name of the stack
+-- the name of a stack, without others
+abbrev pub only_stack : List ℕ → TextNames
+only_stack stack = record { idl = []; stack = stack; script = [] }
+
+-- the words ask for a check, with this name of the stack
 abbrev pub IsCheck : List (List ℕ) → List ℕ → Type 0
-IsCheck words stack = words ≡ codes "check" ∷ stack ∷ []
+IsCheck words stack = asked words ≡ Some (Check stack)
 
 abbrev pub usage_text : List ℕ
 usage_text = codes "usage: spring run, gen, check, format, dump or idl\nstatus 2\n"
@@ -40,12 +46,25 @@ usage_text = codes "usage: spring run, gen, check, format, dump or idl\nstatus 2
 abbrev pub IsIdle : AtBay → Type 0
 IsIdle bay = SameBerths bay.berths bay.berths_after
 
--- the words are no command
+-- the name of the interfaces, without others
+abbrev pub only_idl : List ℕ → TextNames
+only_idl idl = record { idl = idl; stack = []; script = [] }
+
+-- the words ask for the tables of interfaces, with this name
+abbrev pub IsIdl : List (List ℕ) → List ℕ → Type 0
+IsIdl words idl = asked words ≡ Some (Idl idl)
+
+-- the words ask for no command
 pub record SaysUsage (words : List (List ℕ)) (o : Outside) (text : List ℕ) (status : Status) : Type 0 where
-  pub no_run : (stack name : List ℕ) → IsRun words stack name → ⊥
-  pub no_check : (stack : List ℕ) → IsCheck words stack → ⊥
+  pub none : asked words ≡ None
   pub text_is : text ≡ usage_text
   pub status_is : status ≡ statuses.Usage
+  pub idle : IsIdle o.bay
+
+-- memory lacked before the words were read
+pub record SaysUnread (o : Outside) (text : List ℕ) (status : Status) : Type 0 where
+  pub text_is : text ≡ codes "status 8\n"
+  pub status_is : status ≡ statuses.Memory
   pub idle : IsIdle o.bay
 
 -- the stack can be mounted, and the text is its tree
@@ -64,29 +83,47 @@ pub record SaysUnchecked (words : List (List ℕ)) (o : Outside) (text : List �
   pub check : IsCheck words stack
   pub refusal : Refusal
   pub cause : IsStackCause o.texts o.shelf o.shelf_after stack refusal
-  pub text_is : text ≡ refusal_text stack [] refusal
+  pub text_is : text ≡ refusal_text (only_stack stack) refusal
+  pub status_is : status ≡ refusal_status refusal
+  pub idle : IsIdle o.bay
+
+-- the interfaces fit together, and the text is that of their tables
+pub record SaysTables (words : List (List ℕ)) (o : Outside) (text : List ℕ) (status : Status) : Type 0 where
+  pub name : List ℕ
+  pub idl : IsIdl words name
+  pub tables : List ℕ
+  pub tables_are : AreTablesOf o.texts name tables
+  pub text_is : text ≡ tables ++ codes "status 0\n"
+  pub status_is : status ≡ statuses.Good
+  pub idle : IsIdle o.bay
+
+-- the interfaces are refused, or could not be read
+pub record SaysUntabled (words : List (List ℕ)) (o : Outside) (text : List ℕ) (status : Status) : Type 0 where
+  pub name : List ℕ
+  pub idl : IsIdl words name
+  pub refusal : Refusal
+  pub cause : IsInterfacesCause o.texts o.shelf o.shelf_after name refusal
+  pub text_is : text ≡ refusal_text (only_idl name) refusal
   pub status_is : status ≡ refusal_status refusal
   pub idle : IsIdle o.bay
 
 -- a text cannot be run, or could not be read
 pub record SaysRefusal (words : List (List ℕ)) (o : Outside) (text : List ℕ) (status : Status) : Type 0 where
-  pub stack : List ℕ
-  pub name : List ℕ
-  pub run : IsRun words stack name
+  pub names : TextNames
+  pub run : IsRun words names
   pub refusal : Refusal
-  pub cause : IsCause o.texts o.shelf o.shelf_after stack name refusal
-  pub text_is : text ≡ refusal_text stack name refusal
+  pub cause : IsCause o.texts o.shelf o.shelf_after names refusal
+  pub text_is : text ≡ refusal_text names refusal
   pub status_is : status ≡ refusal_status refusal
   pub idle : IsIdle o.bay
 
 -- the files could not be taken or opened
 pub record SaysStop (words : List (List ℕ)) (o : Outside) (text : List ℕ) (status : Status) : Type 0 where
-  pub stack : List ℕ
-  pub name : List ℕ
-  pub run : IsRun words stack name
+  pub names : TextNames
+  pub run : IsRun words names
   pub setting : Setting
   pub script : Script
-  pub prepared : IsPrepared o.texts stack name setting script
+  pub prepared : IsPrepared o.texts names setting script
   pub gone : List Bool
   pub stop : Stop
   pub stops : Stops setting o.bay gone stop
@@ -95,32 +132,36 @@ pub record SaysStop (words : List (List ℕ)) (o : Outside) (text : List ℕ) (s
 
 -- the script was run, and the text is the report of it
 pub record SaysReport (words : List (List ℕ)) (o : Outside) (text : List ℕ) (status : Status) : Type 0 where
-  pub stack : List ℕ
-  pub name : List ℕ
-  pub run : IsRun words stack name
+  pub names : TextNames
+  pub run : IsRun words names
   pub setting : Setting
   pub script : Script
-  pub prepared : IsPrepared o.texts stack name setting script
+  pub prepared : IsPrepared o.texts names setting script
   pub ran : Ran setting o.bay script text status
 
 -- memory lacked after the phases began
 pub record SaysMemory (words : List (List ℕ)) (o : Outside) (text : List ℕ) (status : Status) : Type 0 where
-  pub stack : List ℕ
-  pub name : List ℕ
-  pub run : IsRun words stack name
+  pub names : TextNames
+  pub run : IsRun words names
   pub setting : Setting
   pub script : Script
-  pub prepared : IsPrepared o.texts stack name setting script
+  pub prepared : IsPrepared o.texts names setting script
   pub ran : RanOut setting o.bay
   pub text_is : text ≡ codes "status 8\n"
   pub status_is : status ≡ statuses.Memory
 
--- a run ends so
-abbrev pub SaysRun : List (List ℕ) → Outside → List ℕ → Status → Type 0
-SaysRun words o text status = SaysRefusal words o text status ⊎ (SaysStop words o text status ⊎ (SaysReport words o text status ⊎ SaysMemory words o text status))
-
-abbrev pub Says : List (List ℕ) → Outside → List ℕ → Status → Type 0
-Says words o text status = SaysUsage words o text status ⊎ (SaysCheck words o text status ⊎ (SaysUnchecked words o text status ⊎ SaysRun words o text status))
+-- the ways in which a command ends
+pub data Says (words : List (List ℕ)) (o : Outside) (text : List ℕ) (status : Status) : Type 0 where
+  unread : SaysUnread o text status → Says words o text status
+  usage : SaysUsage words o text status → Says words o text status
+  check : SaysCheck words o text status → Says words o text status
+  unchecked : SaysUnchecked words o text status → Says words o text status
+  tables : SaysTables words o text status → Says words o text status
+  untabled : SaysUntabled words o text status → Says words o text status
+  refusal : SaysRefusal words o text status → Says words o text status
+  stop : SaysStop words o text status → Says words o text status
+  report : SaysReport words o text status → Says words o text status
+  memory : SaysMemory words o text status → Says words o text status
 
 -- a first part of the text was written
 pub record WroteSome (text : List ℕ) (before after : Option (List ℕ)) : Type 0 where
@@ -146,12 +187,26 @@ pub data RunsScript (setting : Setting) (bay : AtBay) (script : Script) (before 
   stopped : (stop : Stop) (gone : List Bool) → Stops setting bay gone stop → Finishes before after faults faults_after (stop_text setting gone stop) (stop_status stop) result → RunsScript setting bay script before after faults faults_after result
   lacked : RanOut setting bay → Finishes before after faults faults_after (codes "status 8\n") statuses.Memory result → RunsScript setting bay script before after faults faults_after result
 
+-- How a run of the texts of these names ended: it was refused, or the script was run.
+pub data RunsNames (names : TextNames) (o : Outside) (result : Status) : Type 0 where
+  is_refused : (why : Refusal) → IsCause o.texts o.shelf o.shelf_after names why → IsIdle o.bay
+      → Finishes o.written o.written_after o.sink o.sink_after (refusal_text names why) (refusal_status why) result → RunsNames names o result
+  is_run : (setting : Setting) (script : Script) → IsPrepared o.texts names setting script
+      → RunsScript setting o.bay script o.written o.written_after o.sink o.sink_after result → RunsNames names o result
+
 -- How a check of the stack of a name ended, and what was written then.
 pub data ChecksStack (told : Texts) (shelf shelf_after : ℕ) (name : List ℕ) (before after : Option (List ℕ)) (faults faults_after : ℕ) (result : Status) : Type 0 where
-  checked : (tree : List ℕ) → IsTreeOf told name tree → Finishes before after faults faults_after (tree ++ codes "status 0\n") statuses.Good result
+  mounts : (tree : List ℕ) → IsTreeOf told name tree → Finishes before after faults faults_after (tree ++ codes "status 0\n") statuses.Good result
       → ChecksStack told shelf shelf_after name before after faults faults_after result
-  unchecked : (refusal : Refusal) → IsStackCause told shelf shelf_after name refusal → Finishes before after faults faults_after (refusal_text name [] refusal) (refusal_status refusal) result
+  refuses : (refusal : Refusal) → IsStackCause told shelf shelf_after name refusal → Finishes before after faults faults_after (refusal_text (only_stack name) refusal) (refusal_status refusal) result
       → ChecksStack told shelf shelf_after name before after faults faults_after result
+
+-- How the printing of the tables of the interfaces of a name ended, and what was written then.
+pub data PrintsTables (told : Texts) (shelf shelf_after : ℕ) (name : List ℕ) (before after : Option (List ℕ)) (faults faults_after : ℕ) (result : Status) : Type 0 where
+  prints : (tables : List ℕ) → AreTablesOf told name tables → Finishes before after faults faults_after (tables ++ codes "status 0\n") statuses.Good result
+      → PrintsTables told shelf shelf_after name before after faults faults_after result
+  prints_none : (refusal : Refusal) → IsInterfacesCause told shelf shelf_after name refusal → Finishes before after faults faults_after (refusal_text (only_idl name) refusal) (refusal_status refusal) result
+      → PrintsTables told shelf shelf_after name before after faults faults_after result
 
 -- How a command ends: in one of the ways, whose text is written, or written in part where the sink failed.
 pub record Ends (words : List (List ℕ)) (o : Outside) (result : Status) : Type 0 where

@@ -38,6 +38,6 @@ pub(crate) fn check_stack<H: Shelf, K: Sink>(
 {
     match tree_text(alloc, shelf, name) {
         Ok(text) => finish(sink, &[&text, b"status 0\n"], Status::Good),
-        Err(refusal) => refuse(sink, name.as_str(), "", refusal),
+        Err(refusal) => refuse(sink, "", name.as_str(), "", refusal),
     }
 }

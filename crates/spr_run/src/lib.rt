@@ -5,11 +5,13 @@ mod check;
 mod ended;
 mod finish;
 mod held;
+mod interfaces;
 mod names;
 mod play;
 mod refusal;
 mod stacks;
 mod store;
+mod tables;
 mod texts;
 mod top;
 

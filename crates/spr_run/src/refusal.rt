@@ -6,6 +6,8 @@ ghost use Rattle.spr_run.specs.Refusal.{line_text, shelf_text, refusal_text, ref
 ghost use Rattle.spr_run.specs.Ways.{Finishes};
 
 use crate::finish::{MEMORY, finish};
+use idl_check::UnfitWhy;
+use idl_reader::IdlWhy;
 use itoa::Buffer;
 use script_text::ScriptWhy;
 use spr_io::Sink;
@@ -15,6 +17,20 @@ use stack_text::StackWhy;
 /// Why a command ends before a store is taken. Lines are counted from 1.
 #[derive(Clone, Copy, Debug, PartialEq, Eq)]
 pub enum Refusal {
+    /// A place of the text of the interfaces is none of the language.
+    Idl {
+        /// The place, as its offset in the text in bytes.
+        place: u32,
+        /// Why.
+        why: IdlWhy,
+    },
+    /// The interfaces do not fit together.
+    IdlUnfit {
+        /// The place, as its offset in the text in bytes.
+        place: u32,
+        /// The first reason.
+        why: UnfitWhy,
+    },
     /// A line of the stack is none.
     Stack {
         /// The line.
@@ -46,6 +62,8 @@ pub enum Refusal {
         /// The line.
         line: u32,
     },
+    /// The text of the interfaces could not be read.
+    IdlShelf,
     /// The stack text could not be read.
     StackShelf,
     /// The script could not be read.
@@ -54,7 +72,7 @@ pub enum Refusal {
     Memory,
 }
 
-/// Ends a command one of whose texts is refused, at a line and for a reason: a mark and a word.
+/// Ends a command one of whose texts is refused, at a line or a place and for a reason: a mark and a word.
 fn refuse_line<'a, K: Sink>(
     sink: &mut K,
     kind: &'a [u8],
@@ -84,11 +102,24 @@ fn refuse_shelf<K: Sink>(sink: &mut K, name: &str) -> Status
     )
 }
 
-/// Ends a command that is refused. The names are those of its stack and its script.
-pub(crate) fn refuse<K: Sink>(sink: &mut K, stack: &str, name: &str, refusal: Refusal) -> Status
-    ensures { Finishes (K.written sink.old) (K.written sink.new) (K.faults sink.old) (K.faults sink.new) (refusal_text stack.now name.now refusal) (refusal_status refusal) result }
+/// Ends a command that is refused. The names are those of its interfaces, its stack and its script; one that it does not have
+/// is empty.
+pub(crate) fn refuse<K: Sink>(
+    sink: &mut K,
+    idl: &str,
+    stack: &str,
+    name: &str,
+    refusal: Refusal,
+) -> Status
+    ensures { Finishes (K.written sink.old) (K.written sink.new) (K.faults sink.old) (K.faults sink.new) (refusal_text (record { idl = idl.now; stack = stack.now; script = name.now }) refusal) (refusal_status refusal) result }
 {
     match refusal {
+        Refusal::Idl { place, why } => {
+            refuse_line(sink, b"idl", place, b"", why.word().as_bytes())
+        }
+        Refusal::IdlUnfit { place, why } => {
+            refuse_line(sink, b"idl", place, b"", why.word().as_bytes())
+        }
         Refusal::Stack { line, why } => {
             refuse_line(sink, b"stack", line, b"", why.word().as_bytes())
         }
@@ -102,6 +133,7 @@ pub(crate) fn refuse<K: Sink>(sink: &mut K, stack: &str, name: &str, refusal: Re
             refuse_line(sink, b"script", line, b"", why.word().as_bytes())
         }
         Refusal::ScriptLater { line } => refuse_line(sink, b"script", line, b"", b"later"),
+        Refusal::IdlShelf => refuse_shelf(sink, idl),
         Refusal::StackShelf => refuse_shelf(sink, stack),
         Refusal::ScriptShelf => refuse_shelf(sink, name),
         Refusal::Memory => finish(sink, &[MEMORY], Status::Memory),

@@ -9,6 +9,15 @@ use std::sync::Wait;
 use std::test::Fail;
 use std::thread::Threads;
 
+const IDL: &[u8] =
+    b"interface rights {\n};\ninterface file : rights {\n  bytes read(copy u64 offset);\n};\ninterface log : file {\n  void add(copy bytes data);\n};\n";
+
+/// A base that is not declared, at byte 14.
+const UNKNOWN_IDL: &[u8] = b"interface a : b {\n};\n";
+
+/// A byte that begins no token, at byte 16.
+const BAD_IDL: &[u8] = b"struct s {\n  u8 ?;\n};\n";
+
 const STACK: &[u8] = b"page 64\nfile f 2\ndisk d m\ncoherency c m d\n";
 
 const SCRIPT: &[u8] =
@@ -18,18 +27,18 @@ const REPORT: &str =
     "client a\n3 life 0\n4 done\n5 61626364\n6 done\nfile f\n0 a 0 c 0 open life 0\n2 a 1 c 0 write 0 0 61626364 done\n3 a 2 c 0 read 0 0 4 61626364\n5 a 3 c synced 4 done\n6 mount 0 c synced 6 done\nstatus 0\n";
 
 /// The disk refuses the page of the first sync.
-const UNWRITTEN: &str =
-    "client a\n3 life 0\n4 done\n5 61626364\n6 store d 1\nfile f\n0 a 0 c 0 open life 0\n2 a 1 c 0 write 0 0 61626364 done\n3 a 2 c 0 read 0 0 4 61626364\n5 mount 0 c synced 4 done\nstatus 1\n";
+const UNWRITTEN: &[u8] =
+    b"client a\n3 life 0\n4 done\n5 61626364\n6 store d 1\nfile f\n0 a 0 c 0 open life 0\n2 a 1 c 0 write 0 0 61626364 done\n3 a 2 c 0 read 0 0 4 61626364\n5 mount 0 c synced 4 done\nstatus 1\n";
 
 /// The disk takes that page, and refuses to make it last.
-const UNSYNCED: &str =
-    "client a\n3 life 0\n4 done\n5 61626364\n6 store d 1\nfile f\n0 a 0 c 0 open life 0\n2 a 1 c 0 write 0 0 61626364 done\n3 a 2 c 0 read 0 0 4 61626364\n5 mount 0 c synced 5 done\nstatus 1\n";
+const UNSYNCED: &[u8] =
+    b"client a\n3 life 0\n4 done\n5 61626364\n6 store d 1\nfile f\n0 a 0 c 0 open life 0\n2 a 1 c 0 write 0 0 61626364 done\n3 a 2 c 0 read 0 0 4 61626364\n5 mount 0 c synced 5 done\nstatus 1\n";
 
-const UNCLOSED: &str =
-    "client a\n3 life 0\n4 done\n5 61626364\n6 done\nfile f\n0 a 0 c 0 open life 0\n2 a 1 c 0 write 0 0 61626364 done\n3 a 2 c 0 read 0 0 4 61626364\n5 a 3 c synced 4 done\nclosing f store d 1\nstatus 1\n";
+const UNCLOSED: &[u8] =
+    b"client a\n3 life 0\n4 done\n5 61626364\n6 done\nfile f\n0 a 0 c 0 open life 0\n2 a 1 c 0 write 0 0 61626364 done\n3 a 2 c 0 read 0 0 4 61626364\n5 a 3 c synced 4 done\nclosing f store d 1\nstatus 1\n";
 
-const LOST: &str =
-    "client a\n3 life 0\n4 done\n5 61626364\n6 done\nfile f\n0 a 0 c 0 open life 0\n2 a 1 c 0 write 0 0 61626364 done\n3 a 2 c 0 read 0 0 4 61626364\n5 a 3 c synced 4 done\n6 mount 0 c synced 6 done\nbay d f\nstatus 5\n";
+const LOST: &[u8] =
+    b"client a\n3 life 0\n4 done\n5 61626364\n6 done\nfile f\n0 a 0 c 0 open life 0\n2 a 1 c 0 write 0 0 61626364 done\n3 a 2 c 0 read 0 0 4 61626364\n5 a 3 c synced 4 done\n6 mount 0 c synced 6 done\nbay d f\nstatus 5\n";
 
 /// Ranges that end with their page, and ranges that do not lie within one page of the file.
 const EDGES: &[u8] =
@@ -106,11 +115,11 @@ const FILES: &[u8] = b"page 64\nfile f 1\nfile g 2\ndisk d m\ncoherency c m d\n"
 
 const FILES_SCRIPT: &[u8] = b"client a m\nphase\na open x c/f\na open y c/g\na write y 1 0 62\n";
 
-const FILES_REPORT: &str =
-    "client a\n3 life 0\n4 life 0\n5 done\nfile f\n0 a 0 c 0 open life 0\n1 mount 0 c synced 1 done\nfile g\n0 a 0 c 0 open life 0\n2 a 1 c 0 write 1 0 62 done\n4 mount 0 c synced 3 done\nstatus 0\n";
+const FILES_REPORT: &[u8] =
+    b"client a\n3 life 0\n4 life 0\n5 done\nfile f\n0 a 0 c 0 open life 0\n1 mount 0 c synced 1 done\nfile g\n0 a 0 c 0 open life 0\n2 a 1 c 0 write 1 0 62 done\n4 mount 0 c synced 3 done\nstatus 0\n";
 
-const FILES_LOST: &str =
-    "client a\n3 life 0\n4 life 0\n5 done\nfile f\n0 a 0 c 0 open life 0\n1 mount 0 c synced 1 done\nfile g\n0 a 0 c 0 open life 0\n2 a 1 c 0 write 1 0 62 done\n4 mount 0 c synced 3 done\nbay d g\nstatus 5\n";
+const FILES_LOST: &[u8] =
+    b"client a\n3 life 0\n4 life 0\n5 done\nfile f\n0 a 0 c 0 open life 0\n1 mount 0 c synced 1 done\nfile g\n0 a 0 c 0 open life 0\n2 a 1 c 0 write 1 0 62 done\n4 mount 0 c synced 3 done\nbay d g\nstatus 5\n";
 
 /// Which calls of the outside are to fail, counted from 1. Those of a store are of the file of this name.
 #[derive(Clone, Copy)]
@@ -198,6 +207,9 @@ fn command<R: Threads + Wait + Sync>(
 ) -> Result<(Status, MemSink), Fail> {
     let words = words_of(alloc, words)?;
     let mut shelf = MemShelf::new(alloc, outside.shelf)?;
+    shelf.put(alloc, "I", IDL)?;
+    shelf.put(alloc, "unknown", UNKNOWN_IDL)?;
+    shelf.put(alloc, "bad", BAD_IDL)?;
     shelf.put(alloc, "S", stack)?;
     shelf.put(alloc, "T", script)?;
     let mut bay = bay_of(alloc, outside)?;
@@ -215,10 +227,14 @@ const RUN: &[&str] = &["run", "I", "S", "T"];
 
 const CHECK: &[&str] = &["check", "S"];
 
+/// An inherited operation comes first.
+const TABLES: &str =
+    "interface rights\ninterface file\n0 read file\ninterface log\n0 read file\n1 add log\nstatus 0\n";
+
 #[test]
 fn refusals(rt: HostRuntime) -> Result<(), Fail> {
     let usage = "usage: spring run, gen, check, format, dump or idl\nstatus 2\n";
-    let rows: [(&[&str], &[u8], &[u8], Status, &str); 16] = [
+    let rows: [(&[&str], &[u8], &[u8], Status, &str); 24] = [
         (&[], STACK, SCRIPT, Status::Usage, usage),
         (&["run", "I", "S"], STACK, SCRIPT, Status::Usage, usage),
         (&["check", "S", "T"], STACK, SCRIPT, Status::Usage, usage),
@@ -279,6 +295,50 @@ fn refusals(rt: HostRuntime) -> Result<(), Fail> {
             "stack 6 A8\nstatus 3\n",
         ),
         (RUN, b"", b"", Status::Refused, "stack 1 A1\nstatus 3\n"),
+        (
+            &["run", "unknown", "S", "T"],
+            b"",
+            b"",
+            Status::Refused,
+            "idl 14 unknown\nstatus 3\n",
+        ),
+        (
+            &["run", "bad", "S", "T"],
+            b"",
+            b"",
+            Status::Refused,
+            "idl 16 byte\nstatus 3\n",
+        ),
+        (
+            &["run", "U", "S", "T"],
+            b"",
+            b"",
+            Status::ShelfFault,
+            "shelf U\nstatus 4\n",
+        ),
+        (
+            &["run", "--trace", "I", "S", "T"],
+            STACK,
+            SCRIPT,
+            Status::Usage,
+            usage,
+        ),
+        (&["idl", "I"], b"", b"", Status::Good, TABLES),
+        (
+            &["idl", "bad"],
+            b"",
+            b"",
+            Status::Refused,
+            "idl 16 byte\nstatus 3\n",
+        ),
+        (
+            &["idl", "U"],
+            b"",
+            b"",
+            Status::ShelfFault,
+            "shelf U\nstatus 4\n",
+        ),
+        (&["idl", "I", "S"], b"", b"", Status::Usage, usage),
         (CHECK, SPREAD, b"", Status::Good, SPREAD_TREE),
         (
             &["check", "U"],
@@ -339,14 +399,14 @@ fn runs(rt: HostRuntime) -> Result<(), Fail> {
 }
 
 /// What is to fail in a run over one file, and how it ends.
-const FAULTS: [(Outside<'static>, Status, &str); 11] = [
+const FAULTS: [(Outside<'static>, Status, &[u8]); 12] = [
     (
         Outside {
             shelf: &[1],
             ..SOUND
         },
         Status::ShelfFault,
-        "shelf S\nstatus 4\n",
+        b"shelf I\nstatus 4\n",
     ),
     (
         Outside {
@@ -354,7 +414,15 @@ const FAULTS: [(Outside<'static>, Status, &str); 11] = [
             ..SOUND
         },
         Status::ShelfFault,
-        "shelf T\nstatus 4\n",
+        b"shelf S\nstatus 4\n",
+    ),
+    (
+        Outside {
+            shelf: &[3],
+            ..SOUND
+        },
+        Status::ShelfFault,
+        b"shelf T\nstatus 4\n",
     ),
     (
         Outside {
@@ -362,7 +430,7 @@ const FAULTS: [(Outside<'static>, Status, &str); 11] = [
             ..SOUND
         },
         Status::BayFault,
-        "bay d f\nstatus 5\n",
+        b"bay d f\nstatus 5\n",
     ),
     (
         Outside {
@@ -370,7 +438,7 @@ const FAULTS: [(Outside<'static>, Status, &str); 11] = [
             ..SOUND
         },
         Status::Faulted,
-        "store d 1\nstatus 1\n",
+        b"store d 1\nstatus 1\n",
     ),
     (
         Outside {
@@ -379,7 +447,7 @@ const FAULTS: [(Outside<'static>, Status, &str); 11] = [
             ..SOUND
         },
         Status::Faulted,
-        "store d 1\nbay d f\nstatus 1\n",
+        b"store d 1\nbay d f\nstatus 1\n",
     ),
     (
         Outside {
@@ -419,7 +487,7 @@ const FAULTS: [(Outside<'static>, Status, &str); 11] = [
             ..SOUND
         },
         Status::SinkFault,
-        "client ",
+        b"client ",
     ),
     (
         Outside {
@@ -428,12 +496,12 @@ const FAULTS: [(Outside<'static>, Status, &str); 11] = [
             ..SOUND
         },
         Status::SinkFault,
-        "cl",
+        b"cl",
     ),
 ];
 
 /// The same over two files.
-const FILES_FAULTS: [(Outside<'static>, Status, &str); 5] = [
+const FILES_FAULTS: [(Outside<'static>, Status, &[u8]); 5] = [
     (Outside { file: "g", ..SOUND }, Status::Good, FILES_REPORT),
     (
         Outside {
@@ -442,7 +510,7 @@ const FILES_FAULTS: [(Outside<'static>, Status, &str); 5] = [
             ..SOUND
         },
         Status::BayFault,
-        "bay d g\nstatus 5\n",
+        b"bay d g\nstatus 5\n",
     ),
     (
         Outside {
@@ -452,7 +520,7 @@ const FILES_FAULTS: [(Outside<'static>, Status, &str); 5] = [
             ..SOUND
         },
         Status::BayFault,
-        "bay d g\nbay d f\nstatus 5\n",
+        b"bay d g\nbay d f\nstatus 5\n",
     ),
     (
         Outside {
@@ -462,7 +530,7 @@ const FILES_FAULTS: [(Outside<'static>, Status, &str); 5] = [
             ..SOUND
         },
         Status::Faulted,
-        "store d 1\nbay d f\nbay d g\nstatus 1\n",
+        b"store d 1\nbay d f\nbay d g\nstatus 1\n",
     ),
     (
         Outside {
@@ -480,12 +548,12 @@ fn faults(rt: HostRuntime) -> Result<(), Fail> {
     for (outside, status, text) in FAULTS {
         let (got, sink) = command(&rt, rt.alloc(), RUN, STACK, SCRIPT, &outside)?;
         assert_eq!(rt; got, status);
-        assert_eq!(rt; sink.bytes(), text.as_bytes());
+        assert_eq!(rt; sink.bytes(), text);
     }
     for (outside, status, text) in FILES_FAULTS {
         let (got, sink) = command(&rt, rt.alloc(), RUN, FILES, FILES_SCRIPT, &outside)?;
         assert_eq!(rt; got, status);
-        assert_eq!(rt; sink.bytes(), text.as_bytes());
+        assert_eq!(rt; sink.bytes(), text);
     }
     Ok(())
 }
@@ -494,7 +562,7 @@ fn faults(rt: HostRuntime) -> Result<(), Fail> {
 #[test]
 fn each_call(rt: HostRuntime) -> Result<(), Fail> {
     for (call, count) in [
-        (Call::Shelf, 2),
+        (Call::Shelf, 3),
         (Call::Take, 1),
         (Call::Give, 1),
         (Call::Read, 2),
@@ -502,7 +570,7 @@ fn each_call(rt: HostRuntime) -> Result<(), Fail> {
         (Call::Flush, 2),
         (Call::Sink, 1),
     ] {
-        for nth in 1..4 {
+        for nth in 1..5 {
             let (got, _sink) = command(
                 &rt,
                 rt.alloc(),

@@ -1,14 +1,15 @@
 //! What a command reads before it takes a store: the stack and the script.
 
-ghost use Rattle.std.specs.Prelude.{◌≡◌, ◌⊎◌, ◌≤◌, ℕ, List, IfOk, IfErr, Some};
+ghost use Rattle.std.specs.Prelude.{◌≡◌, ◌⊎◌, ◌≤◌, ℕ, List, IfOk, IfErr, Some, length};
 ghost use Rattle.std.specs.Option.{option_map, option_copied};
 ghost use Rattle.spr_io.specs.Causes.{Rose};
 ghost use Rattle.stack_accept.specs.Mount.{mounted};
 ghost use Rattle.run_defs.specs.Setting.{IsBuilt};
 ghost use Rattle.spr_run.specs.Built.{is_built, later_in, later_call};
 ghost use Rattle.spr_run.specs.Stacks.{IsText, IsStackOf, IsMounted};
-ghost use Rattle.spr_run.specs.Refusal.{Spells, RefusesScript, Scripts, IsPrepared, IsStackCause, IsSettingCause, IsCause};
+ghost use Rattle.spr_run.specs.Refusal.{HasScript, Spells, RefusesScript, Scripts, IsPrepared, IsStackCause, IsSettingCause, IsRunCause, IsCause};
 
+use crate::interfaces::read_interfaces;
 use crate::refusal::Refusal;
 use crate::stacks::{accept_text, setting_in};
 use hist_plain::{Items, Text};
@@ -22,20 +23,22 @@ use std::alloc::Global;
 /// The most bytes that a text may have.
 const TEXT_LIMIT: u32 = 16_777_216;
 
-/// The text of a name.
-fn read_text<H: Shelf>(
+/// The text of a name, of at most so many bytes.
+pub(crate) fn read_text<H: Shelf>(
     alloc: Global,
     shelf: &mut H,
     name: &Text,
+    limit: u32,
     failed: Refusal,
 ) -> Result<Vec<u8>, Refusal>
+    ensures few { IfOk result (λ text. length text.items ≤ limit) }
     ensures text { IfOk result (λ text. IsText (H.text shelf.old) name.now text.items) }
     ensures err { IfErr result (λ why. ((why ≡ failed) × Rose (H.faults shelf.old) (H.faults shelf.new)) ⊎ (why ≡ Refusal.Memory)) }
     ensures same { (other : List ℕ) → H.text shelf.new other ≡ H.text shelf.old other }
     ensures later { H.faults shelf.old ≤ H.faults shelf.new }
 {
     let mut text = Vec::new(alloc);
-    match shelf.read(name.as_str(), TEXT_LIMIT, &mut text) {
+    match shelf.read(name.as_str(), limit, &mut text) {
         Ok(()) => Ok(text),
         Err(ShelfErr::Failed) => Err(failed),
         Err(ShelfErr::Memory) => Err(Refusal::Memory),
@@ -113,7 +116,7 @@ pub(crate) fn read_accepted<H: Shelf>(
     ensures same { (other : List ℕ) → H.text shelf.new other ≡ H.text shelf.old other }
     ensures later { H.faults shelf.old ≤ H.faults shelf.new }
 {
-    let text = read_text(alloc, shelf, name, Refusal::StackShelf)?;
+    let text = read_text(alloc, shelf, name, TEXT_LIMIT, Refusal::StackShelf)?;
     accept_text(alloc, &text)
 }
 
@@ -130,18 +133,35 @@ fn read_stack<H: Shelf>(alloc: Global, shelf: &mut H, name: &Text) -> Result<Set
 }
 
 /// Reads the stack and the script of these names.
-pub(crate) fn read_texts<H: Shelf>(
+fn read_stack_and_script<H: Shelf>(
     alloc: Global,
     shelf: &mut H,
     stack: &Text,
     name: &Text,
 ) -> Result<(Setting, Script), Refusal>
-    ensures ok { IfOk result (λ found. IsPrepared (H.text shelf.old) stack.now name.now found.0 found.1) }
+    ensures mounted { IfOk result (λ found. IsMounted (H.text shelf.old) stack.now found.0) }
+    ensures script { IfOk result (λ found. HasScript (H.text shelf.old) name.now found.1) }
     ensures built { IfOk result (λ found. IsBuilt found.0) }
-    ensures err { IfErr result (IsCause (H.text shelf.old) (H.faults shelf.old) (H.faults shelf.new) stack.now name.now) }
+    ensures err { IfErr result (IsRunCause (H.text shelf.old) (H.faults shelf.old) (H.faults shelf.new) stack.now name.now) }
 {
     let setting = read_stack(alloc, shelf, stack)?;
-    let text = read_text(alloc, shelf, name, Refusal::ScriptShelf)?;
+    let text = read_text(alloc, shelf, name, TEXT_LIMIT, Refusal::ScriptShelf)?;
     let script = read_script(alloc, &text)?;
     Ok((setting, script))
+}
+
+/// Reads the interfaces, the stack and the script of these names.
+pub(crate) fn read_texts<H: Shelf>(
+    alloc: Global,
+    shelf: &mut H,
+    idl: &Text,
+    stack: &Text,
+    name: &Text,
+) -> Result<(Setting, Script), Refusal>
+    ensures ok { IfOk result (λ found. IsPrepared (H.text shelf.old) (record { idl = idl.now; stack = stack.now; script = name.now }) found.0 found.1) }
+    ensures built { IfOk result (λ found. IsBuilt found.0) }
+    ensures err { IfErr result (IsCause (H.text shelf.old) (H.faults shelf.old) (H.faults shelf.new) (record { idl = idl.now; stack = stack.now; script = name.now })) }
+{
+    read_interfaces(alloc, shelf, idl)?;
+    read_stack_and_script(alloc, shelf, stack, name)
 }

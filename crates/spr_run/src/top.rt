@@ -1,49 +1,28 @@
 //! The program's one call.
 
-ghost use Rattle.std.specs.Prelude.{◌≡◌, ◌∷◌, [], ℕ, List, IfSome, IfNone, codes};
 ghost use Rattle.std.specs.List.{AllByRecursion};
 ghost use Rattle.script_text.specs.Grammar.{IsScript};
 ghost use Rattle.plain_run.specs.Phases.{AreCalls};
 ghost use Rattle.run_defs.specs.Setting.{IsBuilt};
-ghost use Rattle.spr_run.specs.Ways.{IsCheck, IsRun, RunsScript, Ends};
+ghost use Rattle.spr_run.specs.Ways.{RunsScript, RunsNames, Ends};
 
 use crate::check::check_stack;
 use crate::finish::{MEMORY, finish, stopped};
 use crate::refusal::refuse;
 use crate::store::{End, run_files};
+use crate::tables::put_tables;
 use crate::texts::read_texts;
 use hist_plain::Text;
 use run_defs::Setting;
 use script_text::Script;
 use spr_io::{Bay, Gate, Shelf, Sink};
 use spr_report::Status;
+use spr_words::{Asked, WordsErr, read_words};
 use std::alloc::Global;
 use std::sync::Wait;
 use std::thread::Threads;
 
 const USAGE: &[u8] = b"usage: spring run, gen, check, format, dump or idl\nstatus 2\n";
-
-/// The name of a check's stack.
-fn check_words(words: &[Text]) -> Option<&Text>
-    ensures some { IfSome result (λ stack. IsCheck words.now stack.now) }
-    ensures none { IfNone result ((stack : List ℕ) → IsCheck words.now stack → ⊥) }
-{
-    match words {
-        [check, stack] if check.as_str() == "check" => Some(stack),
-        _ => None,
-    }
-}
-
-/// The names of a run's stack and script.
-fn run_words(words: &[Text]) -> Option<(&Text, &Text)>
-    ensures some { IfSome result (λ names. IsRun words.now names.0.now names.1.now) }
-    ensures none { IfNone result ((stack name : List ℕ) → IsRun words.now stack name → ⊥) }
-{
-    match words {
-        [run, _idl, stack, script] if run.as_str() == "run" => Some((stack, script)),
-        _ => None,
-    }
-}
 
 /// Runs a script over the files of a stack, and writes how it ended.
 fn run_script<B: Bay, K: Sink>(
@@ -65,6 +44,25 @@ fn run_script<B: Bay, K: Sink>(
     }
 }
 
+/// Runs the script of a name over the files of the stack of a name, where the interfaces of a name fit together, and writes how
+/// that ended.
+fn run_names<H: Shelf, B: Bay, K: Sink>(
+    alloc: Global,
+    idl: &Text,
+    stack: &Text,
+    name: &Text,
+    shelf: &mut H,
+    bay: &mut B,
+    sink: &mut K,
+) -> Status
+    ensures ends { RunsNames (record { idl = idl.now; stack = stack.now; script = name.now }) (record { texts = H.text shelf.old; shelf = H.faults shelf.old; shelf_after = H.faults shelf.new; bay = record { berths = B.berth bay.old; berths_after = B.berth bay.new; faults = B.faults bay.old; faults_after = B.faults bay.new }; written = K.written sink.old; written_after = K.written sink.new; sink = K.faults sink.old; sink_after = K.faults sink.new }) result }
+{
+    match read_texts(alloc, shelf, idl, stack, name) {
+        Ok((setting, script)) => run_script(alloc, &setting, &script, bay, sink),
+        Err(refusal) => refuse(sink, idl.as_str(), stack.as_str(), name.as_str(), refusal),
+    }
+}
+
 /// Runs the program: a command of these words over the shelf, the bay and the sink.
 ///
 /// Headline: each access within one page, by file call, mapping or any stacked view, unless a store
@@ -83,14 +81,13 @@ pub fn spring<R: Threads + Wait + Sync, H: Shelf, B: Bay, K: Sink, G: Gate>(
 ) -> Status
     ensures ends { Ends words.now (record { texts = H.text shelf.old; shelf = H.faults shelf.old; shelf_after = H.faults shelf.new; bay = record { berths = B.berth bay.old; berths_after = B.berth bay.new; faults = B.faults bay.old; faults_after = B.faults bay.new }; written = K.written sink.old; written_after = K.written sink.new; sink = K.faults sink.old; sink_after = K.faults sink.new }) result }
 {
-    if let Some(stack) = check_words(words) {
-        return check_stack(alloc, shelf, stack, sink);
-    }
-    let Some((stack, name)) = run_words(words) else {
-        return finish(sink, &[USAGE], Status::Usage);
-    };
-    match read_texts(alloc, shelf, stack, name) {
-        Ok((setting, script)) => run_script(alloc, &setting, &script, bay, sink),
-        Err(refusal) => refuse(sink, stack.as_str(), name.as_str(), refusal),
+    match read_words(alloc, words) {
+        Ok(Asked::Run { idl, stack, script }) => {
+            run_names(alloc, &idl, &stack, &script, shelf, bay, sink)
+        }
+        Ok(Asked::Idl { idl }) => put_tables(alloc, shelf, &idl, sink),
+        Ok(Asked::Check { stack }) => check_stack(alloc, shelf, &stack, sink),
+        Err(WordsErr::Usage) => finish(sink, &[USAGE], Status::Usage),
+        Err(WordsErr::Memory) => finish(sink, &[MEMORY], Status::Memory),
     }
 }

@@ -8,10 +8,12 @@ pub const HELP: &str =
 
 usage: spring run IDL STACK SCRIPT
        spring check STACK
+       spring idl IDL
 
   run IDL STACK SCRIPT   mounts the stack, runs the script over it, syncs each file, and writes each
                          client's answers and each file's one history
   check STACK            writes the tree of layers that the stack makes, or why it cannot be mounted
+  idl IDL                writes the numbered operations of each interface
   --help, -h             writes this
   --version              writes the version
 

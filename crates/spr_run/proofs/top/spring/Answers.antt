@@ -1,9 +1,18 @@
-use Rattle.std.proofs.Common.{◌≡◌, refl}
-use Rattle.spr_run.proofs.TopLaws.{ends-check, ends-run}
+use Rattle.std.proofs.Common.{◌≡◌, ◌∙◌, ap, refl, Some}
+use Rattle.spr_run.proofs.TopLaws.{ends-check, ends-names, ends-tables}
 use Rattle.spr_run.proofs.top.spring.Goals as goal
 
-pub returns-in-Some : goal.returns-in-Some
-returns-in-Some g c = record { ends = ends-check c.args.words.now c.in-Some.stack.now _ c.check_stack.result c.in-Some.ensures.some (λ disk file. refl) c.check_stack.ensures }
+pub returns-in-Ok-Run : goal.returns-in-Ok-Run
+returns-in-Ok-Run g c =
+    let asks = c.in-Ok-Run.ensures.ok ∙ ap Some c.in-Ok-Run.field-0-is in
+    record { ends = ends-names c.args.words.now (record { idl = c.in-Ok-Run.idl; stack = c.in-Ok-Run.stack; script = c.in-Ok-Run.script }) _ c.run_names.result asks c.run_names.ensures.ends }
 
-pub returns-in-Ok : goal.returns-in-Ok
-returns-in-Ok g c = record { ends = ends-run c.args.words.now _ _ _ c.in-Ok.setting c.in-Ok.script c.run_script.result c.in-Some-run_words.ensures.some c.in-Ok.ensures.ok c.run_script.ensures }
+pub returns-in-Ok-Check : goal.returns-in-Ok-Check
+returns-in-Ok-Check g c =
+    let asks = c.in-Ok-Check.ensures.ok ∙ ap Some c.in-Ok-Check.field-0-is in
+    record { ends = ends-check c.args.words.now c.in-Ok-Check.stack _ c.check_stack.result asks (λ disk file. refl) c.check_stack.ensures }
+
+pub returns-in-Ok-Idl : goal.returns-in-Ok-Idl
+returns-in-Ok-Idl g c =
+    let asks = c.in-Ok-Idl.ensures.ok ∙ ap Some c.in-Ok-Idl.field-0-is in
+    record { ends = ends-tables c.args.words.now c.in-Ok-Idl.idl _ c.put_tables.result asks (λ disk file. refl) c.put_tables.ensures }
