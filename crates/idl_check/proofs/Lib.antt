@@ -1,3 +1,4 @@
 pub mod Ways
 pub mod Below
 pub mod Reaching
+pub mod Apart

@@ -246,6 +246,18 @@ none_of : (why : UnfitWhy) (o : Option ℕ) (other : Option IdlUnfit) → or_unf
 none_of why None other e = (refl, e)
 none_of why (Some place) other e = absurd cc
 
+-- the reasons that do not hold where declarations fit together
+pub no_repeat : (decls : List DeclTree) → unfit decls ≡ None → repeat_in [] decls ≡ None
+unfolding unfit
+no_repeat decls fit = (none_of Repeated (repeat_in [] decls) _ fit).0
+
+pub no_wrong_base : (decls : List DeclTree) → unfit decls ≡ None → first_wrong_base decls ≡ None
+unfolding unfit
+no_wrong_base decls fit =
+    let a = none_of Repeated (repeat_in [] decls) _ fit in
+    let b = none_of UnknownType (first_unknown decls) _ a.1 in
+    (none_of NotInterface (first_wrong_base decls) _ b.1).0
+
 pub no_cycle : (decls : List DeclTree) → unfit decls ≡ None → (i : ℕ) → i < length decls → at (reached decls) i i ≡ false
 unfolding unfit
 no_cycle decls fit i below =
@@ -255,6 +267,32 @@ no_cycle decls fit i below =
     let d = none_of Cycle (first_cycle decls) _ c.1 in
     let same : 0 + i ≡ i = omega arith in
     sym (ap (λ n. at (reached decls) n n) same) ∙ cycle_none (reached decls) 0 decls d.0 i below
+
+-- a row that lacks one of its places counts less than its length
+count_within : (row : List Bool) → trues row ≤ length row
+count_within [] = omega arith
+count_within (true ∷ row) = omega (arith, count_within row)
+count_within (false ∷ row) = omega (arith, count_within row)
+
+count_below : (row : List Bool) (m : ℕ) → m < length row → get_or row m false ≡ false → trues row < length row
+count_below [] m below isnt = absurd (omega arith)
+count_below (true ∷ row) zero below isnt = absurd cc
+count_below (false ∷ row) zero below isnt = omega (arith, count_within row)
+count_below (true ∷ row) (suc m) below isnt = omega (arith, count_below row m (omega arith) isnt)
+count_below (false ∷ row) (suc m) below isnt = omega (arith, count_below row m (omega arith) isnt)
+
+-- no declaration reaches as many as there are, since it does not reach itself
+pub rank_below : (decls : List DeclTree) → unfit decls ≡ None → (i : ℕ) → i < length decls → get_or (ranks_of decls) i 0 < length decls
+rank_below decls fit i below =
+    let n = length decls in
+    let rows = reached decls in
+    let square = (right_ways n n (direct decls) (direct_square decls)).square in
+    let tall = square.tall in
+    let wide = square.wide i below in
+    let less = count_below (get_or rows i []) i (omega arith) (no_cycle decls fit i below) in
+    let is : get_or (ranks_of decls) i 0 ≡ count_by (λ b. b) (get_or rows i []) = get_or-map (λ row. count_by (λ b. b) row) rows i [] 0 (omega arith) in
+    let count = counts (get_or rows i []) in
+    omega (arith, is, count, less, wide)
 
 -- what a declaration is made of has a smaller number
 pub rank_falls : (decls : List DeclTree) → unfit decls ≡ None → (i j : ℕ) → at (direct decls) i j ≡ true → get_or (ranks_of decls) j 0 < get_or (ranks_of decls) i 0

@@ -1,6 +1,6 @@
 //! Declarations that were found to fit together.
 
-ghost use Rattle.std.specs.Prelude.{◌≡◌, ◌<◌, IfOk, IfErr, List, ℕ, get_or, true, None};
+ghost use Rattle.std.specs.Prelude.{◌≡◌, ◌<◌, IfOk, IfErr, List, ℕ, get_or, length, true, None};
 ghost use Rattle.idl_reader.specs.Tree.{DeclTree, idl_tree};
 ghost use Rattle.idl_check.specs.Fit.{Fit, IsFit};
 ghost use Rattle.idl_check.specs.Reach.{at, direct, reached, Reaches, ranks_of};
@@ -78,8 +78,10 @@ pub fn ways_and_answers()
     ensures complete { (decls : List DeclTree) (i j : ℕ) → Reaches (direct decls) i j → at (reached decls) i j ≡ true }
 {}
 
-/// Where declarations fit together, what one is made of has a smaller number than it: so a
-/// recursion on a declaration's fields or bases ends.
+/// Where declarations fit together, what one is made of has a smaller number than it, and each
+/// number is below how many declarations there are: so a recursion on a declaration's fields or
+/// bases ends, within that depth.
 pub fn ranks_fall()
-    ensures { (decls : List DeclTree) → unfit decls ≡ None → (i j : ℕ) → at (direct decls) i j ≡ true → get_or (ranks_of decls) j 0 < get_or (ranks_of decls) i 0 }
+    ensures below { (decls : List DeclTree) → unfit decls ≡ None → (i : ℕ) → i < length decls → get_or (ranks_of decls) i 0 < length decls }
+    ensures fall { (decls : List DeclTree) → unfit decls ≡ None → (i j : ℕ) → at (direct decls) i j ≡ true → get_or (ranks_of decls) j 0 < get_or (ranks_of decls) i 0 }
 {}

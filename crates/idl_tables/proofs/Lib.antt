@@ -1,2 +1,4 @@
 pub mod Once
 pub mod Stable
+pub mod Operations
+pub mod Rule

@@ -1,9 +1,8 @@
 -- Bases are followed deep enough: the line of each declaration is those of its bases, each declaration once, and then itself.
-use Rattle.std.proofs.Common.{◌≡◌, ℕ, zero, suc, ◌+◌, ◌<◌, ◌≤◌, List, [], ◌∷◌, ◌++◌, length, map, Bool, true, false, cond, ◌||◌, get_or, count_by, None, ◌⊎◌, inl, inr, refl, sym, ap, subst, ◌∙◌, add-zero, arith}
-use Rattle.std.specs.List.{AllByRecursion, list_any}
-use Rattle.std.specs.Str.{bytes_eq}
+use Rattle.std.proofs.Common.{◌≡◌, ℕ, zero, suc, ◌+◌, ◌<◌, ◌≤◌, List, [], ◌∷◌, ◌++◌, length, get_or, ◌⊎◌, inl, inr, refl, sym, ap, ◌∙◌, add-zero, arith}
+use Rattle.std.specs.List.{AllByRecursion}
 use Rattle.std.proofs.lemmas.Bool.{cases_lt}
-use Rattle.std.proofs.lemmas.List.{length-map, get_or-map}
+use Rattle.std.proofs.lemmas.List.{length-map}
 use Rattle.idl_tables.specs.Lines.{once_after, merged, joined_line, next_from, lines_to}
 
 get_or_beyond : {X : Type 0} (xs : List X) (i : ℕ) (d : X) → length xs ≤ i → get_or xs i d ≡ d
@@ -22,7 +21,7 @@ length-next_from : (lines : List (List ℕ)) (k : ℕ) (spots : List (List ℕ))
 length-next_from lines k [] = refl
 length-next_from lines k (s ∷ ss) = ap (λ n. suc n) (length-next_from lines (k + 1) ss)
 
-length-lines_to : (n : ℕ) (spots : List (List ℕ)) → length (lines_to n spots) ≡ length spots
+pub length-lines_to : (n : ℕ) (spots : List (List ℕ)) → length (lines_to n spots) ≡ length spots
 unfolding lines_to
 length-lines_to zero spots = length-map spots _
 length-lines_to (suc n) spots = length-next_from (lines_to n spots) 0 spots
@@ -39,10 +38,10 @@ joined_same a b bases i h = ap (λ l. l ++ i ∷ []) (merged_same a b [] bases h
 pub record Falls (rank : ℕ → ℕ) (spots : List (List ℕ)) : Type 0 where
   pub falls : (i : ℕ) → i < length spots → AllByRecursion (λ b. b < length spots → rank b < rank i) (get_or spots i [])
 
-each_same : (a b : List (List ℕ)) (n low : ℕ) (rank : ℕ → ℕ) (bases : List ℕ) → length a ≡ n → length b ≡ n → ((x : ℕ) → x < n → rank x < low → get_or a x [] ≡ get_or b x []) → AllByRecursion (λ x. x < n → rank x < low) bases
+pub each_same : {X : Type 0} (a b : List (List X)) (n low : ℕ) (rank : ℕ → ℕ) (bases : List ℕ) → length a ≡ n → length b ≡ n → ((x : ℕ) → x < n → rank x < low → get_or a x [] ≡ get_or b x []) → AllByRecursion (λ x. x < n → rank x < low) bases
     → AllByRecursion (λ x. get_or a x [] ≡ get_or b x []) bases
 each_same a b n low rank [] p q same h = tt
-each_same a b n low rank (x ∷ xs) p q same h = (here (cases_lt x n), each_same a b n low rank xs p q same h.1) where
+each_same {X} a b n low rank (x ∷ xs) p q same h = (here (cases_lt x n), each_same a b n low rank xs p q same h.1) where
   here : (x < n) ⊎ (n ≤ x) → get_or a x [] ≡ get_or b x []
   here (inl below) = same x below (h.0 below)
   here (inr beyond) = get_or_beyond a x [] (omega arith) ∙ sym (get_or_beyond b x [] (omega arith))

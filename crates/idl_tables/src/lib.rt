@@ -8,7 +8,7 @@ mod print;
 mod table_set;
 
 pub use entry::Entry;
-pub use lines::lines_and_bases;
+pub use lines::{lines_and_bases, tables_follow_bases};
 pub use table_set::{TableSet, print_tables, tables};
 
 #[cfg(test)]

@@ -3,10 +3,12 @@
 ghost use Rattle.std.specs.Prelude.{◌≡◌, IfOk};
 ghost use Rattle.idl_reader.specs.Tree.{idl_tree};
 ghost use Rattle.idl_tables.specs.TableSet.{IsTabled};
+ghost use Rattle.idl_tables.specs.Rule.{FollowBases};
 ghost use Rattle.idl_tables.specs.Tables.{tables_of, in_16_bits, table_named, number_in, tables_text};
 
 use crate::entries::{number_of, table_named, tables_of};
 use crate::entry::Entry;
+use crate::lines::tables_follow_bases;
 use crate::print::tables_text;
 use hist_plain::Bytes;
 use idl_check::Checked;
@@ -56,8 +58,8 @@ impl<'a> TableSet<'a> {
         &self.ranks
     }
 
-    /// The number of an operation of an interface, by their names. `None` where there is no such
-    /// interface or operation.
+    /// The number of an operation of an interface, by their names, counted from 0. `None` where
+    /// there is no such interface or operation, or where 16 bits do not hold the number.
     pub fn op_number(&self, interface: &str, name: &str) -> Option<u16>
         ensures { result ≡ in_16_bits (number_in name.now (table_named self.now.tables 0 (idl_tree self.now.idl) interface.now)) }
     {
@@ -73,7 +75,9 @@ pub fn tables<'a>(alloc: Global, checked: &Checked<'a>) -> Result<TableSet<'a>, 
     ensures idl { IfOk result (λ set. set.idl ≡ checked.now.idl) }
     ensures ranks { IfOk result (λ set. set.ranks ≡ checked.now.ranks) }
     ensures tables { IfOk result (λ set. set.tables ≡ tables_of (idl_tree checked.now.idl)) }
+    ensures rule { IfOk result (λ set. FollowBases (idl_tree checked.now.idl) set.tables) }
 {
+    tables_follow_bases();
     let idl = checked.idl();
     let ranks = Vec::from_slice(alloc, checked.ranks())?;
     let tables = tables_of(alloc, idl.decls.as_slice())?;
