@@ -87,7 +87,7 @@ pub fn fits(value: &Value, buf: &Buf) -> bool
 }
 
 /// Puts a value of a type, all of it or nothing. The set and the type are named for the condition alone, since a
-/// value's spelling does not depend on them. An error is want of memory.
+/// value's spelling does not depend on them. An error is want of memory, and none comes where there is room.
 pub fn put_value(
     _set: &TableSet<'_>,
     _ty: &IdlType,
@@ -98,6 +98,7 @@ pub fn put_value(
     requires within { IsWithin (size_of (tree_of value.now)) (length (doors_of (tree_of value.now))) buf.old }
     ensures ok { OnOk result (Puts (spelling (length buf.old.doors) (tree_of value.now)) (doors_of (tree_of value.now)) buf.old buf.new) }
     ensures err { OnErr result (IsAsBefore buf.old buf.new) }
+    ensures room { HasRoom (size_of (tree_of value.now)) (length (doors_of (tree_of value.now))) buf.old → IsOk result }
 {
     let room = room_of(value);
     buf.reserve(room.bytes as u32)?;
