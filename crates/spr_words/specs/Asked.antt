@@ -7,7 +7,7 @@ use Rattle.clap.specs.Faults.{fault_of}
 use Rattle.clap.specs.Walk.{is_empty}
 use Rattle.spr_words.specs.Line.{line}
 use Rattle.spr_words.specs.declared.words.Asked.{Asked}
-use Rattle.spr_words.specs.declared.words.Asked.TheVariants.{Run, Check, Idl}
+use Rattle.spr_words.specs.declared.words.Asked.TheVariants.{Run, Check, Format, Dump, Idl}
 
 -- the names that each command has, by what clap found
 abbrev pub run_in : List Row → Option Asked
@@ -18,6 +18,12 @@ run_in found =
 abbrev pub check_in : List Row → Option Asked
 check_in found = option_map Check (first_of (codes "stack") found)
 
+abbrev pub format_in : List Row → Option Asked
+format_in found = option_map Format (first_of (codes "stack") found)
+
+abbrev pub dump_in : List Row → Option Asked
+dump_in found = option_and_then (λ stack. option_map (λ file. Dump stack file) (first_of (codes "file") found)) (first_of (codes "stack") found)
+
 abbrev pub idl_in : List Row → Option Asked
 idl_in found = option_map Idl (first_of (codes "idl") found)
 
@@ -26,6 +32,8 @@ abbrev pub asked_by : Text → List Row → Option Asked
 asked_by name found =
     if bytes_eq name (codes "run") then run_in found
     else if bytes_eq name (codes "check") then check_in found
+    else if bytes_eq name (codes "format") then format_in found
+    else if bytes_eq name (codes "dump") then dump_in found
     else if bytes_eq name (codes "idl") then idl_in found
     else None
 

@@ -14,6 +14,14 @@ run = (with_rule (with_rule (with_rule (new_app (codes "run")) (name (codes "idl
 abbrev pub check : Shape
 check = (with_rule (new_app (codes "check")) (name (codes "stack"))).top
 
+-- format STACK
+abbrev pub format : Shape
+format = (with_rule (new_app (codes "format")) (name (codes "stack"))).top
+
+-- dump STACK FILE
+abbrev pub dump : Shape
+dump = (with_rule (with_rule (new_app (codes "dump")) (name (codes "stack"))) (name (codes "file"))).top
+
 -- idl IDL
 abbrev pub idl : Shape
 idl = (with_rule (new_app (codes "idl")) (name (codes "idl"))).top
@@ -32,4 +40,4 @@ bare = record (new_app (codes "spring")) {
 
 -- the line is one of the commands with its names
 abbrev pub line : App
-line = with_subcommand (with_subcommand (with_subcommand bare run) check) idl
+line = with_subcommand (with_subcommand (with_subcommand (with_subcommand (with_subcommand bare run) check) format) dump) idl

@@ -2,7 +2,7 @@
 
 ghost use Rattle.std.specs.Prelude.{◌≡◌, false, IfOk};
 ghost use Rattle.clap.specs.Words.{app_of, rule_of, shape_of};
-ghost use Rattle.spr_words.specs.Line.{check, idl, line, name, run};
+ghost use Rattle.spr_words.specs.Line.{check, dump, format, idl, line, name, run};
 
 use clap::{Arg, Command};
 use std::alloc::{AllocError, Global};
@@ -32,6 +32,22 @@ fn check<'a>(alloc: Global) -> Result<Command<'a>, AllocError>
     Command::new(alloc, "check").arg(name(alloc, "stack"))
 }
 
+/// The command that writes a fresh image on the store of each file.
+fn format<'a>(alloc: Global) -> Result<Command<'a>, AllocError>
+    ensures shape { IfOk result (λ c. shape_of c ≡ format) }
+{
+    Command::new(alloc, "format").arg(name(alloc, "stack"))
+}
+
+/// The command that prints the pages of the image of a file.
+fn dump<'a>(alloc: Global) -> Result<Command<'a>, AllocError>
+    ensures shape { IfOk result (λ c. shape_of c ≡ dump) }
+{
+    Command::new(alloc, "dump")
+        .arg(name(alloc, "stack"))?
+        .arg(name(alloc, "file"))
+}
+
 /// The command that prints the tables of interfaces.
 fn idl<'a>(alloc: Global) -> Result<Command<'a>, AllocError>
     ensures shape { IfOk result (λ c. shape_of c ≡ idl) }
@@ -51,5 +67,7 @@ pub(crate) fn line<'a>(alloc: Global) -> Result<Command<'a>, AllocError>
         .subcommand_required(true)
         .subcommand(run(alloc)?)?
         .subcommand(check(alloc)?)?
+        .subcommand(format(alloc)?)?
+        .subcommand(dump(alloc)?)?
         .subcommand(idl(alloc)?)
 }

@@ -10,6 +10,8 @@ use std::test::Fail;
 enum Wanted<'a> {
     Run(&'a str, &'a str, &'a str),
     Check(&'a str),
+    Format(&'a str),
+    Dump(&'a str, &'a str),
     Idl(&'a str),
     Usage,
 }
@@ -30,6 +32,10 @@ fn is(asked: &Result<Asked, WordsErr>, wanted: Wanted<'_>) -> bool {
             idl.as_str() == i && stack.as_str() == s && script.as_str() == t
         }
         (Ok(Asked::Check { stack }), Wanted::Check(s)) => stack.as_str() == s,
+        (Ok(Asked::Format { stack }), Wanted::Format(s)) => stack.as_str() == s,
+        (Ok(Asked::Dump { stack, file }), Wanted::Dump(s, f)) => {
+            stack.as_str() == s && file.as_str() == f
+        }
         (Ok(Asked::Idl { idl }), Wanted::Idl(i)) => idl.as_str() == i,
         (Err(WordsErr::Usage), Wanted::Usage) => true,
         _ => false,
@@ -38,7 +44,7 @@ fn is(asked: &Result<Asked, WordsErr>, wanted: Wanted<'_>) -> bool {
 
 #[test]
 fn commands(rt: HostRuntime) -> Result<(), Fail> {
-    let rows: [(&[&str], Wanted<'static>); 26] = [
+    let rows: [(&[&str], Wanted<'static>); 34] = [
         (&["run", "i", "s", "t"], Wanted::Run("i", "s", "t")),
         (&["run", "", "s", "t"], Wanted::Run("", "s", "t")),
         (&["run", "-", "s", "t"], Wanted::Run("-", "s", "t")),
@@ -54,6 +60,10 @@ fn commands(rt: HostRuntime) -> Result<(), Fail> {
         (&["run", "i", "s", "help"], Wanted::Run("i", "s", "help")),
         (&["check", "s"], Wanted::Check("s")),
         (&["check", "--", "s"], Wanted::Check("s")),
+        (&["format", "s"], Wanted::Format("s")),
+        (&["format", "dump"], Wanted::Format("dump")),
+        (&["dump", "s", "f"], Wanted::Dump("s", "f")),
+        (&["dump", "s", "--", "-f"], Wanted::Dump("s", "-f")),
         (&["idl", "i"], Wanted::Idl("i")),
         (&[], Wanted::Usage),
         (&[""], Wanted::Usage),
@@ -67,6 +77,10 @@ fn commands(rt: HostRuntime) -> Result<(), Fail> {
         (&["ru", "i", "s", "t"], Wanted::Usage),
         (&["check"], Wanted::Usage),
         (&["check", "s", "t"], Wanted::Usage),
+        (&["format"], Wanted::Usage),
+        (&["format", "s", "f"], Wanted::Usage),
+        (&["dump", "s"], Wanted::Usage),
+        (&["dump", "s", "f", "g"], Wanted::Usage),
         (&["idl"], Wanted::Usage),
         (&["help"], Wanted::Usage),
         (&["--help"], Wanted::Usage),

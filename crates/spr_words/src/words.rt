@@ -29,6 +29,18 @@ pub enum Asked {
         /// The name of the stack's text.
         stack: Text,
     },
+    /// Write a fresh image on the store of each file of a stack.
+    Format {
+        /// The name of the stack's text.
+        stack: Text,
+    },
+    /// Print the pages of the image of a file of a stack.
+    Dump {
+        /// The name of the stack's text.
+        stack: Text,
+        /// The name of the file.
+        file: Text,
+    },
     /// Print the tables of interfaces.
     Idl {
         /// The name of the text of the interfaces.
@@ -56,7 +68,7 @@ impl From<AllocError> for WordsErr {
     }
 }
 
-ghost use Rattle.spr_words.specs.Asked.{asked, asked_by, asked_in, check_in, idl_in, run_in};
+ghost use Rattle.spr_words.specs.Asked.{asked, asked_by, asked_in, check_in, dump_in, format_in, idl_in, run_in};
 
 /// Lends the words.
 fn lend<'a>(alloc: Global, words: &'a [Text]) -> Result<Vec<&'a str>, AllocError>
@@ -124,6 +136,25 @@ fn check_in(alloc: Global, found: &ArgMatches<'_>) -> Result<Asked, WordsErr>
     Ok(Asked::Check { stack })
 }
 
+/// A formatting, with its name.
+fn format_in(alloc: Global, found: &ArgMatches<'_>) -> Result<Asked, WordsErr>
+    ensures ok { IfOk result (λ a. format_in (rows_of (found_of found.now)) ≡ Some a) }
+    ensures usage { result ≡ Err WordsErr.Usage → format_in (rows_of (found_of found.now)) ≡ None }
+{
+    let stack = named(alloc, found, "stack")?;
+    Ok(Asked::Format { stack })
+}
+
+/// The printing of a file's pages, with its names.
+fn dump_in(alloc: Global, found: &ArgMatches<'_>) -> Result<Asked, WordsErr>
+    ensures ok { IfOk result (λ a. dump_in (rows_of (found_of found.now)) ≡ Some a) }
+    ensures usage { result ≡ Err WordsErr.Usage → dump_in (rows_of (found_of found.now)) ≡ None }
+{
+    let stack = named(alloc, found, "stack")?;
+    let file = named(alloc, found, "file")?;
+    Ok(Asked::Dump { stack, file })
+}
+
 /// The printing of tables, with its name.
 fn idl_in(alloc: Global, found: &ArgMatches<'_>) -> Result<Asked, WordsErr>
     ensures ok { IfOk result (λ a. idl_in (rows_of (found_of found.now)) ≡ Some a) }
@@ -141,6 +172,8 @@ fn asked_by(alloc: Global, name: &str, found: &ArgMatches<'_>) -> Result<Asked, 
     match name {
         "run" => run_in(alloc, found),
         "check" => check_in(alloc, found),
+        "format" => format_in(alloc, found),
+        "dump" => dump_in(alloc, found),
         "idl" => idl_in(alloc, found),
         _ => Err(WordsErr::Usage),
     }
