@@ -24,6 +24,9 @@ use Rattle.stack_setting.specs.Later.{later_line}
 use Rattle.stack_setting.specs.Mounted.{is_view, file_entry, node_entry, setting_of}
 use Rattle.stack_setting.proofs.Names.{AreNamed, files_named}
 use Rattle.stack_setting.proofs.OneDisk.{one_disk}
+use Rattle.stack_setting.proofs.DiskNames.{some_disk, disks_differ}
+use Rattle.file_stores.specs.Stocked.{IsStocked, stores_of}
+use Rattle.file_stores.proofs.SpreadLaws.{Differ, stores_stocked}
 use Rattle.stack_setting.proofs.Upper.{two_nodes}
 
 parents_tree : (tree : TreeShape) → IsTree tree → length tree.parents ≤ 32 → IsParents tree.parents
@@ -85,6 +88,14 @@ built_of m lines is made accepted later =
       named = subst (λ (s : Mount). AreNamed (map (λ file. file_entry file) s.files)) (sym made) (files_named [] lines (kept lines accepted));
     }
 
+-- the stores of a mounted stack
+stocked_of : (m : Mount) (lines : List StackLine) → IsMount m → m ≡ mounted lines → IsAccepted lines → IsStocked (stores_of (setting_of m))
+stocked_of m lines is made accepted =
+    let files = length-map m.files (λ file. file_entry file) in
+    stores_stocked (setting_of m) is.page_size (pages_low m.files is.pages) (omega (arith, files, is.few_files)) (some_disk m.ground (length m.disks) is.disks) is.few_disks
+    (subst (λ (s : Mount). AreNamed (map (λ file. file_entry file) s.files)) (sym made) (files_named [] lines (kept lines accepted)))
+    (subst (λ (s : Mount). Differ s.disks) (sym made) (disks_differ [] lines (kept lines accepted)))
+
 setting_by : ℕ → List ℕ → List RunFile → List RunNode → List (List ℕ) → Setting
 setting_by page_size parents files nodes disks = record { page_size = page_size; parents = parents; files = files; nodes = nodes; disks = disks }
 
@@ -95,10 +106,19 @@ made_of : (setting : Setting) → setting_by setting.page_size setting.parents s
 unfolding setting_by
 made_of setting = refl
 
+same_parts : (setting : Setting) (m : Mount) → setting.page_size ≡ m.page_size → setting.parents ≡ m.tree.parents → setting.files ≡ map (λ file. file_entry file) m.files
+    → setting.nodes ≡ map (λ node. node_entry node) m.nodes → setting.disks ≡ m.disks → setting ≡ setting_of m
+same_parts setting m size parents files nodes disks =
+    let t = setting_of m in
+    sym (made_of setting) ∙ (same_setting setting.page_size t.page_size setting.parents t.parents setting.files t.files setting.nodes t.nodes setting.disks t.disks size parents files nodes disks ∙ made_of t)
+
 -- the same of a setting with the parts of the mounted stack
 pub built_parts : (setting : Setting) (m : Mount) → setting.page_size ≡ m.page_size → setting.parents ≡ m.tree.parents → setting.files ≡ map (λ file. file_entry file) m.files
     → setting.nodes ≡ map (λ node. node_entry node) m.nodes → setting.disks ≡ m.disks → IsMount m → (lines : List StackLine) → m ≡ mounted lines → IsAccepted lines → later_line lines ≡ None → IsBuilt setting
 built_parts setting m size parents files nodes disks is lines made accepted later =
-    let t = setting_of m in
-    let same : setting ≡ t = sym (made_of setting) ∙ (same_setting setting.page_size t.page_size setting.parents t.parents setting.files t.files setting.nodes t.nodes setting.disks t.disks size parents files nodes disks ∙ made_of t) in
-    subst IsBuilt (sym same) (built_of m lines is made accepted later)
+    subst IsBuilt (sym (same_parts setting m size parents files nodes disks)) (built_of m lines is made accepted later)
+
+pub stocked_parts : (setting : Setting) (m : Mount) → setting.page_size ≡ m.page_size → setting.parents ≡ m.tree.parents → setting.files ≡ map (λ file. file_entry file) m.files
+    → setting.nodes ≡ map (λ node. node_entry node) m.nodes → setting.disks ≡ m.disks → IsMount m → (lines : List StackLine) → m ≡ mounted lines → IsAccepted lines → IsStocked (stores_of setting)
+stocked_parts setting m size parents files nodes disks is lines made accepted =
+    subst (λ (s : Setting). IsStocked (stores_of s)) (sym (same_parts setting m size parents files nodes disks)) (stocked_of m lines is made accepted)

@@ -19,7 +19,7 @@ abbrev pub files_in : List StackLine → List FileEntry
 files_in lines = map (λ file. file_entry file) (filter_map (λ line. file_of line) lines)
 
 -- a name that is taken stays so
-still_taken : (earlier : List StackLine) (line : StackLine) (name : List ℕ) → is_taken earlier name ≡ true → is_taken (earlier ++ line ∷ []) name ≡ true
+pub still_taken : (earlier : List StackLine) (line : StackLine) (name : List ℕ) → is_taken earlier name ≡ true → is_taken (earlier ++ line ∷ []) name ≡ true
 still_taken earlier line name taken =
     list_any-append (λ l. is_named name l) earlier (line ∷ []) ∙ or_left (list_any (λ l. is_named name l) earlier) (list_any (λ l. is_named name l) (line ∷ [])) taken
 

@@ -47,7 +47,7 @@ back_one (line ∷ earlier) name e =
     (λ _. plan_one earlier line (λ base. plan_back earlier base) parts.0 (λ base. back_one earlier base parts.1))
     (λ _. back_one earlier name parts.1)
 
-below_length : (n : ℕ) → length (numbers_below n) ≡ n
+pub below_length : (n : ℕ) → length (numbers_below n) ≡ n
 below_length zero = refl
 below_length (suc n) = let rest = below_length n in omega (arith, rest)
 

@@ -5,6 +5,7 @@ ghost use Rattle.stack_text.specs.declared.stack.StackLine.{StackLine};
 ghost use Rattle.stack_accept.specs.Rules.{IsAccepted};
 ghost use Rattle.stack_accept.specs.Mount.{mounted};
 ghost use Rattle.run_defs.specs.Setting.{IsBuilt};
+ghost use Rattle.file_stores.specs.Stocked.{IsStocked, stores_of};
 ghost use Rattle.stack_setting.specs.Later.{later_line};
 ghost use Rattle.stack_setting.specs.Mounted.{is_view, file_entry, node_entry, setting_of};
 
@@ -86,10 +87,11 @@ fn disks_of(alloc: Global, disks: &[Text]) -> Result<Vec<Text>, AllocError>
 }
 
 /// What scripts and reports see of a mounted stack. A stack of coherency layers alone can be run: it
-/// has one disk.
+/// has one disk. The stores of every accepted stack can be taken.
 pub fn setting_of(alloc: Global, stack: &Mounted) -> Result<Setting, AllocError>
     ensures value { IfOk result (λ setting. setting ≡ setting_of stack.now) }
     ensures built { IfOk result (λ setting. (lines : List StackLine) → stack.now ≡ mounted lines → IsAccepted lines → later_line lines ≡ None → IsBuilt setting) }
+    ensures stocked { IfOk result (λ setting. (lines : List StackLine) → stack.now ≡ mounted lines → IsAccepted lines → IsStocked (stores_of setting)) }
 {
     Ok(Setting {
         page_size: stack.page_size(),

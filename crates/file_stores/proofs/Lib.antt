@@ -1,0 +1,9 @@
+pub mod Lists
+pub mod ShapeLaws
+pub mod BerthLaws
+pub mod StockLaws
+pub mod SpreadLaws
+pub mod HeldLaws
+pub mod BackLaws
+pub mod WriteLaws
+pub mod TestLaws
