@@ -1,0 +1,424 @@
+//! The commands over stores in memory: what they write, and what their stores hold afterwards.
+
+ghost use Rattle.std.specs.Prelude.{◌≡◌, ◌<◌, ◌∷◌, [], IfOk, codes, length, true, false};
+ghost use Rattle.file_stores.specs.Stocked.{IsStocked};
+
+use super::*;
+use hist_plain::{Items, Text};
+use run_defs::{FileEntry, NodeEntry, Setting};
+use spr_io::{MemBay, MemSink, MemStore, Store};
+use spr_report::Status;
+use std::alloc::{AllocError, Global};
+use std::test::Fail;
+
+fn file_of(alloc: Global, name: &str, pages: u32) -> Result<FileEntry, AllocError>
+    ensures { IfOk result (λ f. f ≡ record { name = name.now; pages = pages }) }
+{
+    let name = Text::of(alloc, name)?;
+    Ok(FileEntry { name, pages })
+}
+
+fn files_of(alloc: Global) -> Result<Items<FileEntry>, AllocError>
+    ensures { IfOk result (λ files. files ≡ record { name = codes "f"; pages = 2 } ∷ record { name = codes "g"; pages = 17 } ∷ []) }
+{
+    let first = file_of(alloc, "f", 2)?;
+    let second = file_of(alloc, "g", 17)?;
+    let mut files = Items::new(alloc);
+    files.push(first)?;
+    files.push(second)?;
+    Ok(files)
+}
+
+fn node_of(alloc: Global, name: &str, is_view: bool) -> Result<NodeEntry, AllocError>
+    ensures { IfOk result (λ node. node ≡ record { name = name.now; is_view = is_view }) }
+{
+    let name = Text::of(alloc, name)?;
+    Ok(NodeEntry { name, is_view })
+}
+
+fn nodes_of(alloc: Global) -> Result<Items<NodeEntry>, AllocError>
+    ensures { IfOk result (λ nodes. nodes ≡ record { name = codes "d"; is_view = false } ∷ record { name = codes "c"; is_view = true } ∷ []) }
+{
+    let ground = node_of(alloc, "d", false)?;
+    let layer = node_of(alloc, "c", true)?;
+    let mut nodes = Items::new(alloc);
+    nodes.push(ground)?;
+    nodes.push(layer)?;
+    Ok(nodes)
+}
+
+fn disks_of(alloc: Global) -> Result<Items<Text>, AllocError>
+    ensures { IfOk result (λ disks. disks ≡ codes "d" ∷ []) }
+{
+    let name = Text::of(alloc, "d")?;
+    let mut disks = Items::new(alloc);
+    disks.push(name)?;
+    Ok(disks)
+}
+
+/// The files `f` of 2 pages and `g` of 17, each of 64 bytes, on the disk `d`, and the layer `c`.
+fn setting_of(alloc: Global) -> Result<Setting, AllocError>
+    ensures stocked { IfOk result IsStocked }
+    ensures number { IfOk result (λ s. length s.files ≡ 2) }
+{
+    Ok(Setting {
+        page_size: 64,
+        parents: Items::from_vec(Vec::from_array(alloc, [0, 0])?),
+        files: files_of(alloc)?,
+        nodes: nodes_of(alloc)?,
+        disks: disks_of(alloc)?,
+    })
+}
+
+/// The header of an image of two pages of 64 bytes, of generation 1.
+const HEADER: &[u8] =
+    b"SPRG\x00\x00\x00\x01\x00\x00\x00\x40\x00\x00\x00\x02\x00\x00\x00\x00\x00\x00\x00\x01";
+
+/// The entries of page 0 on the third block and of page 1, which is a hole.
+const MAP: &[u8] = b"\x00\x00\x00\x02\x00\x00\x00\x00";
+
+/// Begins a block of a store with some bytes, where it has as many blocks, and goes on with zeros.
+fn put_block(store: &mut MemStore, block: u32, bytes: &[u8]) {
+    let mut whole = [0u8; 64];
+    if bytes.len() > 64 || block >= 4 || !store.has_shape(64, 4) {
+        return;
+    }
+    for (place, byte) in bytes.iter().enumerate() {
+        whole[place] = *byte;
+    }
+    let _ = store.write(block, &whole);
+}
+
+/// A store of `f` with an image whose page 0 begins with `abcd`; a byte of the header is another one, and one read fails.
+fn image_store(alloc: Global, place: usize, byte: u8, read: u64) -> Result<MemStore, AllocError> {
+    let mut store = MemStore::new(alloc, 64, 4, &[read], &[], &[])?;
+    let mut header = [0u8; 24];
+    header.copy_from_slice(HEADER);
+    if place < 24 {
+        header[place] = byte;
+    }
+    put_block(&mut store, 0, &header);
+    put_block(&mut store, 1, MAP);
+    put_block(&mut store, 2, b"abcd");
+    Ok(store)
+}
+
+/// A bay whose calls of these ordinals fail, with a store of `f`.
+fn bay_of(alloc: Global, take: u64, give: u64, store: MemStore) -> Result<MemBay, Fail> {
+    let mut bay = MemBay::new(alloc, &[take], &[give])?;
+    match bay.put(alloc, "d", "f", store) {
+        Ok(()) => Ok(bay),
+        Err(_) => Err(Fail::from("the store")),
+    }
+}
+
+/// What a command wrote, and its status.
+#[derive(Drop)]
+struct Told {
+    status: Status,
+    sink: MemSink,
+}
+
+/// Whether a command ended so, and wrote these two texts.
+fn is_told(told: &Told, status: Status, first: &[u8], last: &[u8]) -> bool {
+    told.status == status && told.sink.bytes().strip_prefix(first) == Some(last)
+}
+
+/// What formatting the files writes, and its status.
+fn formatted(alloc: Global, setting: &Setting, bay: &mut MemBay) -> Result<Told, Fail>
+    requires { IsStocked setting.now }
+{
+    let mut sink = MemSink::new(alloc, 4_096, &[])?;
+    let status = format_files(alloc, setting, bay, &mut sink);
+    Ok(Told { status, sink })
+}
+
+/// What printing the pages of a file writes, and its status.
+fn dumped(alloc: Global, setting: &Setting, file: usize, bay: &mut MemBay) -> Result<Told, Fail>
+    requires stocked { IsStocked setting.now }
+    requires file { file < length setting.now.files }
+{
+    let mut sink = MemSink::new(alloc, 4_096, &[])?;
+    let status = dump_file(alloc, setting, file, bay, &mut sink);
+    Ok(Told { status, sink })
+}
+
+/// Whether the store of a file lies in a bay with so many blocks, and the first is kept as it is read.
+fn kept(bay: &MemBay, file: &str, blocks: u32) -> bool {
+    let Some(store) = bay.look("d", file) else {
+        return false;
+    };
+    if blocks == 0 || !store.has_shape(64, blocks) {
+        return false;
+    }
+    store.block(0) == store.kept(0)
+}
+
+const ABCD: &[u8] =
+    b"page 0 61626364000000000000000000000000000000000000000000000000000000000000000000000000000000000000000000000000000000000000000000000000\npage 1 zeros\n";
+
+const ZEROS: &[u8] = b"page 0 zeros\npage 1 zeros\nstatus 0\n";
+
+const ZEROS_OF_G: &[u8] =
+    b"page 0 zeros\npage 1 zeros\npage 2 zeros\npage 3 zeros\npage 4 zeros\npage 5 zeros\npage 6 zeros\npage 7 zeros\npage 8 zeros\npage 9 zeros\npage 10 zeros\npage 11 zeros\npage 12 zeros\npage 13 zeros\npage 14 zeros\npage 15 zeros\npage 16 zeros\nstatus 0\n";
+
+#[test]
+fn fresh_images(rt: HostRuntime) -> Result<(), Fail> {
+    let setting = setting_of(rt.alloc())?;
+    let mut bay = MemBay::new(rt.alloc(), &[], &[])?;
+    let told = formatted(rt.alloc(), &setting, &mut bay)?;
+    assert!(rt; is_told(&told, Status::Good, b"", b"status 0\n"));
+    assert!(rt; kept(&bay, "f", 4) && kept(&bay, "g", 20));
+    let told = dumped(rt.alloc(), &setting, 0, &mut bay)?;
+    assert!(rt; is_told(&told, Status::Good, b"", ZEROS));
+    let told = dumped(rt.alloc(), &setting, 1, &mut bay)?;
+    assert!(rt; is_told(&told, Status::Good, b"", ZEROS_OF_G));
+    Ok(())
+}
+
+/// Which calls fail, counted from 1, while the files are formatted; what is written then, and what of the pages of `f`
+/// afterwards.
+#[derive(Clone, Copy)]
+struct FormatRow {
+    take: u64,
+    give: u64,
+    write: u64,
+    flush: u64,
+    status: Status,
+    text: &'static [u8],
+    after: &'static [u8],
+}
+
+const FORMATTED: FormatRow = FormatRow {
+    take: 0,
+    give: 0,
+    write: 0,
+    flush: 0,
+    status: Status::Good,
+    text: b"status 0\n",
+    after: ZEROS,
+};
+
+const NO_IMAGE: &[u8] = b"image d f 0 magic\nstatus 6\n";
+
+/// One call fails, or two.
+const FORMATS: [FormatRow; 9] = [
+    FORMATTED,
+    FormatRow {
+        take: 1,
+        status: Status::BayFault,
+        text: b"bay d f\nstatus 5\n",
+        after: NO_IMAGE,
+        ..FORMATTED
+    },
+    FormatRow {
+        take: 2,
+        status: Status::BayFault,
+        text: b"bay d g\nstatus 5\n",
+        after: NO_IMAGE,
+        ..FORMATTED
+    },
+    FormatRow {
+        give: 2,
+        status: Status::BayFault,
+        text: b"bay d g\nstatus 5\n",
+        ..FORMATTED
+    },
+    FormatRow {
+        give: 1,
+        status: Status::BayFault,
+        text: b"bay d f\nstatus 5\n",
+        after: b"bay d f\nstatus 5\n",
+        ..FORMATTED
+    },
+    FormatRow {
+        write: 1,
+        status: Status::Faulted,
+        text: b"store d 1\nstatus 1\n",
+        after: NO_IMAGE,
+        ..FORMATTED
+    },
+    FormatRow {
+        write: 2,
+        status: Status::Faulted,
+        text: b"store d 1\nstatus 1\n",
+        after: NO_IMAGE,
+        ..FORMATTED
+    },
+    FormatRow {
+        flush: 1,
+        status: Status::Faulted,
+        text: b"store d 1\nstatus 1\n",
+        ..FORMATTED
+    },
+    FormatRow {
+        give: 2,
+        flush: 1,
+        status: Status::Faulted,
+        text: b"store d 1\nbay d g\nstatus 1\n",
+        ..FORMATTED
+    },
+];
+
+/// Whether formatting the files goes as a row says.
+fn formats_as(alloc: Global, setting: &Setting, row: &FormatRow) -> Result<bool, Fail>
+    requires stocked { IsStocked setting.now }
+    requires files { length setting.now.files ≡ 2 }
+{
+    let store = MemStore::new(alloc, 64, 4, &[], &[row.write], &[row.flush])?;
+    let mut bay = bay_of(alloc, row.take, row.give, store)?;
+    let told = formatted(alloc, setting, &mut bay)?;
+    let after = dumped(alloc, setting, 0, &mut bay)?;
+    Ok(is_told(&told, row.status, b"", row.text) && after.sink.bytes() == row.after)
+}
+
+#[test]
+fn formats_over_failures(rt: HostRuntime) -> Result<(), Fail> {
+    let setting = setting_of(rt.alloc())?;
+    for (number, row) in FORMATS.iter().enumerate() {
+        assert!(rt; formats_as(rt.alloc(), &setting, row)?, "row {number}");
+    }
+    Ok(())
+}
+
+#[test]
+fn a_failure_leaves_the_later_files(rt: HostRuntime) -> Result<(), Fail> {
+    let setting = setting_of(rt.alloc())?;
+    let store = MemStore::new(rt.alloc(), 64, 4, &[], &[2], &[])?;
+    let mut bay = bay_of(rt.alloc(), 0, 0, store)?;
+    let told = formatted(rt.alloc(), &setting, &mut bay)?;
+    assert!(rt; is_told(&told, Status::Faulted, b"store d 1\n", b"status 1\n"));
+    let told = dumped(rt.alloc(), &setting, 1, &mut bay)?;
+    assert!(rt;
+        is_told(
+            &told,
+            Status::BadImage,
+            b"image d g 0 magic\n",
+            b"status 6\n"
+        )
+    );
+    Ok(())
+}
+
+/// Which calls fail, counted from 1, while the pages of `f` are printed, and what is written then.
+#[derive(Clone, Copy)]
+struct DumpRow {
+    take: u64,
+    give: u64,
+    read: u64,
+    status: Status,
+    first: &'static [u8],
+    last: &'static [u8],
+}
+
+const DUMPED: DumpRow = DumpRow {
+    take: 0,
+    give: 0,
+    read: 0,
+    status: Status::Good,
+    first: ABCD,
+    last: b"status 0\n",
+};
+
+const UNREAD: DumpRow = DumpRow {
+    status: Status::Faulted,
+    first: b"store d 1\n",
+    last: b"status 1\n",
+    ..DUMPED
+};
+
+/// One call fails, or two.
+const DUMPS: [DumpRow; 7] = [
+    DUMPED,
+    DumpRow { read: 1, ..UNREAD },
+    DumpRow { read: 2, ..UNREAD },
+    DumpRow { read: 3, ..UNREAD },
+    DumpRow {
+        give: 1,
+        status: Status::BayFault,
+        last: b"bay d f\nstatus 5\n",
+        ..DUMPED
+    },
+    DumpRow {
+        give: 1,
+        read: 3,
+        last: b"bay d f\nstatus 1\n",
+        ..UNREAD
+    },
+    DumpRow {
+        take: 1,
+        status: Status::BayFault,
+        first: b"bay d f\n",
+        last: b"status 5\n",
+        ..DUMPED
+    },
+];
+
+/// Whether printing the pages of `f` goes as a row says.
+fn dumps_as(alloc: Global, setting: &Setting, row: &DumpRow) -> Result<bool, Fail>
+    requires stocked { IsStocked setting.now }
+    requires files { length setting.now.files ≡ 2 }
+{
+    let store = image_store(alloc, 24, 0, row.read)?;
+    let mut bay = bay_of(alloc, row.take, row.give, store)?;
+    let told = dumped(alloc, setting, 0, &mut bay)?;
+    Ok(is_told(&told, row.status, row.first, row.last))
+}
+
+#[test]
+fn dumps_over_failures(rt: HostRuntime) -> Result<(), Fail> {
+    let setting = setting_of(rt.alloc())?;
+    for (number, row) in DUMPS.iter().enumerate() {
+        assert!(rt; dumps_as(rt.alloc(), &setting, row)?, "row {number}");
+    }
+    Ok(())
+}
+
+#[test]
+fn a_sink_that_fails(rt: HostRuntime) -> Result<(), Fail> {
+    let setting = setting_of(rt.alloc())?;
+    let store = image_store(rt.alloc(), 24, 0, 0)?;
+    let mut bay = bay_of(rt.alloc(), 0, 0, store)?;
+    let mut sink = MemSink::new(rt.alloc(), 4_096, &[2])?;
+    let status = dump_file(rt.alloc(), &setting, 0, &mut bay, &mut sink);
+    assert!(rt; status == Status::SinkFault);
+    assert!(rt; sink.bytes() == ABCD);
+    Ok(())
+}
+
+/// What is printed of an image whose header has ff at a place.
+fn printed_at(place: usize) -> (Status, &'static [u8], &'static [u8]) {
+    match place {
+        0..=3 => (Status::BadImage, b"image d f 0 magic\n", b"status 6\n"),
+        4..=7 => (Status::BadImage, b"image d f 4 version\n", b"status 6\n"),
+        8..=11 => (Status::BadImage, b"image d f 8 size\n", b"status 6\n"),
+        12..=15 => (Status::BadImage, b"image d f 12 pages\n", b"status 6\n"),
+        16 => (
+            Status::BadImage,
+            b"image d f 16 generation\n",
+            b"status 6\n",
+        ),
+        _ => (Status::Good, ABCD, b"status 0\n"),
+    }
+}
+
+/// Whether what is printed of an image is right whose header has ff at a place.
+fn prints_at(alloc: Global, setting: &Setting, place: usize) -> Result<bool, Fail>
+    requires stocked { IsStocked setting.now }
+    requires files { length setting.now.files ≡ 2 }
+{
+    let store = image_store(alloc, place, 0xff, 0)?;
+    let mut bay = bay_of(alloc, 0, 0, store)?;
+    let told = dumped(alloc, setting, 0, &mut bay)?;
+    let (status, first, last) = printed_at(place);
+    Ok(is_told(&told, status, first, last))
+}
+
+#[test]
+fn headers_with_another_byte(rt: HostRuntime) -> Result<(), Fail> {
+    let setting = setting_of(rt.alloc())?;
+    for place in 0..24 {
+        assert!(rt; prints_at(rt.alloc(), &setting, place)?, "at {place}");
+    }
+    Ok(())
+}
