@@ -1,5 +1,5 @@
 -- What entries are as calls.
-use Rattle.std.proofs.Common.{◌≡◌, ℕ, ◌<◌, ◌≤◌, List, [], ◌∷◌, ◌++◌, length, map, Some, None, Result, Ok, Err, refl, sym, ap, subst, ◌∙◌, arith}
+use Rattle.std.proofs.Common.{◌≡◌, ℕ, List, [], ◌∷◌, ◌++◌, length, map, Some, None, Result, Ok, Err, refl, sym, ap, subst, ◌∙◌, arith}
 use Rattle.std.specs.Option.{option_map}
 use Rattle.std.specs.List.{AllByRecursion}
 use Rattle.hist_plain.specs.declared.event.Op.{Op}
@@ -24,7 +24,9 @@ use Rattle.run_defs.specs.Calls.{Ends, Fails, Called}
 use Rattle.run_defs.proofs.Logs.{more-more, more-nil}
 use Rattle.plain_tower.specs.Ends.{Sends, Stops, EndsFrom, IsNoFault}
 use Rattle.plain_tower.specs.Seen.{LogSeen}
-use Rattle.plain_tower.specs.Tower.{TowerSeen, Faults, GoesOn, Sent, Stopped}
+use Rattle.disk_layer.specs.declared.fault.StoreFault.{StoreFault as Fault}
+use Rattle.disk_layer.specs.Disk.{Disk}
+use Rattle.plain_tower.specs.Tower.{TowerSeen, SameDisk, IsFaultOf, Faults, GoesOn, Sent, Stopped}
 
 -- the end of a call
 
@@ -140,14 +142,26 @@ sends-one old new event quiet log = record { messages = event ∷ []; quiet = (q
 
 -- towers one after another
 
+pub disk-same : (d : Disk) → SameDisk d d
+disk-same d = record { disk = refl; shape = refl; generation = refl; opened = refl; later = omega arith }
+
+pub disk-then : (a b c : Disk) → SameDisk a b → SameDisk b c → SameDisk a c
+disk-then a b c first second = record {
+  disk = second.disk ∙ first.disk;
+  shape = second.shape ∙ first.shape;
+  generation = second.generation ∙ first.generation;
+  opened = second.opened ∙ first.opened;
+  later = let one = first.later in let two = second.later in omega arith;
+}
+
 goes-same : (t : TowerSeen) → GoesOn t t
-goes-same t = record { same = refl; keeps = refl; later = omega arith }
+goes-same t = record { same = refl; disk = disk-same t.disk; keeps = refl }
 
 goes-then : (a b c : TowerSeen) → GoesOn a b → GoesOn b c → GoesOn a c
 goes-then a b c first second = record {
-  same = second.same ∙ ap (λ (t : TowerSeen). let u : TowerSeen = record t { log = record t.log { history = c.log.history; room = c.log.room }; faults = c.faults; content = c.content } in u) first.same;
+  same = second.same ∙ ap (λ (t : TowerSeen). let u : TowerSeen = record t { log = record t.log { history = c.log.history; room = c.log.room }; disk = c.disk } in u) first.same;
+  disk = disk-then a.disk b.disk c.disk first.disk second.disk;
   keeps = second.keeps ∙ first.keeps;
-  later = let one = first.later in let two = second.later in omega arith;
 }
 
 pub sent-none : (t : TowerSeen) → Sent t t
@@ -156,24 +170,25 @@ sent-none t = record { goes = goes-same t; sends = sends-none t.log.history t.lo
 pub sent-then : (a b c : TowerSeen) → Sent a b → Sent b c → Sent a c
 sent-then a b c first second = record { goes = goes-then a b c first.goes second.goes; sends = sends-then a.log.history b.log.history c.log.history first.sends second.sends }
 
-faults-since : (disk before mid now : ℕ) (err : CallErr) → before ≤ mid → Faults disk mid now err → Faults disk before now err
-faults-since disk before mid now (StoreFault of count) le h = (h.0, omega (arith, h.1), h.2)
-faults-since disk before mid now TrailFull le h = tt
-faults-since disk before mid now Memory le h = tt
+fault-since : (before mid now : Disk) (fault : Fault) → SameDisk before mid → IsFaultOf mid now fault → IsFaultOf before now fault
+fault-since before mid now fault same f = record { named = f.named ∙ same.disk; above = let a = same.later in let b = f.above in omega arith; within = f.within }
+
+faults-since : (before mid now : Disk) (err : CallErr) → SameDisk before mid → Faults mid now err → Faults before now err
+faults-since before mid now (StoreFault disk count) same h = fault-since before mid now (record { disk = disk; count = count }) same h
+faults-since before mid now TrailFull same h = tt
+faults-since before mid now Memory same h = tt
 
 pub stopped-then : (caller : ℕ) (a b c : TowerSeen) (err : CallErr) → Sent a b → Stopped caller b c err → Stopped caller a c err
-stopped-then caller a b c err first second =
-    let disk : b.disk ≡ a.disk = ap (λ (t : TowerSeen). t.disk) first.goes.same in
-    record {
-      goes = goes-then a b c first.goes second.goes;
-      stops = stops-then caller a.log.history b.log.history c.log.history err first.sends second.stops;
-      cause = subst (λ d. Faults d a.faults c.faults err) disk (faults-since b.disk a.faults b.faults c.faults err first.goes.later second.cause);
-    }
+stopped-then caller a b c err first second = record {
+  goes = goes-then a b c first.goes second.goes;
+  stops = stops-then caller a.log.history b.log.history c.log.history err first.sends second.stops;
+  cause = faults-since a.disk b.disk c.disk err first.goes.disk second.cause;
+}
 
-pub no-fault : (disk before now : ℕ) (err : CallErr) → IsNoFault err → Faults disk before now err
-no-fault disk before now (StoreFault of count) h = absurd h
-no-fault disk before now TrailFull h = tt
-no-fault disk before now Memory h = tt
+pub no-fault : (before now : Disk) (err : CallErr) → IsNoFault err → Faults before now err
+no-fault before now (StoreFault disk count) h = absurd h
+no-fault before now TrailFull h = tt
+no-fault before now Memory h = tt
 
 -- a refusal that logged nothing
 pub stopped-nothing : (caller : ℕ) (old new : TowerSeen) (err : CallErr) → GoesOn old new → new.log.history ≡ old.log.history → IsNoFault err → Fails caller err old.log.history [] → Stopped caller old new err
@@ -186,14 +201,14 @@ stopped-nothing caller old new err goes same cause fails = record {
     log = same ∙ sym (more-nil old.log.history [] refl);
     fails = subst (λ (h : History). Fails caller err h []) (sym (more-nil old.log.history [] refl)) fails;
   };
-  cause = no-fault old.disk old.faults new.faults err cause;
+  cause = no-fault old.disk new.disk err cause;
 }
 
--- a refusal by the store, which was noted
-pub stopped-noted : (caller : ℕ) (old new : TowerSeen) → GoesOn old new → new.log.history ≡ more old.log.history (Noted (record { caller = caller; disk = old.disk; count = new.faults }) ∷ []) → old.faults < new.faults
-    → Stopped caller old new (StoreFault old.disk new.faults)
-stopped-noted caller old new goes noted rose = record {
+-- a refusal by the disk's store, which was noted
+pub stopped-noted : (caller : ℕ) (old new : TowerSeen) (fault : Fault) → GoesOn old new → new.log.history ≡ more old.log.history (Noted (record { caller = caller; disk = fault.disk; count = fault.count }) ∷ [])
+    → IsFaultOf old.disk new.disk fault → Stopped caller old new (StoreFault fault.disk fault.count)
+stopped-noted caller old new fault goes noted is = record {
   goes = goes;
   stops = record { messages = []; quiet = tt; last = _; log = noted; fails = refl };
-  cause = (refl, rose, refl);
+  cause = is;
 }

@@ -8,7 +8,7 @@ use native.Mathlib.Decide.{ℕ_discrete}
 use Rattle.hist_plain.specs.History.{page_in}
 use Rattle.hist_plain.specs.Plain.{place_of}
 use Rattle.run_defs.specs.Kept.{ArePages}
-use Rattle.spr_io.specs.Content.{Content, IsShaped, KeepsShape}
+use Rattle.plain_tower.specs.Tower.{HasMany}
 use Rattle.plain_tower.specs.Pages.{HasPages}
 
 -- a page before the end is not changed by what comes behind
@@ -43,20 +43,11 @@ all-pages size n bytes blocks len number pages = record {
   each = λ page lt. pages page (subst (λ k. page < k) number lt);
 }
 
-pub read-more-told : (size n : ℕ) (bytes last : List ℕ) (content : Option Content) → length bytes ≡ n * size → length last ≡ size
-    → IfSome content (λ c. HasPages size bytes c.blocks n) → IfSome content (λ c. slice_get c.blocks n ≡ Some last) → IfSome content (λ c. HasPages size (bytes ++ last) c.blocks (n + 1))
+pub read-more-told : (size n : ℕ) (bytes last : List ℕ) (pages : Option (List (List ℕ))) → length bytes ≡ n * size → length last ≡ size
+    → IfSome pages (λ ps. HasPages size bytes ps n) → IfSome pages (λ ps. slice_get ps n ≡ Some last) → IfSome pages (λ ps. HasPages size (bytes ++ last) ps (n + 1))
 read-more-told size n bytes last None len same read next = tt
-read-more-told size n bytes last (Some c) len same read next = read-more size n bytes last c.blocks len same read next
+read-more-told size n bytes last (Some ps) len same read next = read-more size n bytes last ps len same read next
 
-pub all-pages-told : (size n : ℕ) (bytes : List ℕ) (content : Option Content) → length bytes ≡ n * size → IsShaped size n content
-    → IfSome content (λ c. HasPages size bytes c.blocks n) → IfSome content (λ c. ArePages size bytes c.blocks)
-all-pages-told size n bytes None len shaped pages = tt
-all-pages-told size n bytes (Some c) len shaped pages = all-pages size n bytes c.blocks len shaped.blocks pages
-
--- one call and then another keep the shape
-pub shape-then : (size number s n s' n' : ℕ) (before after : Option Content) → KeepsShape size number s n before → KeepsShape s n s' n' after → KeepsShape size number s' n' after
-shape-then size number s n s' n' before after one two = record {
-  same_size = two.same_size ∙ one.same_size;
-  same_number = two.same_number ∙ one.same_number;
-  told = subst (λ (k : ℕ). IsShaped k number after) one.same_size (subst (λ (k : ℕ). IsShaped s k after) one.same_number two.told);
-}
+pub all-pages-told : (size n : ℕ) (bytes : List ℕ) (pages : Option (List (List ℕ))) → length bytes ≡ n * size → HasMany n pages → IfSome pages (λ ps. HasPages size bytes ps n) → IfSome pages (λ ps. ArePages size bytes ps)
+all-pages-told size n bytes None len many read = tt
+all-pages-told size n bytes (Some ps) len many read = all-pages size n bytes ps len many read

@@ -1,13 +1,12 @@
--- What a store holds of a file's pages.
+-- What a disk holds of a file's pages.
 use Rattle.std.specs.Prelude.{◌≡◌, ℕ, ◌<◌, List, slice_get, Option, Some}
-use Rattle.std.specs.Option.{option_map}
 use Rattle.hist_plain.specs.History.{page_in}
-use Rattle.spr_io.specs.Content.{Content}
+use Rattle.disk_format.specs.Image.{Imaged}
 
--- where it is told, what is kept stays as it was
-abbrev pub Keeps : Option Content → Option Content → Type 0
-Keeps before after = option_map {T = Content} (λ c. c.kept) after ≡ option_map {T = Content} (λ c. c.kept) before
-
--- the first blocks are the first pages of these bytes
+-- the first pages of a disk are the first pages of these bytes
 abbrev pub HasPages : ℕ → List ℕ → List (List ℕ) → ℕ → Type 0
-HasPages page_size bytes blocks n = (page : ℕ) → page < n → slice_get blocks page ≡ Some (page_in page_size bytes page)
+HasPages page_size bytes pages n = (page : ℕ) → page < n → slice_get pages page ≡ Some (page_in page_size bytes page)
+
+-- what was kept is an image, of whose pages this holds
+abbrev pub KeepsPages : (List (List ℕ) → Type 0) → Option Imaged → Type 0
+KeepsPages P kept = (image : Imaged) × (kept ≡ Some image) × P image.pages

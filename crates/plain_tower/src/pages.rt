@@ -1,20 +1,25 @@
-//! The pages of a file in the blocks of its store: block k is page k.
+//! The pages of a file on its disk.
 
-ghost use Rattle.std.specs.Prelude.{◌≡◌, ℕ, ◌+◌, ◌*◌, ◌<◌, ◌≤◌, IfOk, OnOk, OnErr, IsErr, IfSome, length, Some, slice_get};
-ghost use Rattle.hist_plain.specs.History.{page_in};
+ghost use Rattle.std.specs.Prelude.{◌≡◌, ℕ, ◌+◌, ◌*◌, ◌<◌, ◌≤◌, IfOk, IfErr, IfSome, length};
 ghost use Rattle.run_defs.specs.Kept.{ArePages};
-ghost use Rattle.spr_io.specs.Content.{KeepsShape};
-ghost use Rattle.plain_tower.specs.Pages.{HasPages, Keeps};
+ghost use Rattle.disk_layer.specs.Disk.{pages_on, counting};
+ghost use Rattle.plain_tower.specs.Pages.{HasPages};
+ghost use Rattle.plain_tower.specs.Tower.{HasMany};
+ghost use Rattle.plain_tower.specs.Opened.{FaultsReading};
 
+use disk_layer::{Disk, Ground, StoreFault};
 use hist_plain::Bytes;
-use spr_io::{Failed, Store};
+use spr_io::Store;
 use std::alloc::{AllocError, Global};
 
 /// Why a file's pages could not be read.
 #[derive(Clone, Copy, Debug, PartialEq, Eq)]
 pub enum ReadErr {
-    /// The store failed.
-    Store,
+    /// The disk's store failed.
+    Store {
+        /// The disk, and the store's count of faults then.
+        fault: StoreFault,
+    },
     /// Memory ran out.
     Memory,
 }
@@ -30,37 +35,39 @@ impl From<AllocError> for ReadErr {
     }
 }
 
-impl From<Failed> for ReadErr {
+impl From<StoreFault> for ReadErr {
     ghost use Rattle.std.specs.Prelude.{◌≡◌};
     ghost use Rattle.plain_tower.specs.declared.pages.ReadErr.TheVariants.{Store};
 
-    ghost from_gives = { λ _ e. e ≡ Store };
+    ghost from_gives = { λ fault e. e ≡ Store fault };
 
-    fn from(_: Failed) -> ReadErr {
-        ReadErr::Store
+    fn from(fault: StoreFault) -> ReadErr {
+        ReadErr::Store { fault }
     }
 }
 
 /// Reads all pages of a file, from the lowest.
 pub fn read_pages<S: Store>(
     alloc: Global,
-    store: &mut S,
+    disk: &mut Disk<S>,
     page_size: u32,
     pages: u32,
 ) -> Result<Bytes, ReadErr>
     requires size { (page_size ≤ 4096) × (pages ≤ 1024) }
-    requires shape { KeepsShape page_size pages (S.size store.old) (S.number store.old) (S.content store.old) }
+    requires some { 1 ≤ pages }
+    requires image { disk.old.shape ≡ record { page_size = page_size; pages = pages } }
     ensures len { IfOk result (λ bytes. length bytes ≡ pages * page_size) }
-    ensures bytes { IfOk result (λ bytes. IfSome (S.content store.old) (λ c. ArePages page_size bytes c.blocks)) }
-    ensures same { S.content store.new ≡ S.content store.old }
-    ensures shape { KeepsShape page_size pages (S.size store.new) (S.number store.new) (S.content store.new) }
-    ensures later { S.faults store.old ≤ S.faults store.new }
-    ensures cause { result ≡ Err ReadErr.Store → S.faults store.old < S.faults store.new }
+    ensures bytes { IfOk result (λ bytes. IfSome (pages_on disk.old) (λ ps. ArePages page_size bytes ps)) }
+    ensures many { IfOk result (λ _. HasMany pages (pages_on disk.new)) }
+    ensures same { disk.new ≡ counting disk.new.faults disk.old }
+    ensures later { disk.old.faults ≤ disk.new.faults }
+    ensures since { IfOk result (λ _. disk.new.opened ≤ disk.new.faults) }
+    ensures cause { IfErr result (FaultsReading disk.old disk.new) }
 {
     let mut bytes = Vec::new(alloc);
     let mut buffer = vec![in alloc; 0u8; page_size as usize]?;
     for page in 0..pages {
-        store.read(page, &mut buffer)?;
+        disk.read(page, &mut buffer)?;
         bytes.extend_from_slice(&buffer)?;
     }
     Ok(Bytes::from_vec(bytes))

@@ -1,15 +1,40 @@
 //! Two trails, worked out by hand.
 
-ghost use Rattle.std.specs.Prelude.{◌≡◌, ◌<◌, length};
+ghost use Rattle.std.specs.Prelude.{◌≡◌, ◌<◌, IfOk, IsTrue, length};
+ghost use Rattle.disk_format.specs.Shape.{IsShape};
 ghost use Rattle.hist_plain.specs.Plain.{IsTree};
 
 use super::*;
+use disk_format::ImageShape;
+use disk_layer::Disk;
 use hist_plain::{Bytes, Event, Keep, Op, fits};
 use run_defs::Logged;
 use spr_io::MemStore;
 use std::alloc::{AllocError, Global};
 use std::process::Abort;
 use std::test::Fail;
+
+/// The shape of a file of two pages of 64 bytes.
+fn small() -> ImageShape
+    ensures shape { result ≡ record { page_size = 64; pages = 2 } }
+    ensures within { IsShape result }
+{
+    ImageShape {
+        page_size: 64,
+        pages: 2,
+    }
+}
+
+/// A disk of a fresh image, on a store of four blocks.
+fn fresh(alloc: Global) -> Result<Disk<MemStore>, Fail>
+    ensures { IfOk result (λ disk. disk.shape ≡ record { page_size = 64; pages = 2 }) }
+{
+    let store = MemStore::new(alloc, 64, 4, &[], &[], &[])?;
+    match Disk::format(alloc, store, 0, &small()) {
+        Ok(disk) => Ok(disk),
+        Err(_) => Err(Fail::from("the disk")),
+    }
+}
 
 /// What a caller asks, of the first page.
 #[derive(Clone, Copy)]
@@ -89,7 +114,16 @@ fn short(alloc: Global, entry: &Logged) -> Result<String, AllocError> {
     }
 }
 
-/// Follows the wishes over a store of zeros, and compares the log with what is expected.
+/// Whether one of two callers may ask at a node of the tree.
+fn may_ask(caller: u32, node: u32, parents: &[u32]) -> bool
+    ensures caller { IsTrue result → caller < 2 }
+    ensures above { IsTrue result → 0 < node }
+    ensures within { IsTrue result → node < length parents.now }
+{
+    caller < 2 && node > 0 && (node as usize) < parents.len()
+}
+
+/// Follows the wishes over a fresh disk, and compares the log with what is expected.
 fn follow(
     rt: &impl Abort,
     alloc: Global,
@@ -99,22 +133,22 @@ fn follow(
 ) -> Result<(), Fail>
     requires { IsTree parents.now }
 {
-    let store = MemStore::new(alloc, 64, 2, &[], &[], &[])?;
+    let disk = fresh(alloc)?;
     let opening = Opening {
         page_size: 64,
         parents,
         pages: 2,
-        disk: 0,
         callers: 2,
     };
-    let Ok(mut tower) = open(alloc, &opening, store) else {
+    let Ok(mut tower) = open(alloc, &opening, disk) else {
         panic!(rt; "the file is not open");
     };
     for (caller, node, wish) in wishes {
-        assert!(rt; *caller < 2 && *node > 0 && (*node as usize) < parents.len());
+        let may = may_ask(*caller, *node, parents);
+        assert!(rt; may);
         ask(rt, alloc, &mut tower, *caller, *node, *wish)?;
     }
-    let (_store, history) = tower.close();
+    let (_disk, history) = tower.close();
     let mut told = String::new(alloc);
     for entry in history.log.as_slice() {
         told.push_str(short(alloc, entry)?.as_str())?;

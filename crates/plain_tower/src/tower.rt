@@ -1,4 +1,4 @@
-//! One file over its store.
+//! One file over its disk.
 
 ghost use Rattle.std.specs.Prelude.{◌≡◌, ℕ, ◌∷◌, ◌++◌, ◌+◌, ◌*◌, [], ◌<◌, ◌≤◌, ◌≢◌, IfOk, IfErr, IfSome, OnOk, OnErr, length, IsTrue, Ok, Some};
 ghost use Rattle.std.specs.List.{AllByRecursion};
@@ -9,9 +9,9 @@ ghost use Rattle.run_defs.specs.Log.{trail_of, file_of, more, place_of, IsHistor
 ghost use Rattle.run_defs.specs.Plan.{access, sync};
 ghost use Rattle.run_defs.specs.Calls.{Called};
 ghost use Rattle.run_defs.specs.Kept.{ArePages, counts_of, Rises};
-ghost use Rattle.spr_io.specs.Content.{KeepsShape};
-ghost use Rattle.plain_tower.specs.Pages.{Keeps};
-ghost use Rattle.plain_tower.specs.Tower.{IsOnDisk, KeepsSynced, Faults, Sent, ShowsGround, Stopped};
+ghost use Rattle.disk_layer.specs.Disk.{pages_on, kept_on, counting};
+ghost use Rattle.plain_tower.specs.Pages.{KeepsPages};
+ghost use Rattle.plain_tower.specs.Tower.{HasMany, IsOnDisk, IsFaultOf, KeepsSynced, SameDisk, Faults, Sent, ShowsGround, Stopped, image_of};
 ghost use Rattle.plain_tower.specs.Ends.{EndsFrom};
 ghost use Rattle.plain_tower.specs.Legal.{IsGroundNewest, IsLegalTrail, IsNextMessage, IsWrittenBefore, state_at, tree_of};
 ghost use Rattle.tower_core.specs.Trail.{MayAccess};
@@ -21,21 +21,20 @@ ghost use Rattle.plain_tower.specs.Opened.{Opens, FaultsOpening};
 
 use crate::coherence::Core;
 use crate::pages::{ReadErr, read_pages};
+use disk_layer::{Disk, Ground, StoreFault};
 use hist_plain::{Event, Keep, Op};
 use run_defs::{Answered, CallErr, History, Logged, Note};
-use spr_io::{Failed, Store};
+use spr_io::Store;
 use std::alloc::Global;
 use std::marker::Model;
 use tower_core::Right;
 use tower_plan::Next;
 
-/// A file: its log, and the store of the disk that has its pages.
+/// A file: its log, and the disk that has its pages.
 #[derive(Drop)]
 pub struct Tower<S: Store> {
     log: Core,
-    store: S,
-    disk: u32,
-    began: u64,
+    disk: Disk<S>,
 }
 
 impl<S: Store> Model for Tower<S> {
@@ -43,18 +42,18 @@ impl<S: Store> Model for Tower<S> {
 
     ghost Value = { TowerSeen };
 
-    ghost view = { λ t. record { log = t.log; disk = t.disk; began = t.began; faults = S.faults t.store; content = S.content t.store } };
+    ghost view = { λ t. record { log = t.log; disk = t.disk } };
 
-    ghost invariant = { λ t. IsTower (record { log = t.log; disk = t.disk; began = t.began; faults = S.faults t.store; content = S.content t.store }) (S.size t.store) (S.number t.store) };
+    ghost invariant = { λ t. IsTower (record { log = t.log; disk = t.disk }) };
 }
 
 /// Why a file could not be opened.
 #[derive(Clone, Copy, Debug, PartialEq, Eq)]
 pub enum OpenErr {
-    /// The store failed, and its count of faults then.
+    /// The disk's store failed.
     StoreFault {
-        /// The count.
-        count: u64,
+        /// The disk, and the store's count of faults then.
+        fault: StoreFault,
     },
     /// Memory ran out.
     Memory,
@@ -69,8 +68,6 @@ pub struct Opening<'a> {
     pub parents: &'a [u32],
     /// How many pages the file has.
     pub pages: u32,
-    /// The number of the disk.
-    pub disk: u32,
     /// How many callers there are.
     pub callers: u32,
 }
@@ -91,26 +88,26 @@ impl<S: Store> Tower<S> {
         requires fits { IsTrue (fits_page self.old.log.shape.page_size self.old.log.pages op) }
         requires out { length out.old ≡ asked_by op }
         ensures called { Called self.old.log.shape caller (access node life op) self.old.log.history self.new.log.history out.new result }
-        ensures keeps { Keeps self.old.content self.new.content }
-        ensures same { self.new ≡ record self.old { log = record self.old.log { history = self.new.log.history; room = self.new.log.room }; faults = self.new.faults; content = self.new.content } }
-        ensures later { self.old.faults ≤ self.new.faults }
-        ensures cause { IfErr result (Faults self.old.disk self.old.faults self.new.faults) }
+        ensures keeps { kept_on self.new.disk ≡ kept_on self.old.disk }
+        ensures same { self.new ≡ record self.old { log = record self.old.log { history = self.new.log.history; room = self.new.log.room }; disk = self.new.disk } }
+        ensures disk { SameDisk self.old.disk self.new.disk }
+        ensures cause { IfErr result (Faults self.old.disk self.new.disk) }
     {
         self.prepare(caller, node, life, &op)?;
         let _len = self.log.len();
         self.log.access(caller, node, life, op, out)
     }
 
-    /// Writes the pages that the store lacks to it and makes all pages last, for a caller at a node.
+    /// Writes the pages that the disk lacks to it and makes all pages last, for a caller at a node.
     pub fn sync(&mut self, caller: u32, node: u32, keep: Keep) -> Result<Answered, CallErr>
         requires caller { caller < self.old.log.callers }
         requires node { (0 < node) × (node < length self.old.log.shape.parents) }
         ensures called { Called self.old.log.shape caller (sync node keep) self.old.log.history self.new.log.history [] result }
-        ensures kept { OnOk result (IfSome self.new.content (λ c. ArePages self.new.log.shape.page_size (file_of self.new.log.shape self.new.log.history).bytes c.kept)) }
-        ensures refused { OnErr result (Keeps self.old.content self.new.content) }
-        ensures same { self.new ≡ record self.old { log = record self.old.log { history = self.new.log.history; room = self.new.log.room }; faults = self.new.faults; content = self.new.content } }
-        ensures later { self.old.faults ≤ self.new.faults }
-        ensures cause { IfErr result (Faults self.old.disk self.old.faults self.new.faults) }
+        ensures kept { OnOk result (IfSome (kept_on self.new.disk) (KeepsPages (ArePages self.new.log.shape.page_size (file_of self.new.log.shape self.new.log.history).bytes))) }
+        ensures refused { OnErr result (kept_on self.new.disk ≡ kept_on self.old.disk) }
+        ensures same { self.new ≡ record self.old { log = record self.old.log { history = self.new.log.history; room = self.new.log.room }; disk = self.new.disk } }
+        ensures disk { SameDisk self.old.disk self.new.disk }
+        ensures cause { IfErr result (Faults self.old.disk self.new.disk) }
     {
         let from = self.log.len();
         self.settle_all(caller, node, from, keep)?;
@@ -195,7 +192,7 @@ impl<S: Store> Tower<S> {
         }
     }
 
-    /// Enters a page message. A copy that it brings to the ground is written to the store first.
+    /// Enters a page message. A copy that it brings to the ground is written to the disk first.
     fn message(&mut self, caller: u32, event: Event) -> Result<(), CallErr>
         requires next { IsNextMessage self.old.log event }
         ensures entered { OnOk result (self.new.log.history ≡ more self.old.log.history (Logged.Entered event ∷ [])) }
@@ -209,15 +206,12 @@ impl<S: Store> Tower<S> {
         let Ok(()) = self.log.reserve() else {
             return Err(CallErr::Memory);
         };
-        match write_taken(&self.log, &event, &mut self.store) {
+        match write_taken(&self.log, &event, &mut self.disk) {
             Ok(()) => {
                 self.log.message(event);
                 Ok(())
             }
-            Err(Failed) => {
-                let count = self.store.count();
-                Err(noted(&mut self.log, caller, self.disk, count))
-            }
+            Err(fault) => Err(noted(&mut self.log, caller, fault)),
         }
     }
 
@@ -234,11 +228,11 @@ impl<S: Store> Tower<S> {
         requires from { from ≤ place_of self.old.log.history }
         requires settled { IsGroundNewest self.old.log self.old.log.pages }
         ensures ends { EndsFrom self.old.log.shape caller (sync node keep) from self.old.log.history self.new.log.history [] result }
-        ensures kept { OnOk result (IfSome self.new.content (λ c. ArePages self.new.log.shape.page_size (file_of self.new.log.shape self.new.log.history).bytes c.kept)) }
-        ensures refused { OnErr result (Keeps self.old.content self.new.content) }
-        ensures same { self.new ≡ record self.old { log = record self.old.log { history = self.new.log.history; room = self.new.log.room }; faults = self.new.faults; content = self.new.content } }
-        ensures later { self.old.faults ≤ self.new.faults }
-        ensures cause { IfErr result (Faults self.old.disk self.old.faults self.new.faults) }
+        ensures kept { OnOk result (IfSome (kept_on self.new.disk) (KeepsPages (ArePages self.new.log.shape.page_size (file_of self.new.log.shape self.new.log.history).bytes))) }
+        ensures refused { OnErr result (kept_on self.new.disk ≡ kept_on self.old.disk) }
+        ensures same { self.new ≡ record self.old { log = record self.old.log { history = self.new.log.history; room = self.new.log.room }; disk = self.new.disk } }
+        ensures disk { SameDisk self.old.disk self.new.disk }
+        ensures cause { IfErr result (Faults self.old.disk self.new.disk) }
     {
         if self.log.is_full() {
             return Err(CallErr::TrailFull);
@@ -247,59 +241,57 @@ impl<S: Store> Tower<S> {
             return Err(CallErr::Memory);
         };
         let _len = self.log.len();
-        match self.store.flush() {
+        match self.disk.flush() {
             Ok(()) => Ok(self.log.synced(caller, node, from, keep)),
-            Err(Failed) => {
-                let count = self.store.count();
-                Err(noted(&mut self.log, caller, self.disk, count))
-            }
+            Err(fault) => Err(noted(&mut self.log, caller, fault)),
         }
     }
 
-    /// Ends the file's use: its store, and its history.
-    pub fn close(self) -> (S, History)
-        ensures content { S.content result.0 ≡ self.content }
-        ensures count { S.faults result.0 ≡ self.faults }
-        ensures shape { KeepsShape self.log.shape.page_size self.log.pages (S.size result.0) (S.number result.0) (S.content result.0) }
+    /// Ends the file's use: its disk, and its history.
+    pub fn close(self) -> (Disk<S>, History)
+        ensures disk { result.0 ≡ self.disk }
+        ensures image { result.0.shape ≡ image_of self.log }
         ensures history { result.1 ≡ self.log.history }
         ensures legal { IsHistory self.log.shape self.log.pages result.1 }
         ensures trail { IsLegalTrail self.log.shape self.log.pages result.1 }
         ensures numbered { IsNumbered (trail_of result.1) }
-        ensures disks { AllByRecursion (IsOnDisk self.disk) result.1.log }
-        ensures rises { Rises self.began self.faults (counts_of self.disk result.1.log) }
-        ensures keeps { KeepsSynced self.log self.content }
+        ensures disks { AllByRecursion (IsOnDisk self.disk.disk) result.1.log }
+        ensures rises { Rises self.disk.opened self.disk.faults (counts_of self.disk.disk result.1.log) }
+        ensures keeps { KeepsSynced self.log (kept_on self.disk) }
     {
-        (self.store, self.log.close())
+        (self.disk, self.log.close())
     }
 }
 
-/// Writes the page that a message brings to the ground to the store, if it brings one.
-fn write_taken<S: Store>(log: &Core, event: &Event, store: &mut S) -> Result<(), Failed>
+/// Writes the page that a message brings to the ground to the disk, if it brings one.
+fn write_taken<S: Store>(log: &Core, event: &Event, disk: &mut Disk<S>) -> Result<(), StoreFault>
     requires next { IsNextMessage log.now event.now }
     requires few { place_of log.now.history < 4194304 }
-    requires shape { KeepsShape log.now.shape.page_size log.now.pages (S.size store.old) (S.number store.old) (S.content store.old) }
-    requires ground { ShowsGround log.now (S.content store.old) }
-    ensures ground { OnOk result (ShowsGround (record log.now { history = more log.now.history (Logged.Entered event.now ∷ []) }) (S.content store.new)) }
-    ensures refused { OnErr result (S.content store.new ≡ S.content store.old) }
-    ensures keeps { Keeps (S.content store.old) (S.content store.new) }
-    ensures shape { KeepsShape log.now.shape.page_size log.now.pages (S.size store.new) (S.number store.new) (S.content store.new) }
-    ensures later { S.faults store.old ≤ S.faults store.new }
-    ensures cause { OnErr result (S.faults store.old < S.faults store.new) }
+    requires image { disk.old.shape ≡ image_of log.now }
+    requires many { HasMany log.now.pages (pages_on disk.old) }
+    requires ground { ShowsGround log.now (pages_on disk.old) }
+    ensures ground { OnOk result (ShowsGround (record log.now { history = more log.now.history (Logged.Entered event.now ∷ []) }) (pages_on disk.new)) }
+    ensures refused { OnErr result (pages_on disk.new ≡ pages_on disk.old) }
+    ensures many { HasMany log.now.pages (pages_on disk.new) }
+    ensures keeps { kept_on disk.new ≡ kept_on disk.old }
+    ensures same { SameDisk disk.old disk.new }
+    ensures cause { IfErr result (IsFaultOf disk.old disk.new) }
 {
     let _len = log.len();
     match log.taken(event) {
-        Some(page) => store.write(page, log.page(page)),
+        Some(page) => disk.write(page, log.page(page)),
         None => Ok(()),
     }
 }
 
-/// Notes that the store failed in a caller's call, which is thereby refused.
-fn noted(log: &mut Core, caller: u32, disk: u32, count: u64) -> CallErr
+/// Notes that the store of a disk failed in a caller's call, which is thereby refused.
+fn noted(log: &mut Core, caller: u32, fault: StoreFault) -> CallErr
     requires room { 0 < log.old.room }
-    ensures fault { result ≡ CallErr.StoreFault disk count }
-    ensures noted { log.new.history ≡ more log.old.history (Logged.Noted (record { caller = caller; disk = disk; count = count }) ∷ []) }
+    ensures fault { result ≡ CallErr.StoreFault fault.disk fault.count }
+    ensures noted { log.new.history ≡ more log.old.history (Logged.Noted (record { caller = caller; disk = fault.disk; count = fault.count }) ∷ []) }
     ensures same { log.new ≡ record log.old { history = log.new.history; room = log.new.room } }
 {
+    let StoreFault { disk, count } = fault;
     log.note(Note {
         caller,
         disk,
@@ -308,31 +300,26 @@ fn noted(log: &mut Core, caller: u32, disk: u32, count: u64) -> CallErr
     CallErr::StoreFault { disk, count }
 }
 
-/// Opens a file over its store, and reads its pages. A refusal hands the store back.
+/// Opens a file over its disk, and reads its pages. A refusal hands the disk back.
 pub fn open<S: Store>(
     alloc: Global,
     opening: &Opening<'_>,
-    store: S,
-) -> Result<Tower<S>, (OpenErr, S)>
+    disk: Disk<S>,
+) -> Result<Tower<S>, (OpenErr, Disk<S>)>
     requires tree { IsTree opening.now.parents.now }
     requires size { IsPageSize opening.now.page_size }
     requires pages { (1 ≤ opening.now.pages) × (opening.now.pages ≤ 1024) }
-    requires shape { KeepsShape opening.now.page_size opening.now.pages (S.size store) (S.number store) (S.content store) }
-    ensures opened { IfOk result (Opens (record { page_size = opening.now.page_size; parents = opening.now.parents.now }) opening.now.pages opening.now.callers opening.now.disk (S.faults store) (S.content store)) }
-    ensures same { IfErr result (λ e. S.content e.1 ≡ S.content store) }
-    ensures shape { IfErr result (λ e. KeepsShape opening.now.page_size opening.now.pages (S.size e.1) (S.number e.1) (S.content e.1)) }
-    ensures later { IfErr result (λ e. S.faults store ≤ S.faults e.1) }
-    ensures cause { IfErr result (λ e. FaultsOpening (S.faults store) (S.faults e.1) e.0) }
+    requires image { disk.shape ≡ record { page_size = opening.now.page_size; pages = opening.now.pages } }
+    ensures opened { IfOk result (Opens (record { page_size = opening.now.page_size; parents = opening.now.parents.now }) opening.now.pages opening.now.callers disk) }
+    ensures same { IfErr result (λ e. e.1 ≡ counting e.1.faults disk) }
+    ensures later { IfErr result (λ e. disk.faults ≤ e.1.faults) }
+    ensures cause { IfErr result (λ e. FaultsOpening disk e.1 e.0) }
 {
-    let mut store = store;
-    let began = store.count();
-    let bytes = match read_pages(alloc, &mut store, opening.page_size, opening.pages) {
+    let mut disk = disk;
+    let bytes = match read_pages(alloc, &mut disk, opening.page_size, opening.pages) {
         Ok(bytes) => bytes,
-        Err(ReadErr::Store) => {
-            let count = store.count();
-            return Err((OpenErr::StoreFault { count }, store));
-        }
-        Err(ReadErr::Memory) => return Err((OpenErr::Memory, store)),
+        Err(ReadErr::Store { fault }) => return Err((OpenErr::StoreFault { fault }, disk)),
+        Err(ReadErr::Memory) => return Err((OpenErr::Memory, disk)),
     };
     match Core::new(
         alloc,
@@ -342,12 +329,7 @@ pub fn open<S: Store>(
         bytes,
         opening.callers,
     ) {
-        Ok(log) => Ok(Tower {
-            log,
-            store,
-            disk: opening.disk,
-            began,
-        }),
-        Err(_) => Err((OpenErr::Memory, store)),
+        Ok(log) => Ok(Tower { log, disk }),
+        Err(_) => Err((OpenErr::Memory, disk)),
     }
 }

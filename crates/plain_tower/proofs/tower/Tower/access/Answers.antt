@@ -8,7 +8,7 @@ use Rattle.plain_tower.proofs.tower.Tower.access.Goals as goal
 
 pub invariant_of-self : goal.invariant_of-self
 invariant_of-self g c =
-    tower-accessed c.self.inside.log c.access.new.self c.self.inside.disk c.self.inside.began _ _ _ _ c.args.caller c.args.node c.args.life c.args.op c.access.result c.self.invariant
+    tower-accessed c.self.inside.log c.access.new.self c.self.inside.disk c.args.caller c.args.node c.args.life c.args.op c.access.result c.self.invariant
     c.len-len.ensures.legal c.requires.node.0 c.access.ensures.same c.access.ensures.entered c.access.ensures.refused
 
 pub returns-clause-called : goal.returns-clause-called
