@@ -1,17 +1,12 @@
 -- How the closing syncs are put together.
-use Rattle.std.proofs.Common.{◌≡◌, ◌≢◌, ◌⊎◌, ⊎_elim, ℕ, zero, suc, ◌+◌, ◌<◌, ◌≤◌, List, [], ◌∷◌, ◌++◌, length, map, set, take, get_or, Option, Some, None, IfSome, OnOk, Result, Ok, Err, refl, sym, ap, subst, ◌∙◌, arith, append_assoc, length-append}
+use Rattle.std.proofs.Common.{◌≡◌, ◌≢◌, ⊎_elim, ℕ, zero, suc, ◌+◌, ◌<◌, List, [], ◌∷◌, ◌++◌, length, map, set, take, get_or, Some, IfSome, OnOk, Result, Ok, Err, refl, sym, ap, subst, ◌∙◌, arith, append_assoc}
 use Rattle.std.specs.Prelude.{slice_get}
-use Rattle.std.specs.List.{AllByRecursion}
 use Rattle.std.proofs.lemmas.List.{append-nil, take_more}
-use Rattle.std.proofs.lemmas.Option.{slice_get-get_or, slice_get_within}
 use mathlib.Core.Logic.{dite}
 use native.Mathlib.Decide.{ℕ_discrete}
 use Rattle.hist_plain.specs.declared.event.Event.{Event}
 use Rattle.hist_plain.specs.declared.event.Event.TheVariants as events
 use Rattle.hist_plain.specs.declared.event.Keep.{Keep}
-use Rattle.hist_plain.specs.declared.event.Keep.TheVariants as keeps
-use Rattle.hist_plain.specs.declared.event.Answer.TheVariants as answers
-use Rattle.hist_plain.specs.Plain.{Told}
 use Rattle.hist_plain.specs.File.{Shape}
 use Rattle.script_text.specs.declared.script.Reply.{Reply}
 use Rattle.script_text.specs.declared.script.Reply.TheVariants as replies
@@ -19,21 +14,23 @@ use Rattle.run_defs.specs.declared.call.Answered.{Answered}
 use Rattle.run_defs.specs.declared.call.CallErr.{CallErr}
 use Rattle.run_defs.specs.declared.call.CallErr.TheVariants.{StoreFault, TrailFull, Memory}
 use Rattle.run_defs.specs.declared.log.Logged.{Logged}
-use Rattle.run_defs.specs.declared.log.Logged.TheVariants.{Entered, Noted}
+use Rattle.run_defs.specs.declared.log.Logged.TheVariants.{Entered}
 use Rattle.run_defs.specs.declared.log.History.{History}
 use Rattle.run_defs.specs.declared.object.OpenObject.{OpenObject}
 use Rattle.run_defs.specs.declared.setting.Setting.{Setting}
 use Rattle.run_defs.specs.declared.setting.FileEntry.{FileEntry}
 use Rattle.run_defs.specs.Setting.{shape_of}
-use Rattle.run_defs.specs.Log.{more, events_of, trail_of, file_of, IsFull}
+use Rattle.run_defs.specs.Log.{events_of, trail_of, file_of, IsFull}
 use Rattle.run_defs.specs.Kept.{ArePages}
-use Rattle.run_defs.specs.Plan.{Plan, Made, Ask, sync, Asks, ends, calls, asking, plan_call, reply_of, Goes}
-use Rattle.run_defs.specs.Fits.{Did, Went, Line, Lacks, Closes, plan_closing}
+use Rattle.run_defs.specs.Plan.{Made, sync, Asks, Goes}
+use Rattle.run_defs.specs.Fits.{Line, Closes, plan_closing}
 use Rattle.run_defs.specs.Calls.{Called, refusal_of}
 use Rattle.run_defs.proofs.Logs.{events_of-append, events_of-entered}
 use Rattle.run_defs.proofs.Parts.{did_nothing, did_then, full_later, goes_later}
+use Rattle.disk_layer.specs.Disk.{kept_on}
+use Rattle.plain_tower.specs.Pages.{KeepsPages}
 use Rattle.plain_tower.specs.Tower.{TowerSeen}
-use Rattle.plain_run.specs.Towers.{histories, frames}
+use Rattle.plain_run.specs.Towers.{histories}
 use Rattle.plain_run.specs.Lines.{LineDone}
 use Rattle.plain_run.specs.Phases.{EndsSynced, IsClosed, FilesClosed}
 
@@ -109,7 +106,7 @@ closed-none setting mount towers = record {
 
 -- a completed sync closes its file
 pub closed-result : (caller node : ℕ) (keep : Keep) (old t' : TowerSeen) (r : Result Answered CallErr) (ts : List TowerSeen) (k : ℕ) → Called old.log.shape caller (sync node keep) old.log.history t'.log.history [] r
-    → OnOk r (IfSome t'.content (λ c. ArePages t'.log.shape.page_size (file_of t'.log.shape t'.log.history).bytes c.kept)) → k < length ts
+    → OnOk r (IfSome (kept_on t'.disk) (KeepsPages (ArePages t'.log.shape.page_size (file_of t'.log.shape t'.log.history).bytes))) → k < length ts
     → OnOk r ((t : TowerSeen) → slice_get (set ts k t') k ≡ Some t → IsClosed caller t)
 closed-result caller node keep old t' (Ok a) ts k called kept lt =
     λ t is. set-there (IsClosed caller) ts k t' t (record { ends = called-ends old.log.shape caller node keep old.log.history t'.log.history [] a called; kept = kept }) lt is

@@ -1,5 +1,5 @@
 -- How a line is done.
-use Rattle.std.proofs.Common.{◌≡◌, ◌≢◌, ℕ, ◌+◌, ◌<◌, ◌≤◌, List, [], ◌∷◌, ◌++◌, length, Bool, true, false, cond, Bor, Option, Some, None, Result, Ok, Err, IsTrue, refl, sym, ap, subst, ◌∙◌, arith}
+use Rattle.std.proofs.Common.{◌≡◌, ℕ, ◌<◌, List, [], ◌∷◌, ◌++◌, length, Bool, true, false, cond, Bor, Option, Some, None, Result, Ok, Err, IsTrue, refl, sym, ap, subst, ◌∙◌, arith}
 use Rattle.std.specs.Prelude.{slice_get, find}
 use Rattle.std.specs.Option.{option_copied}
 use Rattle.std.specs.List.{AllByRecursion}
@@ -17,13 +17,12 @@ use Rattle.run_defs.specs.declared.log.History.{History}
 use Rattle.run_defs.specs.declared.setting.Setting.{Setting}
 use Rattle.run_defs.specs.Setting.{shape_of, pages_of, found_at}
 use Rattle.run_defs.specs.Plan.{Plan, ends, calls, Request, asking, access, plan_call, plan_named, plan_access, plan_open, plan_found, object_of, opened, life_in, reply_of}
-use Rattle.run_defs.specs.Fits.{Did, Went}
 use Rattle.run_defs.specs.Calls.{CalledAt, refusal_of}
 use Rattle.run_defs.proofs.Parts.{did_nothing, went_none, went_lacks}
 use Rattle.run_defs.proofs.CallLaws.{line_end, line_err, called_other}
 use Rattle.plain_tower.specs.Tower.{TowerSeen}
 use Rattle.plain_run.specs.Towers.{Frame, frame_of, frames, histories, AreFrames, AreTowers}
-use Rattle.plain_run.specs.Lines.{LineDone, IsObject}
+use Rattle.plain_run.specs.Lines.{LineDone}
 use Rattle.plain_run.proofs.TowerLaws.{FrameAt, tower-at, tower-there, length-towers}
 
 -- a line that makes no call

@@ -1,5 +1,5 @@
 -- How phases are put together.
-use Rattle.std.proofs.Common.{◌≡◌, ◌≢◌, ℕ, suc, ◌+◌, ◌<◌, ◌≤◌, ◌==◌, Bool, true, false, cond, List, [], ◌∷◌, ◌++◌, length, map, filter, set, take, get_or, zero, length-set, length-append, Option, Some, None, refl, sym, ap, subst, ◌∙◌, arith, append_assoc}
+use Rattle.std.proofs.Common.{◌≡◌, ◌≢◌, ℕ, suc, ◌+◌, ◌<◌, ◌==◌, true, false, cond, List, [], ◌∷◌, ◌++◌, length, set, take, get_or, zero, length-set, length-append, Some, refl, sym, ap, subst, ◌∙◌, arith, append_assoc}
 use Rattle.std.specs.Prelude.{slice_get}
 use Rattle.std.proofs.lemmas.List.{append-nil, take_more}
 use Rattle.std.proofs.lemmas.Option.{slice_get-get_or, slice_get_within}
@@ -11,13 +11,12 @@ use Rattle.script_text.specs.declared.script.CallLine.{CallLine}
 use Rattle.script_text.specs.declared.script.Said.{Said}
 use Rattle.script_text.specs.declared.script.Reply.{Reply}
 use Rattle.run_defs.specs.declared.log.History.{History}
-use Rattle.run_defs.specs.declared.object.OpenObject.{OpenObject}
 use Rattle.run_defs.specs.declared.setting.Setting.{Setting}
 use Rattle.run_defs.specs.Setting.{shape_of}
-use Rattle.run_defs.specs.Log.{history_at, IsFull}
-use Rattle.run_defs.specs.Plan.{Plan, Made, plan}
-use Rattle.run_defs.specs.Fits.{Did, GoesOn, Went, Worked, Does, Acts, InOrder, last_cut, lines_of}
-use Rattle.run_defs.proofs.Parts.{did_nothing, did_then, did_after, worked_none, worked_more, worked_then, worked_before, worked_append, acts_more, in_order_more, last_cut-more}
+use Rattle.run_defs.specs.Log.{history_at}
+use Rattle.run_defs.specs.Plan.{plan}
+use Rattle.run_defs.specs.Fits.{Did, GoesOn, Worked, Acts, last_cut, lines_of}
+use Rattle.run_defs.proofs.Parts.{did_nothing, did_then, worked_none, worked_more, worked_then, worked_append, acts_more, in_order_more, last_cut-more}
 use Rattle.plain_tower.specs.Tower.{TowerSeen}
 use Rattle.plain_run.specs.declared.client.Client.{Client}
 use Rattle.std.specs.List.{AllByRecursion}

@@ -7,7 +7,6 @@ use Rattle.std.proofs.lemmas.List.Quantifiers.{position-Some}
 use Rattle.run_defs.specs.declared.setting.Setting.{Setting}
 use Rattle.run_defs.specs.declared.setting.FileEntry.{FileEntry}
 use Rattle.run_defs.specs.declared.setting.NodeEntry.{NodeEntry}
-use Rattle.run_defs.specs.declared.setting.Found.{Found}
 use Rattle.run_defs.specs.declared.setting.Found.TheVariants.{Route}
 use Rattle.run_defs.specs.Setting.{IsSetting, view_of, file_named, at_context, at_object, behind_object, found_at}
 

@@ -1,21 +1,20 @@
 -- Towers and their histories, by file.
-use Rattle.std.proofs.Common.{◌≡◌, ◌≢◌, ℕ, zero, suc, ◌+◌, ◌<◌, ◌≤◌, List, [], ◌∷◌, ◌++◌, length, map, set, get_or, Option, Some, None, Result, Ok, Err, refl, sym, ap, subst, ◌∙◌, arith, get_or-set_other, get_or-set_same, length-set}
+use Rattle.std.proofs.Common.{◌≡◌, ◌≢◌, ℕ, zero, suc, ◌<◌, List, [], ◌∷◌, length, set, get_or, Option, Some, Result, refl, sym, ap, subst, ◌∙◌, arith, get_or-set_other, get_or-set_same}
 use Rattle.std.specs.Prelude.{slice_get, unwrap_or}
 use Rattle.std.specs.Option.{option_map}
-use Rattle.std.proofs.lemmas.Option.{slice_get-map, slice_get-get_or, unwrap_or-slice_get, slice_get_within}
+use Rattle.std.proofs.lemmas.Option.{slice_get-map, slice_get-get_or, unwrap_or-slice_get}
 use Rattle.std.proofs.lemmas.List.{map-set}
 use Rattle.std.proofs.Math.Seq.{map-set_same}
-use Rattle.hist_plain.specs.File.{Shape}
 use Rattle.run_defs.specs.declared.log.History.{History}
 use Rattle.run_defs.specs.declared.call.Answered.{Answered}
 use Rattle.run_defs.specs.declared.call.CallErr.{CallErr}
 use Rattle.run_defs.specs.declared.setting.Setting.{Setting}
 use Rattle.run_defs.specs.declared.setting.FileEntry.{FileEntry}
-use Rattle.run_defs.specs.Setting.{shape_of, pages_of}
+use Rattle.run_defs.specs.Setting.{shape_of}
 use Rattle.run_defs.specs.Log.{history_at}
 use Rattle.run_defs.specs.Plan.{Ask, asking}
 use Rattle.run_defs.specs.Calls.{Called, CalledAt}
-use Rattle.plain_tower.specs.Tower.{TowerSeen}
+use Rattle.plain_tower.specs.Tower.{TowerSeen, SameDisk}
 use Rattle.plain_run.specs.Towers.{Frame, frame_of, frames, histories, AreFrames, AreTowers}
 
 abbrev none : History
@@ -64,6 +63,13 @@ called-at ts k caller ask d t' t out r lt called there =
 -- what holds of the tower that is there holds of the one that is read
 pub read-tower : (P : TowerSeen → Type 0) (ts : List TowerSeen) (k : ℕ) (d : TowerSeen) → k < length ts → ((t : TowerSeen) → slice_get ts k ≡ Some t → P t) → P (get_or ts k d)
 read-tower P ts k d lt h = h (get_or ts k d) (slice_get-get_or ts k d lt)
+
+-- what a call changes of a tower is not its frame
+pub frame-goes : (a b : TowerSeen) → b ≡ record a { log = record a.log { history = b.log.history; room = b.log.room }; disk = b.disk } → SameDisk a.disk b.disk → frame_of b ≡ frame_of a
+frame-goes a b same d =
+    ap frame_of same
+    ∙ (ap (λ n. let f : Frame = record { shape = a.log.shape; pages = a.log.pages; callers = a.log.callers; disk = n; opened = b.disk.opened } in f) d.disk
+    ∙ ap (λ n. let f : Frame = record { shape = a.log.shape; pages = a.log.pages; callers = a.log.callers; disk = a.disk.disk; opened = n } in f) d.opened)
 
 -- a call keeps what a tower is
 pub frames-set : (ts : List TowerSeen) (k : ℕ) (d t' : TowerSeen) → frame_of t' ≡ frame_of (get_or ts k d) → frames (set ts k t') ≡ frames ts

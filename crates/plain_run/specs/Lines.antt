@@ -1,7 +1,5 @@
 -- What a line did.
-use Rattle.std.specs.Prelude.{◌≡◌, ◌≢◌, ℕ, ◌<◌, ◌≤◌, List, [], length}
-use Rattle.std.specs.List.{AllByRecursion}
-use Rattle.hist_plain.specs.declared.event.Answer.{Answer}
+use Rattle.std.specs.Prelude.{◌≡◌, ◌≢◌, ℕ, ◌<◌, List, [], length}
 use Rattle.script_text.specs.declared.script.Call.{Call}
 use Rattle.script_text.specs.declared.script.Call.TheVariants.{Open, Read, Write, Clear, Sync}
 use Rattle.script_text.specs.declared.script.Reply.{Reply}

@@ -1,5 +1,5 @@
 -- What phases and closing syncs did.
-use Rattle.std.specs.Prelude.{◌≡◌, ◌≢◌, ℕ, suc, ◌+◌, ◌<◌, ◌≤◌, List, [], ◌∷◌, ◌++◌, length, map, slice_get, Some, IfSome}
+use Rattle.std.specs.Prelude.{◌≡◌, ◌≢◌, ℕ, ◌<◌, ◌≤◌, List, [], ◌∷◌, ◌++◌, length, slice_get, Some, IfSome}
 use Rattle.std.specs.List.{AllByRecursion}
 use Rattle.hist_plain.specs.declared.event.Event.{Event}
 use Rattle.hist_plain.specs.declared.event.Event.TheVariants as events
@@ -9,17 +9,18 @@ use Rattle.script_text.specs.declared.script.Said.{Said}
 use Rattle.script_text.specs.declared.script.Reply.{Reply}
 use Rattle.script_text.specs.declared.script.Reply.TheVariants as replies
 use Rattle.run_defs.specs.declared.log.History.{History}
-use Rattle.run_defs.specs.declared.object.OpenObject.{OpenObject}
 use Rattle.run_defs.specs.declared.setting.Setting.{Setting}
 use Rattle.run_defs.specs.declared.setting.FileEntry.{FileEntry}
 use Rattle.run_defs.specs.Setting.{shape_of}
-use Rattle.run_defs.specs.Log.{trail_of, file_of, history_at, IsFull}
+use Rattle.run_defs.specs.Log.{trail_of, file_of, IsFull}
 use Rattle.run_defs.specs.Kept.{ArePages}
 use Rattle.run_defs.specs.Plan.{Made}
-use Rattle.run_defs.specs.Fits.{Did, GoesOn, Worked, Acts, InOrder, last_cut, lines_of, Closes}
+use Rattle.run_defs.specs.Fits.{Did, Worked, Acts, InOrder, last_cut, lines_of, Closes}
+use Rattle.disk_layer.specs.Disk.{kept_on}
+use Rattle.plain_tower.specs.Pages.{KeepsPages}
 use Rattle.plain_tower.specs.Tower.{TowerSeen}
 use Rattle.plain_run.specs.declared.client.Client.{Client}
-use Rattle.plain_run.specs.Towers.{histories, frames, AreTowers}
+use Rattle.plain_run.specs.Towers.{histories, AreTowers}
 use Rattle.plain_run.specs.Lines.{IsObject, IsCallOf}
 
 -- the client of a number, whose objects are of the stack, and which may call at its files
@@ -79,10 +80,10 @@ pub record EndsSynced (caller : ℕ) (trail : List Event) : Type 0 where
   pub keep : Keep
   pub is : trail ≡ before ++ events.Synced caller number node from keep ∷ []
 
--- a file that a caller's sync ended: its store keeps the whole file
+-- a file that a caller's sync ended: its disk has kept the whole file
 pub record IsClosed (caller : ℕ) (t : TowerSeen) : Type 0 where
   pub ends : EndsSynced caller (trail_of t.log.history)
-  pub kept : IfSome t.content (λ c. ArePages t.log.shape.page_size (file_of t.log.shape t.log.history).bytes c.kept)
+  pub kept : IfSome (kept_on t.disk) (KeepsPages (ArePages t.log.shape.page_size (file_of t.log.shape t.log.history).bytes))
 
 -- the closing syncs were made, file by file, and answered so; nobody else did anything
 pub record FilesClosed (setting : Setting) (mount : ℕ) (files : List FileEntry) (said : List Reply) (before after : List TowerSeen) : Type 0 where

@@ -1,5 +1,5 @@
 -- The towers of a run, one for each file.
-use Rattle.std.specs.Prelude.{◌≡◌, ℕ, ◌<◌, List, [], ◌∷◌, map, length}
+use Rattle.std.specs.Prelude.{◌≡◌, ℕ, ◌<◌, List, [], ◌∷◌, map}
 use Rattle.hist_plain.specs.File.{Shape}
 use Rattle.run_defs.specs.declared.log.History.{History}
 use Rattle.run_defs.specs.declared.setting.Setting.{Setting}
@@ -7,16 +7,16 @@ use Rattle.run_defs.specs.declared.setting.FileEntry.{FileEntry}
 use Rattle.run_defs.specs.Setting.{shape_of}
 use Rattle.plain_tower.specs.Tower.{TowerSeen}
 
--- what no call changes of a tower
+-- what no call changes of a tower: the file, its callers, and its disk with the count of its store when it was opened
 pub record Frame : Type 0 where
   pub shape : Shape
   pub pages : ℕ
   pub callers : ℕ
   pub disk : ℕ
-  pub began : ℕ
+  pub opened : ℕ
 
 abbrev pub frame_of : TowerSeen → Frame
-frame_of t = record { shape = t.log.shape; pages = t.log.pages; callers = t.log.callers; disk = t.disk; began = t.began }
+frame_of t = record { shape = t.log.shape; pages = t.log.pages; callers = t.log.callers; disk = t.disk.disk; opened = t.disk.opened }
 
 abbrev pub frames : List TowerSeen → List Frame
 frames towers = map frame_of towers

@@ -9,6 +9,7 @@ mod towers;
 
 pub use client::{Client, perform};
 pub use closing::close_files;
+pub use line::file_named;
 pub use phase::run_phases;
 
 #[cfg(test)]

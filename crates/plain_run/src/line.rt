@@ -61,9 +61,10 @@ fn view_of(setting: &Setting, name: &Text) -> Option<u32>
 }
 
 /// The number of the file of a name.
-fn file_named(setting: &Setting, name: &Text) -> Option<u32>
+pub fn file_named(setting: &Setting, name: &Text) -> Option<u32>
     requires { IsSetting setting.now }
-    ensures { result ≡ file_named setting.now name.now }
+    ensures number { result ≡ file_named setting.now name.now }
+    ensures within { IfSome result (λ file. file < length setting.now.files) }
 {
     match place_of_file(setting.files.as_slice(), name) {
         Some(file) => Some(file as u32),

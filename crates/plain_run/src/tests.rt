@@ -2,12 +2,15 @@
 
 ghost use Rattle.std.specs.Prelude.{◌≡◌, ◌<◌, ◌≤◌, ◌∷◌, [], IfOk, IsTrue, length, map, true, false, vec_capacity};
 ghost use Rattle.std.specs.List.{AllByRecursion};
+ghost use Rattle.disk_format.specs.Shape.{IsShape};
 ghost use Rattle.run_defs.specs.Setting.{IsSetting, shape_of};
 ghost use Rattle.plain_run.specs.Towers.{AreTowers};
 ghost use Rattle.plain_run.specs.Lines.{IsCallOf};
 ghost use Rattle.plain_run.specs.Phases.{AreCalls, HaveClients, IsFresh};
 
 use super::*;
+use disk_format::ImageShape;
+use disk_layer::Disk;
 use hist_plain::{Items, Text};
 use plain_tower::{Opening, Tower, open};
 use run_defs::{FileEntry, History, Logged, NodeEntry, Setting};
@@ -58,6 +61,7 @@ fn nodes_of(alloc: Global) -> Result<Items<NodeEntry>, AllocError>
 /// The file `f` of two pages, and the layer `c` over the ground.
 fn setting_of(alloc: Global) -> Result<Setting, AllocError>
     ensures limits { IfOk result IsSetting }
+    ensures size { IfOk result (λ s. s.page_size ≡ 64) }
     ensures pages { IfOk result (λ s. map (λ f. f.pages) s.files ≡ 2 ∷ []) }
 {
     Ok(Setting {
@@ -69,22 +73,44 @@ fn setting_of(alloc: Global) -> Result<Setting, AllocError>
     })
 }
 
-/// The file over a store of zeros, for three callers.
+/// The shape of a file of two pages of 64 bytes.
+fn small() -> ImageShape
+    ensures shape { result ≡ record { page_size = 64; pages = 2 } }
+    ensures within { IsShape result }
+{
+    ImageShape {
+        page_size: 64,
+        pages: 2,
+    }
+}
+
+/// A disk of a fresh image, on a store of four blocks.
+fn fresh(alloc: Global) -> Result<Disk<MemStore>, Fail>
+    ensures { IfOk result (λ disk. disk.shape ≡ record { page_size = 64; pages = 2 }) }
+{
+    let store = MemStore::new(alloc, 64, 4, &[], &[], &[])?;
+    match Disk::format(alloc, store, 0, &small()) {
+        Ok(disk) => Ok(disk),
+        Err(_) => Err(Fail::from("the disk")),
+    }
+}
+
+/// The file over a fresh disk, for three callers.
 fn tower_of(alloc: Global, setting: &Setting) -> Result<Tower<MemStore>, Fail>
-    requires { IsSetting setting.now }
+    requires limits { IsSetting setting.now }
+    requires size { setting.now.page_size ≡ 64 }
     ensures shape { IfOk result (λ t. t.log.shape ≡ shape_of setting.now) }
     ensures pages { IfOk result (λ t. t.log.pages ≡ 2) }
     ensures callers { IfOk result (λ t. t.log.callers ≡ 3) }
 {
-    let store = MemStore::new(alloc, setting.page_size, 2, &[], &[], &[])?;
+    let disk = fresh(alloc)?;
     let opening = Opening {
         page_size: setting.page_size,
         parents: setting.parents.as_slice(),
         pages: 2,
-        disk: 0,
         callers: 3,
     };
-    match open(alloc, &opening, store) {
+    match open(alloc, &opening, disk) {
         Ok(tower) => Ok(tower),
         Err(_) => Err(Fail::from("the file")),
     }
@@ -92,6 +118,7 @@ fn tower_of(alloc: Global, setting: &Setting) -> Result<Tower<MemStore>, Fail>
 
 fn towers_of(alloc: Global, setting: &Setting) -> Result<Vec<Tower<MemStore>>, Fail>
     requires limits { IsSetting setting.now }
+    requires size { setting.now.page_size ≡ 64 }
     requires pages { map (λ f. f.pages) setting.now.files ≡ 2 ∷ [] }
     ensures { IfOk result (λ towers. AreTowers setting.now 2 towers.items) }
 {

@@ -1,8 +1,8 @@
-use Rattle.std.proofs.Common.{◌≡◌, Option, Some, None, ap, sym, ◌∙◌}
+use Rattle.std.proofs.Common.{ap, sym, ◌∙◌}
 use Rattle.std.specs.Str.{bytes_eq}
 use Rattle.hist_plain.specs.Event.{fits_page}
 use Rattle.run_defs.specs.declared.object.OpenObject.{OpenObject}
-use Rattle.run_defs.specs.Plan.{object_of, plan_access, plan_named}
+use Rattle.run_defs.specs.Plan.{object_of, plan_access}
 use Rattle.plain_run.specs.Lines.{IsObject}
 use Rattle.plain_run.proofs.LineLaws.{done-none, found-none, found-some, found_has, named-none, named-some, access-unfit}
 use Rattle.plain_run.proofs.client.access_line.Goals as goal

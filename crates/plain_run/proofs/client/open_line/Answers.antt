@@ -1,7 +1,7 @@
-use Rattle.std.proofs.Common.{◌≡◌, ℕ, List, Option, Some, None, ap, sym, ◌∙◌}
+use Rattle.std.proofs.Common.{◌≡◌, ap, sym, ◌∙◌}
 use Rattle.run_defs.specs.declared.setting.Found.{Found}
 use Rattle.run_defs.specs.Setting.{found_at}
-use Rattle.run_defs.specs.Plan.{object_of, plan_found, plan_open}
+use Rattle.run_defs.specs.Plan.{object_of, plan_found}
 use Rattle.plain_run.proofs.LineLaws.{done-none, done-lacks, found-none, found-some, open-exists, open-found}
 use Rattle.plain_run.proofs.RouteLaws.{route-is}
 use Rattle.plain_run.proofs.client.open_line.Goals as goal

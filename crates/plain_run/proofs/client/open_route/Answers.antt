@@ -1,4 +1,4 @@
-use Rattle.std.proofs.Common.{◌≡◌, ◌∷◌, [], ◌++◌, ℕ, List, Option, Some, None, IsTrue, refl, ap, sym, ◌∙◌, rules}
+use Rattle.std.proofs.Common.{◌≡◌, ◌∷◌, [], ◌++◌, List, refl, ap, sym, ◌∙◌, rules}
 use Rattle.hist_plain.specs.declared.event.Op.TheVariants as ops
 use Rattle.hist_plain.specs.Plain.{Told}
 use Rattle.script_text.specs.declared.script.Reply.{Reply}

@@ -1,7 +1,7 @@
-use Rattle.std.proofs.Common.{◌≡◌, ℕ, List, [], Option, Some, None, refl, ap, sym, ◌∙◌}
+use Rattle.std.proofs.Common.{[], refl, sym, ◌∙◌}
 use Rattle.std.specs.Str.{bytes_eq}
 use Rattle.run_defs.specs.declared.object.OpenObject.{OpenObject}
-use Rattle.run_defs.specs.Plan.{Request, object_of, plan_sync, plan_call, plan_named, asking, sync, ends, reply_of}
+use Rattle.run_defs.specs.Plan.{Request, object_of, plan_sync, plan_call, asking, sync, ends, reply_of}
 use Rattle.hist_plain.specs.Plain.{Told}
 use Rattle.plain_run.specs.Lines.{IsObject}
 use Rattle.plain_run.proofs.LineLaws.{done-none, done-as, done-answered, done-refused, may-sync, file-lt, found-none, found-some, found_has, named-none, named-some}

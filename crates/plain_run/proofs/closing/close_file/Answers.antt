@@ -1,7 +1,6 @@
-use Rattle.std.proofs.Common.{◌≡◌, ◌<◌, ℕ, List, [], length, refl, ap, sym, ◌∙◌, arith}
+use Rattle.std.proofs.Common.{[], refl, sym, ◌∙◌, arith}
 use Rattle.hist_plain.specs.declared.event.Keep.TheVariants as keeps
 use Rattle.hist_plain.specs.Plain.{Told}
-use Rattle.script_text.specs.declared.script.Reply.{Reply}
 use Rattle.run_defs.specs.Plan.{Request, ends, asking, sync, plan_call, reply_of}
 use Rattle.plain_run.proofs.LineLaws.{done-answered, done-refused, may-sync, file-lt}
 use Rattle.plain_run.proofs.closing.close_file.Goals as goal

@@ -1,4 +1,4 @@
-use Rattle.std.proofs.Common.{◌≡◌, ◌∷◌, [], ◌++◌, ◌+◌, ◌<◌, ◌≤◌, List, length, take, ap, sym, subst, ◌∙◌, arith, Fits, w32, length-append, vec_capacity}
+use Rattle.std.proofs.Common.{◌≡◌, ◌∷◌, [], ◌++◌, ◌+◌, ◌<◌, List, length, take, ap, sym, subst, ◌∙◌, arith, length-append}
 use Rattle.std.proofs.lemmas.List.{take_all, length-take-le}
 use Rattle.script_text.specs.declared.script.Reply.{Reply}
 use Rattle.run_defs.specs.declared.setting.FileEntry.{FileEntry}

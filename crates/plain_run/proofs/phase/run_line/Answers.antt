@@ -1,4 +1,4 @@
-use Rattle.std.proofs.Common.{◌≡◌, ◌∷◌, [], ◌++◌, List, ap, ◌∙◌}
+use Rattle.std.proofs.Common.{◌∷◌, [], ◌++◌, List, ap, ◌∙◌}
 use Rattle.script_text.specs.declared.script.Said.{Said}
 use Rattle.plain_run.specs.declared.client.Client.{Client}
 use Rattle.plain_run.proofs.PhaseLaws.{line-own}

@@ -1,4 +1,5 @@
-use Rattle.std.proofs.Common.{◌≡◌, ◌<◌, ◌∙◌, length, refl, ap, sym, arith}
+use Rattle.std.proofs.Common.{◌<◌, ◌∙◌, get_or, length, refl, ap, sym, arith}
+use Rattle.std.proofs.lemmas.Option.{slice_get-get_or}
 use Rattle.script_text.specs.declared.script.CallLine.{CallLine}
 use Rattle.plain_run.specs.Towers.{histories}
 use Rattle.plain_run.proofs.PhaseLaws.{phase-none, phase-step, client-at, ready-next}
@@ -27,3 +28,21 @@ loop-line-preserved g c =
           lt inv.ready alone.done.caller_same c.run_line.ensures.objects c.run_line.ensures.same;
       same = c.run_line.ensures.same ∙ inv.same;
     }
+
+pub run_line-requires-clause-objects : goal.run_line-requires-clause-objects
+run_line-requires-clause-objects g c κs within =
+    let line : CallLine = c.line-item.result in
+    let at = client-at (length c.args.clients.now) c.args.lines.now c.loop-line.line-index line c.requires.each c.loop-line-test.true in
+    let is = ap (λ (l : CallLine). l.client) c.line-item.is in
+    let len = c.loop-line.invariant.done.len in
+    let lt : line.client < length c.loop-line.clients = omega (arith, at, is, len) in
+    (c.loop-line.invariant.ready line.client (get_or c.loop-line.clients line.client c.index-clients-number.result) (slice_get-get_or c.loop-line.clients line.client c.index-clients-number.result lt)).objects_are
+
+pub run_line-requires-clause-own : goal.run_line-requires-clause-own
+run_line-requires-clause-own g c κs within =
+    let line : CallLine = c.line-item.result in
+    let at = client-at (length c.args.clients.now) c.args.lines.now c.loop-line.line-index line c.requires.each c.loop-line-test.true in
+    let is = ap (λ (l : CallLine). l.client) c.line-item.is in
+    let len = c.loop-line.invariant.done.len in
+    let lt : line.client < length c.loop-line.clients = omega (arith, at, is, len) in
+    sym (c.loop-line.invariant.ready line.client (get_or c.loop-line.clients line.client c.index-clients-number.result) (slice_get-get_or c.loop-line.clients line.client c.index-clients-number.result lt)).caller

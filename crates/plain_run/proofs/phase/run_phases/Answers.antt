@@ -1,4 +1,4 @@
-use Rattle.std.proofs.Common.{◌≡◌, List, refl, subst, sym, ◌∙◌}
+use Rattle.std.proofs.Common.{List, refl, subst, ◌∙◌}
 use Rattle.script_text.specs.declared.script.CallLine.{CallLine}
 use Rattle.plain_run.specs.Phases.{PhaseDone}
 use Rattle.plain_run.specs.Towers.{histories}

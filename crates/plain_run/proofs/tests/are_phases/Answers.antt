@@ -1,4 +1,4 @@
-use Rattle.std.proofs.Common.{◌≡◌, List, subst}
+use Rattle.std.proofs.Common.{List, subst}
 use Rattle.script_text.specs.declared.script.CallLine.{CallLine}
 use Rattle.plain_run.specs.Phases.{AreCalls, HaveClients}
 use Rattle.plain_run.proofs.TestLaws.{all-next}

@@ -1,4 +1,4 @@
-use Rattle.std.proofs.Common.{◌≡◌, ◌∷◌, [], ◌++◌, List, ap, sym, subst, ◌∙◌}
+use Rattle.std.proofs.Common.{◌∷◌, [], ◌++◌, List, ap, sym, subst, ◌∙◌}
 use Rattle.plain_tower.specs.Tower.{TowerSeen}
 use Rattle.plain_run.specs.Towers.{AreTowers}
 use Rattle.plain_run.proofs.TestLaws.{one-tower}

@@ -1,9 +1,8 @@
-use Rattle.std.proofs.Common.{◌≡◌, ◌<◌, length, IsTrue, ap, sym}
+use Rattle.std.proofs.Common.{◌<◌, length, get_or, IsTrue}
 use Rattle.hist_plain.specs.Event.{fits_page}
 use Rattle.run_defs.specs.Plan.{access}
 use Rattle.plain_tower.specs.Tower.{TowerSeen}
-use Rattle.plain_run.specs.Towers.{frame_of}
-use Rattle.plain_run.proofs.TowerLaws.{called-at, read-tower, frames-set}
+use Rattle.plain_run.proofs.TowerLaws.{called-at, read-tower, frames-set, frame-goes}
 use Rattle.plain_run.proofs.towers.access_at.Goals as goal
 
 pub access-requires-clause-caller : goal.access-requires-clause-caller
@@ -23,4 +22,4 @@ returns-clause-called g c = λ t there.
     called-at c.args.towers.now c.args.file c.args.caller (access c.args.node c.args.life c.args.op) c.index-towers-file.result c.access.new.self t c.access.new.out c.access.result c.requires.file c.access.ensures.called there
 
 pub returns-clause-same : goal.returns-clause-same
-returns-clause-same g c = frames-set c.args.towers.now c.args.file c.index-towers-file.result c.access.new.self (ap frame_of c.access.ensures.same)
+returns-clause-same g c = frames-set c.args.towers.now c.args.file c.index-towers-file.result c.access.new.self (frame-goes (get_or c.args.towers.now c.args.file c.index-towers-file.result) c.access.new.self c.access.ensures.same c.access.ensures.disk)
