@@ -1,9 +1,8 @@
-pub mod Lists
-pub mod BerthLaws
 pub mod HeldLaws
 pub mod PlayLaws
 pub mod RunLaws
 pub mod RefusalLaws
 pub mod TopLaws
 pub mod BuiltLaws
-pub mod WriteLaws
+pub mod EndedLaws
+pub mod ImageLaws

@@ -4,7 +4,7 @@ use Rattle.std.specs.Fmt.{decimal}
 use Rattle.spr_report.specs.declared.status.Status.{Status}
 use Rattle.spr_report.specs.declared.status.Status.TheVariants as statuses
 use Rattle.spr_run.specs.Refusal.{line_text}
-use Rattle.spr_run.specs.Ways.{Finishes, joined}
+use Rattle.file_stores.specs.Writing.{Finishes, joined}
 
 -- the pieces of a refused line are its text
 pub finishes-line : (before after : Option (List ℕ)) (faults faults_after : ℕ) (kind number mark word : List ℕ) (line : ℕ) (result : Status) → number ≡ decimal line

@@ -1,10 +1,10 @@
 -- How a run ended, by its answers and the stores that were lost.
-use Rattle.std.specs.Prelude.{ℕ, suc, List, not, ◌||◌, Bool, true, false, if◌then◌else◌, [], ◌∷◌, ◌++◌, slice_get, unwrap_or}
+use Rattle.std.specs.Prelude.{List, not, ◌||◌, Bool, true, false, if◌then◌else◌}
 use Rattle.std.specs.List.{list_any, list_all}
 use Rattle.script_text.specs.declared.script.Said.{Said}
 use Rattle.script_text.specs.declared.script.Reply.{Reply}
 use Rattle.script_text.specs.declared.script.Reply.TheVariants as replies
-use Rattle.run_defs.specs.declared.object.LostStore.{LostStore}
+use Rattle.file_stores.specs.Losses.{any_gone}
 use Rattle.spr_report.specs.declared.status.Status.{Status}
 use Rattle.spr_report.specs.declared.status.Status.TheVariants.{Good, Faulted, BayFault, Memory}
 
@@ -27,21 +27,6 @@ lacks_memory said = list_any (λ s. is_memory s.reply) said
 
 abbrev pub has_fault : List Said → Bool
 has_fault said = list_any (λ s. is_fault s.reply) said
-
--- whether the store of a file was lost, by file
-abbrev pub gone_at : List Bool → ℕ → Bool
-gone_at gone file = unwrap_or (slice_get gone file) false
-
-abbrev pub any_gone : List Bool → Bool
-any_gone gone = list_any (λ lost. lost) gone
-
--- the stores that were lost, in the order of the files from this one on
-abbrev pub losses_from : ℕ → List Bool → List LostStore
-losses_from file [] = []
-losses_from file (gone ∷ more) = (if gone then record { file = file; disk = 0 } ∷ [] else []) ++ losses_from (suc file) more
-
-abbrev pub losses : List Bool → List LostStore
-losses gone = losses_from 0 gone
 
 -- want of memory, in a client's answers or the closing ones, comes first; then a store that was lost; then an answer of a
 -- store's failure or a closing sync that is not done

@@ -4,8 +4,8 @@ pub mod Interfaces
 pub mod Refusal
 pub mod Ended
 pub mod Play
-pub mod Berths
 pub mod Store
 pub mod Held
 pub mod Ways
-pub mod Writing
+pub mod Opening
+pub mod Images

@@ -1,5 +1,5 @@
 -- Why a command ends before a store is taken, and what it writes then.
-use Rattle.std.specs.Prelude.{◌≡◌, ℕ, List, [], ◌∷◌, ◌++◌, codes, Some, Err}
+use Rattle.std.specs.Prelude.{◌≡◌, ℕ, List, [], ◌∷◌, ◌++◌, codes, Some, None, Err}
 use Rattle.std.specs.Option.{option_map}
 use Rattle.std.specs.List.{AllByRecursion}
 use Rattle.std.specs.Fmt.{decimal}
@@ -15,6 +15,7 @@ use Rattle.stack_text.specs.Why.{word_of}
 use Rattle.stack_accept.specs.Rules.{first_breach}
 use Rattle.stack_setting.specs.Later.{later_line}
 use Rattle.run_defs.specs.declared.setting.Setting.{Setting}
+use Rattle.run_defs.specs.Setting.{file_named}
 use Rattle.plain_run.specs.Phases.{AreCalls}
 use Rattle.spr_report.specs.declared.status.Status.{Status}
 use Rattle.spr_report.specs.declared.status.Status.TheVariants as statuses
@@ -110,6 +111,16 @@ IsCause told faults faults_after names refusals.IdlShelf = Rose faults faults_af
 IsCause told faults faults_after names refusals.Memory = Unit {0}
 IsCause told faults faults_after names refusal = HasInterfaces told names.idl × IsRunCause told faults faults_after names.stack names.script refusal
 
+-- the stack of the name can be run, and this is the number of its file of a name
+pub record HasFile (told : Texts) (stack name : List ℕ) (setting : Setting) (file : ℕ) : Type 0 where
+  pub stack_is : IsMounted told stack setting
+  pub file_is : file_named setting name ≡ Some file
+
+-- A file's refusal has its cause: a stack that is not run, or one that has no file of the name.
+abbrev pub IsFileCause : Texts → ℕ → ℕ → List ℕ → List ℕ → Refusal → Type 0
+IsFileCause told faults faults_after stack name refusals.FileUnknown = (setting : Setting) × IsMounted told stack setting × (file_named setting name ≡ None)
+IsFileCause told faults faults_after stack name refusal = IsSettingCause told faults faults_after stack refusal
+
 -- the first line or place of a text that is refused, and the status
 abbrev pub line_text : List ℕ → ℕ → List ℕ → List ℕ
 line_text kind line word = kind ++ (codes " " ++ (decimal line ++ (codes " " ++ (word ++ codes "\nstatus 3\n"))))
@@ -127,6 +138,7 @@ refusal_text names (refusals.Unfit line rule) = line_text (codes "stack") line (
 refusal_text names (refusals.StackLater line) = line_text (codes "stack") line (codes "later")
 refusal_text names (refusals.Script line why) = line_text (codes "script") line (why_word why)
 refusal_text names (refusals.ScriptLater line) = line_text (codes "script") line (codes "later")
+refusal_text names refusals.FileUnknown = codes "file unknown\nstatus 3\n"
 refusal_text names refusals.IdlShelf = shelf_text names.idl
 refusal_text names refusals.StackShelf = shelf_text names.stack
 refusal_text names refusals.ScriptShelf = shelf_text names.script

@@ -8,6 +8,7 @@ use Rattle.stack_accept.specs.Check.{check_text}
 use Rattle.stack_setting.specs.Later.{later_line}
 use Rattle.stack_setting.specs.Mounted.{setting_of}
 use Rattle.run_defs.specs.declared.setting.Setting.{Setting}
+use Rattle.file_stores.specs.Stocked.{stores_of}
 
 -- what a shelf tells of its texts, by name
 abbrev pub Texts : Type 0
@@ -45,6 +46,10 @@ pub record IsMounted (told : Texts) (name : List ℕ) (setting : Setting) : Type
   pub stack_is : IsStackOf told name stack
   pub none_later : later_line stack.lines ≡ None
   pub setting_is : setting ≡ setting_of (mounted stack.lines)
+
+-- these are the stores of the stack of the name, an entry for each, by file and then by disk
+abbrev pub AreStoresOf : Texts → List ℕ → Setting → Type 0
+AreStoresOf told name stores = (stack : StackText) × IsStackOf told name stack × (stores ≡ stores_of (setting_of (mounted stack.lines)))
 
 -- these are the lines of the tree that the stack of the name makes
 abbrev pub IsTreeOf : Texts → List ℕ → List ℕ → Type 0

@@ -1,20 +1,24 @@
 -- The ways in which a command ends, each with the text that it writes and its status.
-use Rattle.std.specs.Prelude.{◌≡◌, ◌⊎◌, ℕ, List, [], ◌∷◌, ◌++◌, codes, Option, Some, None, Bool}
-use Rattle.std.specs.Option.{option_map}
+use Rattle.std.specs.Prelude.{◌≡◌, ℕ, List, [], ◌++◌, codes, Option, Some, None, Bool}
 use Rattle.script_text.specs.declared.script.Script.{Script}
 use Rattle.run_defs.specs.declared.setting.Setting.{Setting}
 use Rattle.spr_io.specs.Berth.{SameBerths}
-use Rattle.spr_io.specs.Causes.{Rose}
 use Rattle.spr_report.specs.declared.status.Status.{Status}
 use Rattle.spr_report.specs.declared.status.Status.TheVariants as statuses
-use Rattle.spr_words.specs.declared.words.Asked.TheVariants.{Run, Check, Idl}
+use Rattle.spr_words.specs.declared.words.Asked.TheVariants.{Run, Check, Format, Dump, Idl}
 use Rattle.spr_words.specs.Asked.{asked}
 use Rattle.spr_run.specs.declared.refusal.Refusal.{Refusal}
-use Rattle.spr_run.specs.declared.store.Stop.{Stop}
-use Rattle.spr_run.specs.Stacks.{Texts, TextNames, IsTreeOf}
+use Rattle.file_stores.specs.declared.stop.Stop.{Stop}
+use Rattle.image_commands.specs.Formats.{Formats}
+use Rattle.image_commands.specs.Dumps.{Dumps}
+use Rattle.spr_run.specs.Stacks.{Texts, TextNames, IsTreeOf, AreStoresOf}
+use Rattle.spr_run.specs.Images.{SaysFormat, SaysDump}
 use Rattle.spr_run.specs.Interfaces.{AreTablesOf, IsInterfacesCause}
-use Rattle.spr_run.specs.Refusal.{IsPrepared, IsStackCause, IsCause, refusal_text, refusal_status}
-use Rattle.spr_run.specs.Store.{AtBay, Ran, RanOut, Stops, stop_text, stop_status}
+use Rattle.spr_run.specs.Refusal.{HasFile, IsPrepared, IsStackCause, IsFileCause, IsCause, refusal_text, refusal_status}
+use Rattle.file_stores.specs.Stop.{stop_text, stop_status}
+use Rattle.file_stores.specs.Store.{AtBay, Stops}
+use Rattle.file_stores.specs.Writing.{Finishes}
+use Rattle.spr_run.specs.Store.{Ran, RanOut}
 
 -- what was told of the outside before a command, and after it
 pub record Outside : Type 0 where
@@ -53,6 +57,14 @@ only_idl idl = record { idl = idl; stack = []; script = [] }
 -- the words ask for the tables of interfaces, with this name
 abbrev pub IsIdl : List (List ℕ) → List ℕ → Type 0
 IsIdl words idl = asked words ≡ Some (Idl idl)
+
+-- the words ask for fresh images, with this name of the stack
+abbrev pub IsFormat : List (List ℕ) → List ℕ → Type 0
+IsFormat words stack = asked words ≡ Some (Format stack)
+
+-- the words ask for the pages of a file, with these names of the stack and the file
+abbrev pub IsDump : List (List ℕ) → List ℕ → List ℕ → Type 0
+IsDump words stack file = asked words ≡ Some (Dump stack file)
 
 -- the words ask for no command
 pub record SaysUsage (words : List (List ℕ)) (o : Outside) (text : List ℕ) (status : Status) : Type 0 where
@@ -150,6 +162,45 @@ pub record SaysMemory (words : List (List ℕ)) (o : Outside) (text : List ℕ) 
   pub text_is : text ≡ codes "status 8\n"
   pub status_is : status ≡ statuses.Memory
 
+-- fresh images were written on the stores of the stack, or not on all of them
+pub record SaysFormatted (words : List (List ℕ)) (o : Outside) (text : List ℕ) (status : Status) : Type 0 where
+  pub stack : List ℕ
+  pub format : IsFormat words stack
+  pub stores : Setting
+  pub stores_are : AreStoresOf o.texts stack stores
+  pub says : SaysFormat stores o.bay text status
+
+-- the stack is refused, or could not be read
+pub record SaysUnformatted (words : List (List ℕ)) (o : Outside) (text : List ℕ) (status : Status) : Type 0 where
+  pub stack : List ℕ
+  pub format : IsFormat words stack
+  pub refusal : Refusal
+  pub cause : IsStackCause o.texts o.shelf o.shelf_after stack refusal
+  pub text_is : text ≡ refusal_text (only_stack stack) refusal
+  pub status_is : status ≡ refusal_status refusal
+  pub idle : IsIdle o.bay
+
+-- the pages of the stack's file of the name were printed, or could not be
+pub record SaysDumped (words : List (List ℕ)) (o : Outside) (text : List ℕ) (status : Status) : Type 0 where
+  pub stack : List ℕ
+  pub name : List ℕ
+  pub dump : IsDump words stack name
+  pub setting : Setting
+  pub file : ℕ
+  pub has : HasFile o.texts stack name setting file
+  pub says : SaysDump setting file o.bay text status
+
+-- the stack is refused, or could not be read, or has no file of the name
+pub record SaysUndumped (words : List (List ℕ)) (o : Outside) (text : List ℕ) (status : Status) : Type 0 where
+  pub stack : List ℕ
+  pub name : List ℕ
+  pub dump : IsDump words stack name
+  pub refusal : Refusal
+  pub cause : IsFileCause o.texts o.shelf o.shelf_after stack name refusal
+  pub text_is : text ≡ refusal_text (only_stack stack) refusal
+  pub status_is : status ≡ refusal_status refusal
+  pub idle : IsIdle o.bay
+
 -- the ways in which a command ends
 pub data Says (words : List (List ℕ)) (o : Outside) (text : List ℕ) (status : Status) : Type 0 where
   unread : SaysUnread o text status → Says words o text status
@@ -162,24 +213,10 @@ pub data Says (words : List (List ℕ)) (o : Outside) (text : List ℕ) (status 
   stop : SaysStop words o text status → Says words o text status
   report : SaysReport words o text status → Says words o text status
   memory : SaysMemory words o text status → Says words o text status
-
--- a first part of the text was written
-pub record WroteSome (text : List ℕ) (before after : Option (List ℕ)) : Type 0 where
-  pub part : List ℕ
-  pub rest : List ℕ
-  pub is : part ++ rest ≡ text
-  pub written : after ≡ option_map (λ w. w ++ part) before
-
--- the text was written whole and the command ends so, or the sink failed
-abbrev pub Finishes : Option (List ℕ) → Option (List ℕ) → ℕ → ℕ → List ℕ → Status → Status → Type 0
-Finishes before after faults faults_after text status result =
-    ((result ≡ status) × (after ≡ option_map (λ w. w ++ text) before))
-    ⊎ ((result ≡ statuses.SinkFault) × Rose faults faults_after × WroteSome text before after)
-
--- the pieces of a text, one after another
-abbrev pub joined : List (List ℕ) → List ℕ
-joined [] = []
-joined (piece ∷ pieces) = piece ++ joined pieces
+  formatted : SaysFormatted words o text status → Says words o text status
+  unformatted : SaysUnformatted words o text status → Says words o text status
+  dumped : SaysDumped words o text status → Says words o text status
+  undumped : SaysUndumped words o text status → Says words o text status
 
 -- How a run over the files ended, and what was written then.
 pub data RunsScript (setting : Setting) (bay : AtBay) (script : Script) (before after : Option (List ℕ)) (faults faults_after : ℕ) (result : Status) : Type 0 where
@@ -207,6 +244,18 @@ pub data PrintsTables (told : Texts) (shelf shelf_after : ℕ) (name : List ℕ)
       → PrintsTables told shelf shelf_after name before after faults faults_after result
   prints_none : (refusal : Refusal) → IsInterfacesCause told shelf shelf_after name refusal → Finishes before after faults faults_after (refusal_text (only_idl name) refusal) (refusal_status refusal) result
       → PrintsTables told shelf shelf_after name before after faults faults_after result
+
+-- How the formatting of the stores of a stack of a name ended, and what was written then.
+pub data FormatsStack (name : List ℕ) (o : Outside) (result : Status) : Type 0 where
+  formats_none : (why : Refusal) → IsStackCause o.texts o.shelf o.shelf_after name why → IsIdle o.bay
+      → Finishes o.written o.written_after o.sink o.sink_after (refusal_text (only_stack name) why) (refusal_status why) result → FormatsStack name o result
+  formats_files : (stores : Setting) → AreStoresOf o.texts name stores → Formats stores o.bay o.written o.written_after o.sink o.sink_after result → FormatsStack name o result
+
+-- How the printing of the pages of a file of a name ended, and what was written then.
+pub data DumpsNamed (stack name : List ℕ) (o : Outside) (result : Status) : Type 0 where
+  dumps_none : (why : Refusal) → IsFileCause o.texts o.shelf o.shelf_after stack name why → IsIdle o.bay
+      → Finishes o.written o.written_after o.sink o.sink_after (refusal_text (only_stack stack) why) (refusal_status why) result → DumpsNamed stack name o result
+  dumps_file : (setting : Setting) (file : ℕ) → HasFile o.texts stack name setting file → Dumps setting file o.bay o.written o.written_after o.sink o.sink_after result → DumpsNamed stack name o result
 
 -- How a command ends: in one of the ways, whose text is written, or written in part where the sink failed.
 pub record Ends (words : List (List ℕ)) (o : Outside) (result : Status) : Type 0 where

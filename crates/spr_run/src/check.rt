@@ -5,9 +5,9 @@ ghost use Rattle.spr_run.specs.Stacks.{IsTreeOf};
 ghost use Rattle.spr_run.specs.Refusal.{IsStackCause};
 ghost use Rattle.spr_run.specs.Ways.{ChecksStack};
 
-use crate::finish::finish;
 use crate::refusal::{Refusal, refuse};
 use crate::texts::read_accepted;
+use file_stores::finish;
 use hist_plain::Text;
 use spr_io::{Shelf, Sink};
 use spr_report::Status;

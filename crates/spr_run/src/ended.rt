@@ -2,10 +2,11 @@
 
 ghost use Rattle.std.specs.Prelude.{◌≡◌, ◌≤◌, length, map};
 ghost use Rattle.std.specs.List.{list_any, list_all};
-ghost use Rattle.spr_run.specs.Ended.{is_memory, is_fault, is_done, lacks_memory, has_fault, any_gone, losses, status_by, status_of};
-ghost use Rattle.spr_run.specs.Held.{IsRoom};
+ghost use Rattle.file_stores.specs.Losses.{any_gone, losses};
+ghost use Rattle.spr_run.specs.Ended.{is_memory, is_fault, is_done, lacks_memory, has_fault, status_by, status_of};
+ghost use Rattle.file_stores.specs.Held.{IsRoom};
 
-use run_defs::LostStore;
+use file_stores::any_gone;
 use script_text::{Reply, Said};
 use spr_report::Status;
 
@@ -76,31 +77,6 @@ fn status_by(lacks: bool, memory: bool, gone: bool, fault: bool, done: bool) -> 
     } else {
         Status::Good
     }
-}
-
-/// Whether a store was lost.
-fn any_gone(gone: &[bool]) -> bool
-    ensures { result ≡ any_gone gone.now }
-{
-    gone.iter().any(|lost| *lost)
-}
-
-/// Lists the stores that were lost, in the order of their files. The room for them is there.
-pub(crate) fn list_losses(gone: &[bool], room: Vec<LostStore>) -> Vec<LostStore>
-    requires few { length gone.now ≤ 16 }
-    requires room { IsRoom (length gone.now) room }
-    ensures { result.items ≡ losses gone.now }
-{
-    let mut list = room;
-    for (file, lost) in gone.iter().enumerate() {
-        if *lost {
-            list.push_reserved(LostStore {
-                file: file as u32,
-                disk: 0,
-            });
-        }
-    }
-    list
 }
 
 /// The status of a run that reached its phases.

@@ -3,10 +3,9 @@
 
 mod check;
 mod ended;
-mod finish;
 mod held;
+mod images;
 mod interfaces;
-mod names;
 mod play;
 mod refusal;
 mod stacks;
@@ -16,7 +15,7 @@ mod texts;
 mod top;
 
 pub use refusal::Refusal;
-pub use store::{End, Stop};
+pub use store::End;
 pub use top::spring;
 
 #[cfg(test)]

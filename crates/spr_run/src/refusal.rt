@@ -3,9 +3,9 @@
 ghost use Rattle.std.specs.Prelude.{◌++◌, codes, map};
 ghost use Rattle.spr_report.specs.declared.status.Status.TheVariants.{Refused, ShelfFault};
 ghost use Rattle.spr_run.specs.Refusal.{line_text, shelf_text, refusal_text, refusal_status};
-ghost use Rattle.spr_run.specs.Ways.{Finishes};
+ghost use Rattle.file_stores.specs.Writing.{Finishes};
 
-use crate::finish::{MEMORY, finish};
+use file_stores::{MEMORY, finish};
 use idl_check::UnfitWhy;
 use idl_reader::IdlWhy;
 use itoa::Buffer;
@@ -62,6 +62,8 @@ pub enum Refusal {
         /// The line.
         line: u32,
     },
+    /// The stack has no file of the name.
+    FileUnknown,
     /// The text of the interfaces could not be read.
     IdlShelf,
     /// The stack text could not be read.
@@ -133,6 +135,7 @@ pub(crate) fn refuse<K: Sink>(
             refuse_line(sink, b"script", line, b"", why.word().as_bytes())
         }
         Refusal::ScriptLater { line } => refuse_line(sink, b"script", line, b"", b"later"),
+        Refusal::FileUnknown => finish(sink, &[b"file unknown\nstatus 3\n"], Status::Refused),
         Refusal::IdlShelf => refuse_shelf(sink, idl),
         Refusal::StackShelf => refuse_shelf(sink, stack),
         Refusal::ScriptShelf => refuse_shelf(sink, name),

@@ -1,6 +1,6 @@
 //! A run over the files of a stack: their stores are taken, opened, run over and given back.
 
-ghost use Rattle.std.specs.Prelude.{◌≡◌, ◌+◌, ◌≤◌, ℕ, List, IfOk, length, map};
+ghost use Rattle.std.specs.Prelude.{◌≡◌, ◌+◌, ◌<◌, ◌≤◌, ℕ, List, IfOk, length, map};
 ghost use Rattle.std.specs.List.{AllByRecursion};
 ghost use Rattle.script_text.specs.Grammar.{IsScript};
 ghost use Rattle.run_defs.specs.Setting.{IsSetting, IsBuilt, shape_of};
@@ -8,36 +8,19 @@ ghost use Rattle.run_defs.specs.Log.{AreHistories};
 ghost use Rattle.spr_io.specs.Berth.{Berths};
 ghost use Rattle.plain_run.specs.Phases.{AreCalls};
 ghost use Rattle.spr_run.specs.Store.{Ends};
-ghost use Rattle.spr_run.specs.Held.{StoreSeen, IsRoom, IsFor, EachAt, AreOut, AreBelow, AreOpened, OpensSome, ComeBack, Tells};
+ghost use Rattle.file_stores.specs.Held.{StoreSeen, IsRoom, IsFor, EachAt, AreOut, ComeBack};
+ghost use Rattle.spr_run.specs.Held.{AreBelow, AreOpened, OpensSome, Tells};
 
-use crate::ended::{list_losses, status_of};
-use crate::held::{Held, close_towers, give_back, open_files, put_behind, take_stores};
+use crate::ended::status_of;
+use crate::held::{close_towers, open_files};
 use crate::play::{Answers, play};
+use file_stores::{Held, Stop, give_back, list_losses, put_behind, take_stores};
 use plain_tower::Tower;
 use run_defs::{History, LostStore, Setting};
 use script_text::Script;
 use spr_io::{Bay, Store};
 use spr_report::{Run, Status, report};
 use std::alloc::{AllocError, Global};
-
-/// Why a run ends before its phases.
-#[derive(Clone, Copy, Debug, PartialEq, Eq)]
-pub enum Stop {
-    /// The bay gave no store of a file.
-    Bay {
-        /// The number of the file.
-        file: u32,
-    },
-    /// The store of a file failed while the file was opened.
-    Store {
-        /// The number of the file.
-        file: u32,
-        /// The store's count of faults then.
-        count: u64,
-    },
-    /// Memory ran out.
-    Memory,
-}
 
 /// How a run over the stores ended.
 #[derive(Debug, Drop)]
@@ -129,6 +112,7 @@ fn tell(
     lost: Vec<LostStore>,
 ) -> End
     requires limits { IsSetting setting.now }
+    requires disks { 0 < length setting.now.disks }
     requires histories { AreHistories (shape_of setting.now) setting.now.files histories.now }
     requires said { length answers.now.said.items ≡ length script.now.clients }
     requires closing { length answers.now.closing.items ≡ length setting.now.files }
@@ -136,7 +120,7 @@ fn tell(
     requires room { IsRoom (length gone.now) lost }
     ensures { Tells setting.now script.now histories.now (map (λ v. v.items) answers.now.said.items) answers.now.closing.items gone.now result }
 {
-    let lost = list_losses(gone, lost);
+    let lost = list_losses(setting.disks.as_slice().len(), gone, lost);
     let status = status_of(&answers.said, &answers.closing, gone);
     let run = Run {
         setting,

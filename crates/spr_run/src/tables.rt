@@ -2,9 +2,9 @@
 
 ghost use Rattle.spr_run.specs.Ways.{PrintsTables};
 
-use crate::finish::finish;
 use crate::interfaces::read_tables;
 use crate::refusal::refuse;
+use file_stores::finish;
 use hist_plain::Text;
 use spr_io::{Shelf, Sink};
 use spr_report::Status;

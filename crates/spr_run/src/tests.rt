@@ -2,9 +2,10 @@
 
 use crate::spring;
 use hist_plain::Text;
-use spr_io::{MemBay, MemShelf, MemSink, MemStore, OpenGate};
+use spr_io::{Bay, HostBay, MemBay, MemShelf, MemSink, MemStore, OpenGate};
 use spr_report::Status;
 use std::alloc::Global;
+use std::fs;
 use std::sync::Wait;
 use std::test::Fail;
 use std::thread::Threads;
@@ -186,24 +187,25 @@ fn words_of(alloc: Global, words: &[&str]) -> Result<Vec<Text>, Fail> {
     Ok(texts)
 }
 
-/// A bay with the store of one file, of two pages.
+/// A bay with the blank store of one file, of two pages and so of four blocks.
 fn bay_of(alloc: Global, outside: &Outside<'_>) -> Result<MemBay, Fail> {
     let mut bay = MemBay::new(alloc, outside.takes, outside.gives)?;
-    let store = MemStore::new(alloc, 64, 2, outside.reads, outside.writes, outside.flushes)?;
+    let store = MemStore::new(alloc, 64, 4, outside.reads, outside.writes, outside.flushes)?;
     match bay.put(alloc, "d", outside.file, store) {
         Ok(()) => Ok(bay),
         Err(_) => Err(Fail::from("the store")),
     }
 }
 
-/// Runs a command over a stack `S` and a script `T`: its status, and what it wrote.
-fn command<R: Threads + Wait + Sync>(
+/// Runs a command over a stack `S`, a script `T` and a bay: its status, and what it wrote.
+fn command_at<R: Threads + Wait + Sync, B: Bay>(
     rt: &R,
     alloc: Global,
     words: &[&str],
     stack: &[u8],
     script: &[u8],
     outside: &Outside<'_>,
+    bay: &mut B,
 ) -> Result<(Status, MemSink), Fail> {
     let words = words_of(alloc, words)?;
     let mut shelf = MemShelf::new(alloc, outside.shelf)?;
@@ -212,20 +214,49 @@ fn command<R: Threads + Wait + Sync>(
     shelf.put(alloc, "bad", BAD_IDL)?;
     shelf.put(alloc, "S", stack)?;
     shelf.put(alloc, "T", script)?;
-    let mut bay = bay_of(alloc, outside)?;
     if outside.width == 0 {
         return Err(Fail::from("the width"));
     }
     let mut sink = MemSink::new(alloc, outside.width, outside.sinks)?;
-    let status = spring(
-        rt, alloc, &words, &mut shelf, &mut bay, &mut sink, &OpenGate,
-    );
+    let status = spring(rt, alloc, &words, &mut shelf, bay, &mut sink, &OpenGate);
     Ok((status, sink))
+}
+
+/// The same over a bay with a blank store.
+fn command<R: Threads + Wait + Sync>(
+    rt: &R,
+    alloc: Global,
+    words: &[&str],
+    stack: &[u8],
+    script: &[u8],
+) -> Result<(Status, MemSink), Fail> {
+    let mut bay = bay_of(alloc, &SOUND)?;
+    command_at(rt, alloc, words, stack, script, &SOUND, &mut bay)
+}
+
+/// Runs a script over a stack whose stores were formatted, where some calls of the outside fail.
+fn run<R: Threads + Wait + Sync>(
+    rt: &R,
+    alloc: Global,
+    stack: &[u8],
+    script: &[u8],
+    outside: &Outside<'_>,
+) -> Result<(Status, MemSink), Fail> {
+    let mut bay = bay_of(alloc, outside)?;
+    let (formatted, _sink) = command_at(rt, alloc, FORMAT, stack, b"", &SOUND, &mut bay)?;
+    match formatted {
+        Status::Good => command_at(rt, alloc, RUN, stack, script, outside, &mut bay),
+        _ => Err(Fail::from("the images")),
+    }
 }
 
 const RUN: &[&str] = &["run", "I", "S", "T"];
 
 const CHECK: &[&str] = &["check", "S"];
+
+const FORMAT: &[&str] = &["format", "S"];
+
+const DUMP: &[&str] = &["dump", "S", "f"];
 
 /// An inherited operation comes first.
 const TABLES: &str =
@@ -363,7 +394,7 @@ fn refusals(rt: HostRuntime) -> Result<(), Fail> {
         ),
     ];
     for (words, stack, script, status, text) in rows {
-        let (got, sink) = command(&rt, rt.alloc(), words, stack, script, &SOUND)?;
+        let (got, sink) = command(&rt, rt.alloc(), words, stack, script)?;
         assert_eq!(rt; got, status, "at {text}");
         assert_eq!(rt; sink.bytes(), text.as_bytes(), "at {text}");
     }
@@ -391,15 +422,16 @@ fn runs(rt: HostRuntime) -> Result<(), Fail> {
         ),
     ];
     for (stack, script, text) in rows {
-        let (got, sink) = command(&rt, rt.alloc(), RUN, stack, script, &SOUND)?;
+        let (got, sink) = run(&rt, rt.alloc(), stack, script, &SOUND)?;
         assert_eq!(rt; got, Status::Good, "at {text}");
         assert_eq!(rt; sink.bytes(), text.as_bytes(), "at {text}");
     }
     Ok(())
 }
 
-/// What is to fail in a run over one file, and how it ends.
-const FAULTS: [(Outside<'static>, Status, &[u8]); 12] = [
+/// What is to fail in a run over one file, and how it ends. The image of the file was made before it, by a take, two writes,
+/// a flush and a give.
+const FAULTS: [(Outside<'static>, Status, &[u8]); 13] = [
     (
         Outside {
             shelf: &[1],
@@ -426,7 +458,7 @@ const FAULTS: [(Outside<'static>, Status, &[u8]); 12] = [
     ),
     (
         Outside {
-            takes: &[1],
+            takes: &[2],
             ..SOUND
         },
         Status::BayFault,
@@ -443,7 +475,7 @@ const FAULTS: [(Outside<'static>, Status, &[u8]); 12] = [
     (
         Outside {
             reads: &[1],
-            gives: &[1],
+            gives: &[2],
             ..SOUND
         },
         Status::Faulted,
@@ -451,7 +483,7 @@ const FAULTS: [(Outside<'static>, Status, &[u8]); 12] = [
     ),
     (
         Outside {
-            writes: &[1],
+            writes: &[3],
             ..SOUND
         },
         Status::Faulted,
@@ -459,11 +491,11 @@ const FAULTS: [(Outside<'static>, Status, &[u8]); 12] = [
     ),
     (
         Outside {
-            flushes: &[1],
+            writes: &[4],
             ..SOUND
         },
         Status::Faulted,
-        UNSYNCED,
+        UNWRITTEN,
     ),
     (
         Outside {
@@ -471,11 +503,19 @@ const FAULTS: [(Outside<'static>, Status, &[u8]); 12] = [
             ..SOUND
         },
         Status::Faulted,
+        UNSYNCED,
+    ),
+    (
+        Outside {
+            flushes: &[3],
+            ..SOUND
+        },
+        Status::Faulted,
         UNCLOSED,
     ),
     (
         Outside {
-            gives: &[1],
+            gives: &[2],
             ..SOUND
         },
         Status::BayFault,
@@ -500,13 +540,13 @@ const FAULTS: [(Outside<'static>, Status, &[u8]); 12] = [
     ),
 ];
 
-/// The same over two files.
+/// The same over two files, whose images were made by two takes and two gives.
 const FILES_FAULTS: [(Outside<'static>, Status, &[u8]); 5] = [
     (Outside { file: "g", ..SOUND }, Status::Good, FILES_REPORT),
     (
         Outside {
             file: "g",
-            takes: &[2],
+            takes: &[4],
             ..SOUND
         },
         Status::BayFault,
@@ -515,8 +555,8 @@ const FILES_FAULTS: [(Outside<'static>, Status, &[u8]); 5] = [
     (
         Outside {
             file: "g",
-            takes: &[2],
-            gives: &[1],
+            takes: &[4],
+            gives: &[3],
             ..SOUND
         },
         Status::BayFault,
@@ -526,7 +566,7 @@ const FILES_FAULTS: [(Outside<'static>, Status, &[u8]); 5] = [
         Outside {
             file: "g",
             reads: &[1],
-            gives: &[1, 2],
+            gives: &[3, 4],
             ..SOUND
         },
         Status::Faulted,
@@ -535,7 +575,7 @@ const FILES_FAULTS: [(Outside<'static>, Status, &[u8]); 5] = [
     (
         Outside {
             file: "g",
-            gives: &[2],
+            gives: &[4],
             ..SOUND
         },
         Status::BayFault,
@@ -546,41 +586,215 @@ const FILES_FAULTS: [(Outside<'static>, Status, &[u8]); 5] = [
 #[test]
 fn faults(rt: HostRuntime) -> Result<(), Fail> {
     for (outside, status, text) in FAULTS {
-        let (got, sink) = command(&rt, rt.alloc(), RUN, STACK, SCRIPT, &outside)?;
+        let (got, sink) = run(&rt, rt.alloc(), STACK, SCRIPT, &outside)?;
         assert_eq!(rt; got, status);
         assert_eq!(rt; sink.bytes(), text);
     }
     for (outside, status, text) in FILES_FAULTS {
-        let (got, sink) = command(&rt, rt.alloc(), RUN, FILES, FILES_SCRIPT, &outside)?;
+        let (got, sink) = run(&rt, rt.alloc(), FILES, FILES_SCRIPT, &outside)?;
         assert_eq!(rt; got, status);
         assert_eq!(rt; sink.bytes(), text);
     }
     Ok(())
 }
 
-/// Each call of the outside that the first run makes is refused in turn, until a run meets none.
+/// Each call of the outside that the first run makes is refused in turn, until a run meets none. The calls before it made the
+/// image.
 #[test]
 fn each_call(rt: HostRuntime) -> Result<(), Fail> {
-    for (call, count) in [
-        (Call::Shelf, 3),
-        (Call::Take, 1),
-        (Call::Give, 1),
-        (Call::Read, 2),
-        (Call::Write, 1),
-        (Call::Flush, 2),
-        (Call::Sink, 1),
+    let alloc = rt.alloc();
+    for (call, before, count) in [
+        (Call::Shelf, 0, 3),
+        (Call::Take, 1, 1),
+        (Call::Give, 1, 1),
+        (Call::Read, 0, 2),
+        (Call::Write, 2, 2),
+        (Call::Flush, 1, 2),
+        (Call::Sink, 0, 1),
     ] {
         for nth in 1..5 {
-            let (got, _sink) = command(
-                &rt,
-                rt.alloc(),
-                RUN,
-                STACK,
-                SCRIPT,
-                &refusing(call, &[nth]),
-            )?;
+            let fails = [before + nth];
+            let (got, _sink) = run(&rt, alloc, STACK, SCRIPT, &refusing(call, &fails))?;
             assert_eq!(rt; got == Status::Good, nth > count, "at {call:?} {nth}");
         }
+    }
+    Ok(())
+}
+
+/// What the dump begins with after a run of which one call of the store was refused: a page that was synced at last, or zeros
+/// where the file was not opened.
+#[test]
+fn pages_after_each_call(rt: HostRuntime) -> Result<(), Fail> {
+    let alloc = rt.alloc();
+    for (call, ordinal, text) in [
+        (Call::Read, 1, "page 0 zeros\n"),
+        (Call::Read, 2, "page 0 zeros\n"),
+        (Call::Write, 3, "page 0 61626364"),
+        (Call::Write, 4, "page 0 61626364"),
+        (Call::Flush, 2, "page 0 61626364"),
+        (Call::Flush, 3, "page 0 61626364"),
+    ] {
+        let fails = [ordinal];
+        let outside = refusing(call, &fails);
+        let mut bay = bay_of(alloc, &outside)?;
+        for words in [FORMAT, RUN] {
+            let (_got, _sink) = command_at(&rt, alloc, words, STACK, SCRIPT, &SOUND, &mut bay)?;
+        }
+        let (_got, sink) = command_at(&rt, alloc, DUMP, STACK, b"", &SOUND, &mut bay)?;
+        assert!(rt;
+            sink.bytes().starts_with(text.as_bytes()),
+            "at {call:?} {ordinal}"
+        );
+    }
+    Ok(())
+}
+
+/// Reads what an earlier run synced.
+const READ_AGAIN: &[u8] = b"client a m\nphase\na open x c/f\na read x 0 0 4\n";
+
+const READ_AGAIN_REPORT: &str =
+    "client a\n3 life 0\n4 61626364\nfile f\n0 a 0 c 0 open life 0\n2 a 1 c 0 read 0 0 4 61626364\n3 mount 0 c synced 3 done\nstatus 0\n";
+
+const FIRST_PAGE: &str =
+    "page 0 61626364000000000000000000000000000000000000000000000000000000000000000000000000000000000000000000000000000000000000000000000000\npage 1 zeros\nstatus 0\n";
+
+/// Commands one after another over the same store, which is blank at first.
+#[test]
+fn images(rt: HostRuntime) -> Result<(), Fail> {
+    let alloc = rt.alloc();
+    let rows: [(&[&str], &[u8], Status, &str); 11] = [
+        (
+            RUN,
+            SCRIPT,
+            Status::BadImage,
+            "image d f 0 magic\nstatus 6\n",
+        ),
+        (DUMP, b"", Status::BadImage, "image d f 0 magic\nstatus 6\n"),
+        (FORMAT, b"", Status::Good, "status 0\n"),
+        (
+            DUMP,
+            b"",
+            Status::Good,
+            "page 0 zeros\npage 1 zeros\nstatus 0\n",
+        ),
+        (RUN, SCRIPT, Status::Good, REPORT),
+        (DUMP, b"", Status::Good, FIRST_PAGE),
+        (RUN, READ_AGAIN, Status::Good, READ_AGAIN_REPORT),
+        (
+            &["dump", "S", "q"],
+            b"",
+            Status::Refused,
+            "file unknown\nstatus 3\n",
+        ),
+        (
+            &["dump", "U", "f"],
+            b"",
+            Status::ShelfFault,
+            "shelf U\nstatus 4\n",
+        ),
+        (FORMAT, b"", Status::Good, "status 0\n"),
+        (
+            DUMP,
+            b"",
+            Status::Good,
+            "page 0 zeros\npage 1 zeros\nstatus 0\n",
+        ),
+    ];
+    let mut bay = bay_of(alloc, &SOUND)?;
+    for (words, script, status, text) in rows {
+        let (got, sink) = command_at(&rt, alloc, words, STACK, script, &SOUND, &mut bay)?;
+        assert_eq!(rt; got, status, "at {text}");
+        assert_eq!(rt; sink.bytes(), text.as_bytes(), "at {text}");
+    }
+    Ok(())
+}
+
+/// The first stack, on a disk of another name.
+const HOST_STACK: &[u8] = b"page 64\nfile f 2\ndisk spr_run m\ncoherency c m spr_run\n";
+
+/// Three commands over the same file of the host: the last reads what the one before synced.
+#[test]
+fn host_images(rt: HostRuntime) -> Result<(), Fail> {
+    let path = "spr_run.f.img";
+    let _ = fs::remove_file(&rt, path);
+    let rows: [(&[&str], &[u8], &str); 3] = [
+        (FORMAT, b"", "status 0\n"),
+        (RUN, SCRIPT, REPORT),
+        (RUN, READ_AGAIN, READ_AGAIN_REPORT),
+    ];
+    for (words, script, text) in rows {
+        let mut bay = HostBay::new(rt.clone()?, rt.alloc());
+        let (got, sink) = command_at(&rt, rt.alloc(), words, HOST_STACK, script, &SOUND, &mut bay)?;
+        assert_eq!(rt; got, Status::Good, "at {text}");
+        assert_eq!(rt; sink.bytes(), text.as_bytes(), "at {text}");
+    }
+    let bytes = fs::read(&rt, path)?;
+    assert!(rt; bytes.len() == 256);
+    assert!(rt; bytes.starts_with(b"SPRG"));
+    assert!(rt; bytes[64..].starts_with(b"\x00\x00\x00\x02\x00\x00\x00\x00"));
+    assert!(rt; bytes[128..].starts_with(b"abcd\x00\x00"));
+    fs::remove_file(&rt, path)?;
+    Ok(())
+}
+
+/// A stack whose files lie on two disks.
+const MIRRORED: &[u8] = b"page 64\nfile f 2\ndisk d m\ndisk e m\nmirror x m d e\ncoherency c m x\n";
+
+/// The second of these disks alone.
+const ON_E: &[u8] = b"page 64\nfile f 2\ndisk e m\ncoherency c m e\n";
+
+/// Both stores hold a fresh image after a mirrored stack was formatted, and none where one store was not given.
+#[test]
+fn images_on_two_disks(rt: HostRuntime) -> Result<(), Fail> {
+    let alloc = rt.alloc();
+    let fresh = "page 0 zeros\npage 1 zeros\nstatus 0\n";
+    let rows: [(&[&str], &[u8], Status, &str); 8] = [
+        (FORMAT, MIRRORED, Status::BayFault, "bay e f\nstatus 5\n"),
+        (
+            DUMP,
+            STACK,
+            Status::BadImage,
+            "image d f 0 magic\nstatus 6\n",
+        ),
+        (
+            DUMP,
+            ON_E,
+            Status::BadImage,
+            "image e f 0 magic\nstatus 6\n",
+        ),
+        (FORMAT, MIRRORED, Status::Good, "status 0\n"),
+        (DUMP, STACK, Status::Good, fresh),
+        (DUMP, ON_E, Status::Good, fresh),
+        (DUMP, MIRRORED, Status::Refused, "stack 5 later\nstatus 3\n"),
+        (FORMAT, SPREAD, Status::Good, "status 0\n"),
+    ];
+    let mut bay = MemBay::new(alloc, &[2], &[])?;
+    for (words, stack, status, text) in rows {
+        let (got, sink) = command_at(&rt, alloc, words, stack, b"", &SOUND, &mut bay)?;
+        assert_eq!(rt; got, status, "at {text}");
+        assert_eq!(rt; sink.bytes(), text.as_bytes(), "at {text}");
+    }
+    Ok(())
+}
+
+/// After the first run the page lies on the store's third block, and the map's first entry names it.
+#[test]
+fn blocks_of_a_run(rt: HostRuntime) -> Result<(), Fail> {
+    let alloc = rt.alloc();
+    let mut bay = bay_of(alloc, &SOUND)?;
+    for words in [FORMAT, RUN] {
+        let (_got, _sink) = command_at(&rt, alloc, words, STACK, SCRIPT, &SOUND, &mut bay)?;
+    }
+    match bay.look("d", "f") {
+        Some(store) if store.has_shape(64, 4) => {
+            assert!(rt;
+                store
+                    .kept(1)
+                    .starts_with(b"\x00\x00\x00\x02\x00\x00\x00\x00")
+            );
+            assert!(rt; store.kept(2).starts_with(b"abcd\x00\x00"));
+        }
+        _ => panic!(rt; "the store is not there"),
     }
     Ok(())
 }

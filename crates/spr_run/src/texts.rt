@@ -121,7 +121,11 @@ pub(crate) fn read_accepted<H: Shelf>(
 }
 
 /// Reads the stack of a name, and gives its setting.
-fn read_stack<H: Shelf>(alloc: Global, shelf: &mut H, name: &Text) -> Result<Setting, Refusal>
+pub(crate) fn read_stack<H: Shelf>(
+    alloc: Global,
+    shelf: &mut H,
+    name: &Text,
+) -> Result<Setting, Refusal>
     ensures mounted { IfOk result (IsMounted (H.text shelf.old) name.now) }
     ensures built { IfOk result IsBuilt }
     ensures err { IfErr result (IsSettingCause (H.text shelf.old) (H.faults shelf.old) (H.faults shelf.new) name.now) }

@@ -7,11 +7,12 @@ ghost use Rattle.run_defs.specs.Setting.{IsBuilt};
 ghost use Rattle.spr_run.specs.Ways.{RunsScript, RunsNames, Ends};
 
 use crate::check::check_stack;
-use crate::finish::{MEMORY, finish, stopped};
+use crate::images::{dump_named, format_stack};
 use crate::refusal::refuse;
 use crate::store::{End, run_files};
 use crate::tables::put_tables;
 use crate::texts::read_texts;
+use file_stores::{MEMORY, finish, stopped};
 use hist_plain::Text;
 use run_defs::Setting;
 use script_text::Script;
@@ -87,6 +88,8 @@ pub fn spring<R: Threads + Wait + Sync, H: Shelf, B: Bay, K: Sink, G: Gate>(
         }
         Ok(Asked::Idl { idl }) => put_tables(alloc, shelf, &idl, sink),
         Ok(Asked::Check { stack }) => check_stack(alloc, shelf, &stack, sink),
+        Ok(Asked::Format { stack }) => format_stack(alloc, &stack, shelf, bay, sink),
+        Ok(Asked::Dump { stack, file }) => dump_named(alloc, &stack, &file, shelf, bay, sink),
         Err(WordsErr::Usage) => finish(sink, &[USAGE], Status::Usage),
         Err(WordsErr::Memory) => finish(sink, &[MEMORY], Status::Memory),
     }

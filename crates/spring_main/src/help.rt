@@ -6,20 +6,26 @@ use hist_plain::Text;
 pub const HELP: &str =
     "spring: a stack of coherent file system layers, as the file services of Spring had them.
 
-usage: spring run IDL STACK SCRIPT
+usage: spring format STACK
+       spring run IDL STACK SCRIPT
+       spring dump STACK FILE
        spring check STACK
        spring idl IDL
 
+  format STACK           writes a fresh image of each file on each disk: pages of zeros
   run IDL STACK SCRIPT   mounts the stack, runs the script over it, syncs each file, and writes each
                          client's answers and each file's one history
+  dump STACK FILE        writes the pages of a file of the stack, as its image has them
   check STACK            writes the tree of layers that the stack makes, or why it cannot be mounted
   idl IDL                writes the numbered operations of each interface
   --help, -h             writes this
   --version              writes the version
 
-IDL, STACK and SCRIPT are names of files. The store of disk D for file F is D.F.img in the current folder.
+IDL, STACK and SCRIPT are names of host files; FILE is a file of the stack. The store of disk D for
+file F is D.F.img in the current folder.
 
-example: spring run examples/first/first.idl examples/first/first.stack examples/first/first.script";
+example: spring format examples/first/first.stack
+         spring run examples/first/first.idl examples/first/first.stack examples/first/first.script";
 
 /// The program's name and version.
 pub const VERSION: &str = "spring 0.1.0";

@@ -1,6 +1,6 @@
 use Rattle.std.proofs.Common.{◌≡◌, ◌∙◌, Vec, Global}
 use Rattle.script_text.specs.declared.script.Said.{Said}
-use Rattle.spr_run.proofs.WriteLaws.{status-is}
+use Rattle.spr_run.proofs.EndedLaws.{status-is}
 use Rattle.spr_run.proofs.ended.status_of.Goals as goal
 
 pub returns : goal.returns

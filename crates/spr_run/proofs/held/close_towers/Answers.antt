@@ -4,7 +4,8 @@ use Rattle.std.proofs.lemmas.Iterator.Consumers.{YieldsList-turn}
 use Rattle.run_defs.specs.declared.log.History.{History}
 use Rattle.plain_tower.specs.Tower.{TowerSeen}
 use Rattle.plain_run.specs.Towers.{histories}
-use Rattle.spr_run.specs.Held.{StoreSeen, AreShut}
+use Rattle.file_stores.specs.Held.{StoreSeen}
+use Rattle.spr_run.specs.Held.{AreShut}
 use Rattle.spr_run.proofs.HeldLaws.{shut-more, shut-length, histories-more, length-histories}
 use Rattle.spr_run.proofs.held.close_towers.Goals as goal
 

@@ -4,9 +4,11 @@ use Rattle.std.proofs.lemmas.Iterator.Adapters.{YieldsList-from_vec}
 use Rattle.std.proofs.lemmas.Iterator.Consumers.{YieldsList-turn}
 use Rattle.std.proofs.lemmas.Option.{slice_get-get_or}
 use Rattle.plain_tower.specs.Tower.{TowerSeen}
-use Rattle.spr_run.specs.Held.{StoreSeen, IsFor, OpensFile, OpensSome, IsUnopened}
-use Rattle.spr_run.proofs.Lists.{is-none, is-some}
-use Rattle.spr_run.proofs.HeldLaws.{same-self, opens-count, opens-next, opens-less, unopened-more, unopened-here}
+use Rattle.file_stores.specs.Held.{StoreSeen, IsFor}
+use Rattle.spr_run.specs.Held.{OpensFile, OpensSome, IsUnopened}
+use Rattle.file_stores.proofs.Lists.{is-none, is-some}
+use Rattle.file_stores.proofs.HeldLaws.{same-self}
+use Rattle.spr_run.proofs.HeldLaws.{opens-count, opens-next, opens-less, unopened-more, unopened-here}
 use Rattle.spr_run.proofs.held.open_files.Goals as goal
 
 pub push_reserved-requires : goal.push_reserved-requires
@@ -30,7 +32,7 @@ loop-store-preserved-then-is_some g c =
       opened = subst (λ (rs : List StoreSeen). OpensSome setting c.args.callers (stores ++ s ∷ []) c.loop-store.towers.items rs) (sym c.push_reserved.ensures.items)
           (opens-less setting c.args.callers stores c.loop-store.towers.items c.loop-store.rest.items s s inv.opened (same-self (s ∷ [])).0);
       all = λ none. absurd (is-some c.loop-store.stopped c.is_some.result c.is_some.ensures c.if-is_some.true none);
-      cause = unopened-more stores s c.loop-store.stopped inv.cause;
+      cause = unopened-more setting stores s c.loop-store.stopped inv.cause;
       towers_room = inv.towers_room;
       rest_room = let r = inv.rest_room in let k = c.push_reserved.ensures.capacity in omega (arith, r, k);
     }
@@ -84,7 +86,7 @@ loop-store-preserved-in-Ok g c =
       opened = subst (λ (ts : List TowerSeen). OpensSome setting c.args.callers (stores ++ s ∷ []) ts c.loop-store.rest.items) (sym c.push_reserved-in-Ok.ensures.items)
           (opens-next setting c.args.callers stores c.loop-store.towers.items c.loop-store.rest.items s t none inv.opened opens);
       all = inv.all;
-      cause = unopened-more stores s c.loop-store.stopped inv.cause;
+      cause = unopened-more setting stores s c.loop-store.stopped inv.cause;
       towers_room = let r = inv.towers_room in let k = c.push_reserved-in-Ok.ensures.capacity in omega (arith, r, k);
       rest_room = inv.rest_room;
     }
@@ -102,7 +104,7 @@ loop-store-preserved g c =
       opened = subst (λ (rs : List StoreSeen). OpensSome setting c.args.callers (stores ++ s ∷ []) c.loop-store.towers.items rs) (sym c.push_reserved-in-Err.ensures.items)
           (opens-less setting c.args.callers stores c.loop-store.towers.items c.loop-store.rest.items s c.in-Err.store inv.opened c.in-Err.ensures.same);
       all = λ e. absurd cc;
-      cause = unopened-here stores s c.len.result c.in-Err.stop file c.in-Err.ensures.cause;
+      cause = unopened-here setting stores s c.len.result c.in-Err.stop file c.in-Err.ensures.cause;
       towers_room = inv.towers_room;
       rest_room = let r = inv.rest_room in let k = c.push_reserved-in-Err.ensures.capacity in omega (arith, r, k);
     }

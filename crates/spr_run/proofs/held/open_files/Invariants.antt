@@ -7,7 +7,7 @@ abbrev pub invariant-loop-store : goal.invariant-loop-store
 invariant-loop-store g l = record {
   opened : OpensSome l.setting l.callers l.yielded l.towers.items l.rest.items;
   all : l.stopped ≡ None → l.rest.items ≡ [];
-  cause : IfSome l.stopped (IsUnopened l.yielded);
+  cause : IfSome l.stopped (IsUnopened l.setting l.yielded);
   towers_room : length l.setting.files ≤ vec_capacity l.towers;
   rest_room : length l.setting.files ≤ vec_capacity l.rest;
 }

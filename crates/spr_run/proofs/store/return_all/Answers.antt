@@ -1,8 +1,9 @@
 use Rattle.std.proofs.Common.{◌≡◌, List, length, ap, sym, subst, ◌∙◌, arith, length-append}
-use Rattle.spr_run.specs.Store.{AtBay}
-use Rattle.spr_run.specs.Held.{StoreSeen, AreGiven}
+use Rattle.file_stores.specs.Store.{AtBay}
+use Rattle.file_stores.specs.Held.{StoreSeen, AreGiven}
 use Rattle.spr_run.proofs.HeldLaws.{shut-length}
 use Rattle.spr_run.proofs.RunLaws.{come-back}
+use Rattle.file_stores.proofs.StockLaws.{built_stocked}
 use Rattle.spr_run.proofs.store.return_all.Goals as goal
 
 pub put_behind-requires-after_bounds : goal.put_behind-requires-after_bounds
@@ -34,3 +35,6 @@ returns g c =
     λ callers stores some.
     come-back c.args.setting.now bay callers stores c.args.towers.items c.args.rest.items c.close_towers.new.stores.items c.give_back.result.items some c.close_towers.ensures.shut
     (subst (λ (ss : List StoreSeen). AreGiven c.args.setting.now bay ss c.give_back.result.items) c.put_behind.ensures c.give_back.ensures)
+
+pub give_back-requires-clause-stocked : goal.give_back-requires-clause-stocked
+give_back-requires-clause-stocked g c κs within = built_stocked c.args.setting.now c.requires.built

@@ -9,10 +9,12 @@ use Rattle.run_defs.specs.Log.{AreHistories}
 use Rattle.plain_tower.specs.Tower.{TowerSeen}
 use Rattle.plain_run.specs.Towers.{frames, histories, AreTowers}
 use Rattle.spr_run.specs.Play.{IsUnwritten, ArePlayed}
-use Rattle.spr_run.specs.Store.{AtBay}
-use Rattle.spr_run.specs.Held.{StoreSeen, AreShut, Tells}
-use Rattle.spr_run.proofs.BerthLaws.{rose-from}
+use Rattle.file_stores.specs.Store.{AtBay}
+use Rattle.file_stores.specs.Held.{StoreSeen}
+use Rattle.spr_run.specs.Held.{AreShut, Tells}
+use Rattle.file_stores.proofs.BerthLaws.{rose-from}
 use Rattle.spr_run.proofs.RunLaws.{towers-opened, unwritten-opened, number-over, histories-over, ran-out, ends-of}
+use Rattle.file_stores.proofs.StockLaws.{built_stocked}
 use Rattle.spr_run.proofs.store.run_open.Goals as goal
 
 pub play-played-requires-clause-towers : goal.play-played-requires-clause-towers
@@ -139,3 +141,9 @@ returns g c =
             given = c.give_back-gone.ensures;
           });
     }
+
+pub give_back-gone-requires-clause-stocked : goal.give_back-gone-requires-clause-stocked
+give_back-gone-requires-clause-stocked g c κs within = built_stocked c.args.setting.now c.requires.built
+
+pub tell-requires-clause-disks : goal.tell-requires-clause-disks
+tell-requires-clause-disks g c = let disk = c.requires.built.disk in omega (arith, disk)

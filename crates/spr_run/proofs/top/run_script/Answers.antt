@@ -1,7 +1,8 @@
 use Rattle.std.proofs.Common.{List, Bool, subst}
-use Rattle.spr_run.specs.Store.{stop_text, stop_status}
-use Rattle.spr_run.specs.Ways.{Finishes, reported, stopped}
-use Rattle.spr_run.proofs.WriteLaws.{finishes-one}
+use Rattle.file_stores.specs.Stop.{stop_text, stop_status}
+use Rattle.file_stores.specs.Writing.{Finishes}
+use Rattle.spr_run.specs.Ways.{reported, stopped}
+use Rattle.file_stores.proofs.WriteLaws.{finishes-one}
 use Rattle.spr_run.proofs.top.run_script.Goals as goal
 
 pub returns-in-Report : goal.returns-in-Report

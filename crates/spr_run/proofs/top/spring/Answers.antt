@@ -1,5 +1,5 @@
 use Rattle.std.proofs.Common.{◌≡◌, ◌∙◌, ap, refl, Some}
-use Rattle.spr_run.proofs.TopLaws.{ends-check, ends-names, ends-tables}
+use Rattle.spr_run.proofs.TopLaws.{ends-check, ends-dump, ends-format, ends-names, ends-tables}
 use Rattle.spr_run.proofs.top.spring.Goals as goal
 
 pub returns-in-Ok-Run : goal.returns-in-Ok-Run
@@ -16,3 +16,13 @@ pub returns-in-Ok-Idl : goal.returns-in-Ok-Idl
 returns-in-Ok-Idl g c =
     let asks = c.in-Ok-Idl.ensures.ok ∙ ap Some c.in-Ok-Idl.field-0-is in
     record { ends = ends-tables c.args.words.now c.in-Ok-Idl.idl _ c.put_tables.result asks (λ disk file. refl) c.put_tables.ensures }
+
+pub returns-in-Ok-Format : goal.returns-in-Ok-Format
+returns-in-Ok-Format g c =
+    let asks = c.in-Ok-Format.ensures.ok ∙ ap Some c.in-Ok-Format.field-0-is in
+    record { ends = ends-format c.args.words.now c.in-Ok-Format.stack _ c.format_stack.result asks c.format_stack.ensures.ends }
+
+pub returns-in-Ok-Dump : goal.returns-in-Ok-Dump
+returns-in-Ok-Dump g c =
+    let asks = c.in-Ok-Dump.ensures.ok ∙ ap Some c.in-Ok-Dump.field-0-is in
+    record { ends = ends-dump c.args.words.now c.in-Ok-Dump.stack c.in-Ok-Dump.file _ c.dump_named.result asks c.dump_named.ensures.ends }
