@@ -6,13 +6,14 @@ use Rattle.hist_plain.specs.declared.event.Event.{Event}
 use Rattle.hist_plain.specs.declared.event.Event.TheVariants.{Access, DestroyCache, DonePager, Synced}
 use Rattle.hist_plain.specs.declared.event.Answer.{Answer}
 use Rattle.hist_plain.specs.declared.event.Answer.TheVariants as answers
+use Rattle.hist_plain.specs.declared.TheConstants.{MAX_NODES, MAX_PAGES}
 use Rattle.hist_plain.specs.File.{Shape, File}
 use Rattle.hist_plain.specs.Event.{node_of, Fits}
 
 -- node 0 is its own parent, and every other parent is below its node
 pub record IsTree (parents : List ℕ) : Type 0 where
   pub some : 1 ≤ length parents
-  pub few : length parents ≤ 32
+  pub few : length parents ≤ MAX_NODES
   pub ground : slice_index parents 0 ≡ 0
   pub below : (node : ℕ) → 0 < node → node < length parents → slice_index parents node < node
 
@@ -22,7 +23,7 @@ IsPageSize size = (k : ℕ) × (6 ≤ k) × (k ≤ 12) × (size ≡ 2 ^ k)
 
 -- so many whole pages, from 1 to 1,024
 abbrev pub HasPages : ℕ → List ℕ → Type 0
-HasPages page_size bytes = (pages : ℕ) × (1 ≤ pages) × (pages ≤ 1024) × (length bytes ≡ pages * page_size)
+HasPages page_size bytes = (pages : ℕ) × (1 ≤ pages) × (pages ≤ MAX_PAGES) × (length bytes ≡ pages * page_size)
 
 -- going from a node towards the ground, in so many steps, meets the top
 abbrev pub reaches : ℕ → List ℕ → ℕ → ℕ → Bool

@@ -1,6 +1,7 @@
 -- What the fields of the plain file stand for.
 use Rattle.std.specs.Prelude.{◌≡◌, ◌≤◌, length, All}
 use Rattle.hist_plain.specs.declared.plain.Plain.TheInside.{Inside}
+use Rattle.hist_plain.specs.declared.TheConstants.{MAX_EVENTS}
 use Rattle.hist_plain.specs.File.{Counted}
 use Rattle.hist_plain.specs.Plain.{IsTree, IsPageSize, HasPages}
 
@@ -18,4 +19,4 @@ pub record IsWithinLimits (p : Inside) : Type 0 where
   pub pages : HasPages p.page_size p.bytes.items
   pub nodes : length p.lives.items ≡ length p.parents.items
   pub lives : All (λ life. life ≤ p.len) p.lives.items
-  pub events : p.len ≤ 4194304
+  pub events : p.len ≤ MAX_EVENTS

@@ -1,5 +1,6 @@
 //! The plain file, which keeps all its bytes in one list.
 
+ghost use Rattle.hist_plain.specs.declared.TheConstants.{MAX_EVENTS};
 ghost use Rattle.std.specs.Prelude.{◌≡◌, ◌+◌, ◌<◌, ◌≤◌, ◌^◌, IfOk, Option, Some, None, All, length, replicate, slice_index, []};
 ghost use Rattle.std.specs.Option.{option_map};
 ghost use Rattle.hist_plain.specs.Plain.{IsTree, IsPageSize, HasPages, is_within, lives_from, bytes_at, overwritten, place_of, bytes_after, applied, answered, counts, changed, told, reply, IsInFile, Suits, asked_by, asked_len, fresh};
@@ -80,7 +81,7 @@ impl Plain {
     /// which has room for just these.
     pub fn apply(&mut self, event: &Event, out: &mut [u8]) -> Option<Answer>
         requires suits { Suits self.old.shape self.old.file event.now }
-        requires room { self.old.len < 4194304 }
+        requires room { self.old.len < MAX_EVENTS }
         requires out { length out.old ≡ asked_len event.now }
         ensures answer { result ≡ option_map (λ told. told.answer) (reply self.old.shape self.old.file event.now) }
         ensures bytes { result ≡ Some Answer.Bytes → option_map (λ told. told.bytes) (reply self.old.shape self.old.file event.now) ≡ Some out.new }

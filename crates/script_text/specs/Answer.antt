@@ -5,7 +5,7 @@ use Rattle.hex.specs.Hex.{encode_lower}
 use Rattle.script_text.specs.declared.script.Reply.{Reply}
 use Rattle.script_text.specs.declared.script.Reply.TheVariants as replies
 
--- the words of an answer, where the disks have these names
+-- the words of an answer; the disks have these names, by their numbers
 abbrev pub answer_words : List (List ℕ) → Reply → List (List ℕ)
 answer_words disks replies.Done = codes "done" ∷ []
 answer_words disks (replies.Names names) = codes "names" ∷ names

@@ -6,6 +6,7 @@ use Rattle.std.specs.Str.{bytes_eq}
 use Rattle.hex.specs.Hex.{encode_lower}
 use Rattle.text_words.specs.Words.{is_name, IsName, IsPath, IsHexBytes, path_word}
 use Rattle.text_words.specs.Lines.{text_of}
+use Rattle.script_text.specs.declared.TheConstants.{MAX_CLIENTS, MAX_LINES}
 use Rattle.script_text.specs.declared.script.Call.{Call}
 use Rattle.script_text.specs.declared.script.Call.TheVariants as calls
 use Rattle.script_text.specs.declared.script.Sub.{Sub}
@@ -106,7 +107,7 @@ IsCall (calls.Store address bytes) = IsAddress address × IsHexBytes bytes
 IsCall (calls.Revoke layer file) = IsName layer × IsName file
 IsCall (calls.Release layer file) = IsName layer × IsName file
 
--- a name that a client can have: the words that begin other lines, and the caller `mount`, are none
+-- a name that a client can have: none of the words that begin other lines, nor the caller `mount`
 abbrev pub is_client_name : List ℕ → Bool
 is_client_name word = is_name word && not (bytes_eq word (codes "client") || bytes_eq word (codes "phase") || bytes_eq word (codes "mount"))
 
@@ -123,7 +124,7 @@ abbrev pub AreDistinct : List ClientLine → Type 0
 AreDistinct [] = Unit {0}
 AreDistinct (client ∷ clients) = (has_client client.name clients ≡ false) × AreDistinct clients
 
--- the call lines of a phase, numbered from this line on, of so many clients
+-- the call lines of a phase, numbered from this line on; `count` is the number of clients
 abbrev pub AreCalls : ℕ → ℕ → List CallLine → Type 0
 AreCalls count number [] = Unit {0}
 AreCalls count number (line ∷ lines) = (line.line ≡ number) × (line.client < count) × IsCall line.call × AreCalls count (suc number) lines
@@ -160,6 +161,6 @@ spelling script = text_of (script_lines script)
 pub record IsScript (script : Script) : Type 0 where
   pub clients : AllByRecursion IsClient script.clients
   pub distinct : AreDistinct script.clients
-  pub few : length script.clients ≤ 16
+  pub few : length script.clients ≤ MAX_CLIENTS
   pub phases : ArePhases (length script.clients) (suc (length script.clients)) script.phases
-  pub lines : length (script_lines script) ≤ 2097152
+  pub lines : length (script_lines script) ≤ MAX_LINES

@@ -5,6 +5,7 @@ use Rattle.text_words.specs.declared.lines.LineWhy.{LineWhy}
 use Rattle.text_words.specs.Words.{is_name, hex_of, path_of}
 use Rattle.text_words.specs.Numbers.{number_of, address_of}
 use Rattle.text_words.specs.Lines.{Row, rows_of, words_at}
+use Rattle.script_text.specs.declared.TheConstants.{MAX_CLIENTS, MAX_LINES, MAX_LINE_BYTES}
 use Rattle.script_text.specs.declared.why.ScriptWhy.{ScriptWhy}
 use Rattle.script_text.specs.declared.why.ScriptWhy.TheVariants as why
 use Rattle.script_text.specs.declared.why.Refused.{Refused}
@@ -20,7 +21,7 @@ use Rattle.script_text.specs.declared.verb.Verb.TheVariants as verbs
 use Rattle.script_text.specs.Why.{from_line}
 use Rattle.script_text.specs.Grammar.{verb_word, is_client_name, has_client}
 
--- the next step, where there was no reason to refuse
+-- the next step, if there was no reason to refuse
 infixl 10 ◌>>=◌
 abbrev pub ◌>>=◌ : {A B : Type 0} → Result A ScriptWhy → (A → Result B ScriptWhy) → Result B ScriptWhy
 (Ok x) >>= f = f x
@@ -129,7 +130,7 @@ call_at (word ∷ args) = verb_at word >>= λ verb. args_at verb args
 -- a client line, after its first word
 unfoldable pub new_client_at : Script → List ℕ → List ℕ → Result Script ScriptWhy
 new_client_at script name machine =
-    if nat_lt 0 (length script.phases) || nat_le 16 (length script.clients) || has_client name script.clients then Err why.Client
+    if nat_lt 0 (length script.phases) || nat_le MAX_CLIENTS (length script.clients) || has_client name script.clients then Err why.Client
     else if is_client_name name && is_name machine then Ok (record { clients = script.clients ++ record { name = name; machine = machine } ∷ []; phases = script.phases })
     else Err why.Name
 
@@ -175,7 +176,7 @@ of_words (Err w) = Err (from_line w)
 -- a line by its number: the script so far, with the line
 unfoldable pub line_at : Script → ℕ → Row → Result Script ScriptWhy
 line_at script number row = of_words (words_at row) >>= λ words.
-    if nat_lt 2097152 number || nat_lt 8400 (length row.body) then Err why.Long else words_line_at script number words
+    if nat_lt MAX_LINES number || nat_lt MAX_LINE_BYTES (length row.body) then Err why.Long else words_line_at script number words
 
 -- the lines from this number on
 abbrev pub go_on : ℕ → Result Script ScriptWhy → (Script → Result Script Refused) → Result Script Refused
@@ -210,7 +211,7 @@ abbrev pub Gives : {X : Type 0} → Result X ScriptWhy → Result X ScriptWhy �
 Gives (Ok x) read = read ≡ Ok x
 Gives (Err w) read = Fails w read
 
--- a refusal for want of memory
+-- the refusal of a text when memory ran out
 abbrev pub no_memory : Refused
 no_memory = record { line = 0; why = why.Memory }
 

@@ -7,10 +7,11 @@ ghost use Rattle.text_words.specs.Lines.{spaced};
 ghost use Rattle.script_text.specs.Answer.{answer_words};
 
 use crate::script::Reply;
-use hist_plain::Text;
+use seen_values::Text;
 use std::alloc::{AllocError, Global};
-use text_words::{put_hex, put_number, put_spaced, put_word};
+use text_words::{put_hex, put_spaced, put_spaced_number, put_word};
 
+/// Appends the answer to a `list`: each word with a space before it.
 fn put_names(out: &mut Vec<u8>, names: &[Text]) -> Result<(), AllocError>
     ensures { OnOk result (out.new.items ≡ out.old.items ++ spaced (codes "names" ∷ names.now)) }
 {
@@ -21,13 +22,15 @@ fn put_names(out: &mut Vec<u8>, names: &[Text]) -> Result<(), AllocError>
     Ok(())
 }
 
+/// Appends a word and a number, each with a space before it.
 fn put_numbered(out: &mut Vec<u8>, word: &[u8], number: u64) -> Result<(), AllocError>
     ensures { OnOk result (out.new.items ≡ out.old.items ++ spaced (word.now ∷ decimal number ∷ [])) }
 {
     put_word(out, word)?;
-    put_number(out, number)
+    put_spaced_number(out, number)
 }
 
+/// The name of the disk of the number.
 fn disk_name(disks: &[Text], disk: u32) -> &[u8]
     ensures { result.now ≡ slice_index_or disks.now disk [] }
 {
@@ -37,8 +40,9 @@ fn disk_name(disks: &[Text], disk: u32) -> &[u8]
     }
 }
 
-/// Appends the words of an answer, each with a space before it. The disks' names are in the order
-/// of their numbers; a disk that they do not have is written as no bytes.
+/// Appends the words of an answer, each with a space before it; no other call writes answers. The
+/// disks' names are in the order of their numbers; a disk that they do not have is written as no
+/// bytes.
 pub fn put_reply(
     alloc: Global,
     out: &mut Vec<u8>,

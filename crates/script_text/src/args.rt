@@ -5,9 +5,10 @@ ghost use Rattle.script_text.specs.Reading.{Gives, name_at, path_at, root_or_pat
 
 use crate::script::Sub;
 use crate::why::ScriptWhy;
-use hist_plain::{Bytes, Path, Text};
+use seen_values::{Bytes, Path, Text};
 use std::alloc::Global;
 
+/// The name that a word is.
 #[tactic(auto, unfolding(crate::specs::Reading::name_at))]
 pub(crate) fn name_of(alloc: Global, word: &[u8]) -> Result<Text, ScriptWhy>
     ensures { Gives result (name_at word.now) }
@@ -18,6 +19,7 @@ pub(crate) fn name_of(alloc: Global, word: &[u8]) -> Result<Text, ScriptWhy>
     Ok(text_words::text_of_name(alloc, word)?)
 }
 
+/// The path that a word is.
 #[tactic(auto, unfolding(crate::specs::Reading::path_at))]
 pub(crate) fn path_of(alloc: Global, word: &[u8]) -> Result<Path, ScriptWhy>
     ensures { Gives result (path_at word.now) }
@@ -28,6 +30,7 @@ pub(crate) fn path_of(alloc: Global, word: &[u8]) -> Result<Path, ScriptWhy>
     }
 }
 
+/// The context that a word names: none for the root.
 #[tactic(auto, unfolding(crate::specs::Reading::root_or_path_at))]
 pub(crate) fn root_or_path_of(alloc: Global, word: &[u8]) -> Result<Option<Path>, ScriptWhy>
     ensures { Gives result (root_or_path_at word.now) }
@@ -39,6 +42,7 @@ pub(crate) fn root_or_path_of(alloc: Global, word: &[u8]) -> Result<Option<Path>
     Ok(Some(path))
 }
 
+/// The subcontract that a word is.
 #[tactic(auto, unfolding(crate::specs::Reading::sub_at))]
 pub(crate) fn sub_of(word: &[u8]) -> Result<Sub, ScriptWhy>
     ensures { Gives result (sub_at word.now) }
@@ -56,6 +60,7 @@ pub(crate) fn sub_of(word: &[u8]) -> Result<Sub, ScriptWhy>
     }
 }
 
+/// Whether a mode lets the region be written.
 #[tactic(auto, unfolding(crate::specs::Reading::mode_at))]
 pub(crate) fn mode_of(word: &[u8]) -> Result<bool, ScriptWhy>
     ensures { Gives result (mode_at word.now) }
@@ -69,6 +74,7 @@ pub(crate) fn mode_of(word: &[u8]) -> Result<bool, ScriptWhy>
     }
 }
 
+/// The number that a word is.
 #[tactic(auto, unfolding(crate::specs::Reading::number_at))]
 pub(crate) fn number_of(word: &[u8]) -> Result<u32, ScriptWhy>
     ensures { Gives result (number_at word.now) }
@@ -79,6 +85,7 @@ pub(crate) fn number_of(word: &[u8]) -> Result<u32, ScriptWhy>
     }
 }
 
+/// The address that a word is.
 #[tactic(auto, unfolding(crate::specs::Reading::address_at))]
 pub(crate) fn address_of(word: &[u8]) -> Result<u64, ScriptWhy>
     ensures { Gives result (address_at word.now) }
@@ -89,6 +96,7 @@ pub(crate) fn address_of(word: &[u8]) -> Result<u64, ScriptWhy>
     }
 }
 
+/// The bytes of a hex word.
 #[tactic(auto, unfolding(crate::specs::Reading::hex_at))]
 pub(crate) fn hex_of(alloc: Global, word: &[u8]) -> Result<Bytes, ScriptWhy>
     ensures { Gives result (hex_at word.now) }

@@ -11,6 +11,7 @@ use crate::verb::{Verb, verb_of};
 use crate::why::ScriptWhy;
 use std::alloc::Global;
 
+/// A call of one argument.
 #[tactic(auto, unfolding(crate::specs::Reading::one_at))]
 fn one(alloc: Global, verb: Verb, word: &[u8]) -> Result<Call, ScriptWhy>
     ensures { Gives result (one_at verb word.now) }
@@ -48,6 +49,7 @@ fn one(alloc: Global, verb: Verb, word: &[u8]) -> Result<Call, ScriptWhy>
     }
 }
 
+/// A call of two arguments.
 #[tactic(auto, unfolding(crate::specs::Reading::two_at))]
 fn two(alloc: Global, verb: Verb, first: &[u8], second: &[u8]) -> Result<Call, ScriptWhy>
     ensures { Gives result (two_at verb first.now second.now) }
@@ -92,6 +94,7 @@ fn two(alloc: Global, verb: Verb, first: &[u8], second: &[u8]) -> Result<Call, S
     }
 }
 
+/// A `bind`.
 #[tactic(auto, unfolding(crate::specs::Reading::bind_at))]
 fn bind(alloc: Global, path: &[u8], sub: &[u8], view: &[u8], file: &[u8]) -> Result<Call, ScriptWhy>
     ensures { Gives result (bind_at path.now sub.now view.now file.now) }
@@ -108,6 +111,7 @@ fn bind(alloc: Global, path: &[u8], sub: &[u8], view: &[u8], file: &[u8]) -> Res
     })
 }
 
+/// A `read`.
 #[tactic(auto, unfolding(crate::specs::Reading::read_at))]
 fn read(
     alloc: Global,
@@ -130,6 +134,7 @@ fn read(
     })
 }
 
+/// A `write`.
 #[tactic(auto, unfolding(crate::specs::Reading::write_at))]
 fn write(
     alloc: Global,
@@ -152,7 +157,7 @@ fn write(
     })
 }
 
-/// The names come before the numbers: the mode stands last, and is read third.
+/// A `map`. Names and modes are tested before numbers: the mode stands last, and is read third.
 #[tactic(auto, unfolding(crate::specs::Reading::map_at))]
 fn map(
     alloc: Global,
@@ -178,6 +183,7 @@ fn map(
     })
 }
 
+/// A call of this verb, by the number of its arguments.
 fn args(alloc: Global, verb: Verb, words: &[&[u8]]) -> Result<Call, ScriptWhy>
     ensures { Gives result (args_at verb (map (λ word. word.now) words.now)) }
 {

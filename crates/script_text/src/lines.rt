@@ -9,27 +9,21 @@ ghost use Rattle.script_text.specs.Reading.{Gives, new_client_at, client_at, pha
 use crate::calls::call_of;
 use crate::script::{CallLine, ClientLine, Script};
 use crate::why::ScriptWhy;
-use hist_plain::Items;
+use crate::{MAX_CLIENTS, MAX_LINE_BYTES, MAX_LINES};
+use seen_values::Items;
 use std::alloc::{AllocError, Global};
 use text_words::{Line, is_name, text_of_name};
 
-const CLIENTS: usize = 16;
-
-const LINES: u32 = 2_097_152;
-
-const LINE_BYTES: usize = 8400;
-
+/// Whether a client has the name.
 fn has_client(clients: &[ClientLine], name: &[u8]) -> bool
     ensures { result ≡ has_client name.now clients.now }
 {
-    for client in clients {
-        if client.name.as_str().as_bytes() == name {
-            return true;
-        }
-    }
-    false
+    clients
+        .iter()
+        .any(|client| client.name.as_str().as_bytes() == name)
 }
 
+/// Whether a word is a name that a client can have.
 fn is_client_name(word: &[u8]) -> bool
     ensures { result ≡ is_client_name word.now }
 {
@@ -39,6 +33,7 @@ fn is_client_name(word: &[u8]) -> bool
             || word == b"mount".as_slice())
 }
 
+/// The script with one more client.
 #[tactic(auto, unfolding(crate::specs::Reading::new_client_at))]
 fn new_client(
     alloc: Global,
@@ -47,11 +42,11 @@ fn new_client(
     machine: &[u8],
 ) -> Result<Script, ScriptWhy>
     ensures value { Gives result (new_client_at script name.now machine.now) }
-    ensures clients { IfOk result (λ longer. length longer.clients ≤ 16) }
+    ensures clients { IfOk result (λ longer. length longer.clients ≤ MAX_CLIENTS) }
 {
     let clients = script.clients.as_slice();
     if !script.phases.as_slice().is_empty()
-        || clients.len() >= CLIENTS
+        || clients.len() >= MAX_CLIENTS
         || has_client(clients, name)
     {
         return Err(ScriptWhy::Client);
@@ -65,9 +60,10 @@ fn new_client(
     Ok(script)
 }
 
+/// A client line, after its first word.
 fn client_line(alloc: Global, script: Script, words: &[&[u8]]) -> Result<Script, ScriptWhy>
     ensures value { Gives result (client_at script (map (λ word. word.now) words.now)) }
-    ensures clients { IfOk result (λ longer. length longer.clients ≤ 16) }
+    ensures clients { IfOk result (λ longer. length longer.clients ≤ MAX_CLIENTS) }
 {
     match words {
         [] => Err(ScriptWhy::Words),
@@ -77,6 +73,7 @@ fn client_line(alloc: Global, script: Script, words: &[&[u8]]) -> Result<Script,
     }
 }
 
+/// A phase line, after its first word.
 fn phase_line(alloc: Global, mut script: Script, words: &[&[u8]]) -> Result<Script, ScriptWhy>
     ensures value { Gives result (phase_at script (map (λ word. word.now) words.now)) }
     ensures clients { IfOk result (λ longer. longer.clients ≡ script.clients) }
@@ -92,7 +89,7 @@ fn phase_line(alloc: Global, mut script: Script, words: &[&[u8]]) -> Result<Scri
 
 /// The number of the client that has the name.
 fn place_of(clients: &[ClientLine], name: &[u8]) -> Result<u32, ScriptWhy>
-    requires { length clients.now ≤ 16 }
+    requires { length clients.now ≤ MAX_CLIENTS }
     ensures { Gives result (or_why ScriptWhy.Who (place_from 0 name.now clients.now)) }
 {
     for (number, client) in clients.iter().enumerate() {
@@ -103,6 +100,7 @@ fn place_of(clients: &[ClientLine], name: &[u8]) -> Result<u32, ScriptWhy>
     Err(ScriptWhy::Who)
 }
 
+/// The phases with a line at the end of the last.
 fn onto_last(
     phases: Items<Items<CallLine>>,
     line: CallLine,
@@ -118,6 +116,7 @@ fn onto_last(
     Ok(Items::from_vec(phases))
 }
 
+/// A call line, after its first word, which names the client.
 #[tactic(auto, unfolding(crate::specs::Reading::call_line_at))]
 fn call_line(
     alloc: Global,
@@ -126,7 +125,7 @@ fn call_line(
     who: &[u8],
     words: &[&[u8]],
 ) -> Result<Script, ScriptWhy>
-    requires { length script.clients ≤ 16 }
+    requires { length script.clients ≤ MAX_CLIENTS }
     ensures value { Gives result (call_line_at script number who.now (map (λ word. word.now) words.now)) }
     ensures clients { IfOk result (λ longer. longer.clients ≡ script.clients) }
 {
@@ -145,15 +144,16 @@ fn call_line(
     Ok(Script { clients, phases })
 }
 
+/// A line of words: what it is goes by its first word.
 fn words_line(
     alloc: Global,
     script: Script,
     number: u32,
     words: &[&[u8]],
 ) -> Result<Script, ScriptWhy>
-    requires { length script.clients ≤ 16 }
+    requires { length script.clients ≤ MAX_CLIENTS }
     ensures value { Gives result (words_line_at script number (map (λ word. word.now) words.now)) }
-    ensures clients { IfOk result (λ longer. length longer.clients ≤ 16) }
+    ensures clients { IfOk result (λ longer. length longer.clients ≤ MAX_CLIENTS) }
 {
     match words {
         [] => Err(ScriptWhy::Space),
@@ -177,13 +177,13 @@ pub(crate) fn line_of(
     number: u32,
     line: Line<'_>,
 ) -> Result<Script, ScriptWhy>
-    requires { length script.clients ≤ 16 }
+    requires { length script.clients ≤ MAX_CLIENTS }
     ensures value { Gives result (line_at script number (row_of line.entry)) }
-    ensures clients { IfOk result (λ longer. length longer.clients ≤ 16) }
-    ensures number { OnOk result (number ≤ 2097152) }
+    ensures clients { IfOk result (λ longer. length longer.clients ≤ MAX_CLIENTS) }
+    ensures number { OnOk result (number ≤ MAX_LINES) }
 {
     let words = text_words::words_of(alloc, line)?;
-    if number > LINES || line.body.len() > LINE_BYTES {
+    if number > MAX_LINES || line.body.len() > MAX_LINE_BYTES {
         return Err(ScriptWhy::Long);
     }
     words_line(alloc, script, number, &words)

@@ -8,10 +8,11 @@ ghost use Rattle.script_text.specs.Reading.{Parses, script_at, no_memory, refuse
 use crate::lines::line_of;
 use crate::script::Script;
 use crate::why::{Refused, ScriptWhy};
-use hist_plain::Items;
+use seen_values::Items;
 use std::alloc::Global;
 use text_words::split_line;
 
+/// A refusal of a line; if memory ran out, it names no line.
 fn refused(line: u32, why: ScriptWhy) -> Refused
     ensures { result ≡ refused_at line why }
 {
@@ -21,6 +22,7 @@ fn refused(line: u32, why: ScriptWhy) -> Refused
     }
 }
 
+/// The script that a text is, or its first bad line.
 fn parse(alloc: Global, text: &[u8]) -> Result<Script, Refused>
     ensures { Parses result (script_at text.now) }
 {

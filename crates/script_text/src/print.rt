@@ -9,10 +9,11 @@ ghost use Rattle.script_text.specs.Grammar.{spelling, verb_word, call_words, cli
 
 use crate::script::{Call, CallLine, ClientLine, Script, Sub};
 use crate::verb::Verb;
-use hist_plain::{Bytes, Items, Path, Text};
+use seen_values::{Bytes, Items, Path, Text};
 use std::alloc::{AllocError, Global};
-use text_words::{put, put_hex, put_line, put_number, put_path, put_word};
+use text_words::{put, put_hex, put_line, put_path, put_spaced_number, put_word};
 
+/// The word of a subcontract.
 fn sub_word(sub: Sub) -> &'static [u8]
     ensures { result.now ≡ sub_word sub }
 {
@@ -24,6 +25,7 @@ fn sub_word(sub: Sub) -> &'static [u8]
     }
 }
 
+/// Appends a space, and the root's or a path's word.
 fn put_root_or_path(out: &mut Vec<u8>, path: &Option<Path>) -> Result<(), AllocError>
     ensures { OnOk result (out.new.items ≡ out.old.items ++ 32 ∷ root_or_path path.now) }
 {
@@ -33,6 +35,7 @@ fn put_root_or_path(out: &mut Vec<u8>, path: &Option<Path>) -> Result<(), AllocE
     }
 }
 
+/// Appends a space and the mode of a region.
 fn put_mode(out: &mut Vec<u8>, write: bool) -> Result<(), AllocError>
     ensures { OnOk result (out.new.items ≡ out.old.items ++ 32 ∷ mode_word write) }
 {
@@ -43,6 +46,7 @@ fn put_mode(out: &mut Vec<u8>, write: bool) -> Result<(), AllocError>
     }
 }
 
+/// Appends a verb and names, each with a space before it.
 fn put_names(out: &mut Vec<u8>, verb: Verb, names: &[&Text]) -> Result<(), AllocError>
     ensures { OnOk result (out.new.items ≡ out.old.items ++ spaced (verb_word verb ∷ map (λ name. name.now) names.now)) }
 {
@@ -53,15 +57,17 @@ fn put_names(out: &mut Vec<u8>, verb: Verb, names: &[&Text]) -> Result<(), Alloc
     Ok(())
 }
 
+/// Appends a space before each number.
 fn put_numbers(out: &mut Vec<u8>, numbers: &[u32]) -> Result<(), AllocError>
     ensures { OnOk result (out.new.items ≡ out.old.items ++ spaced (map decimal numbers.now)) }
 {
     for number in numbers {
-        put_number(out, u64::from(*number))?;
+        put_spaced_number(out, u64::from(*number))?;
     }
     Ok(())
 }
 
+/// Appends the words of a `bind`.
 fn put_bind(
     out: &mut Vec<u8>,
     path: &Path,
@@ -78,6 +84,7 @@ fn put_bind(
     put_word(out, file.as_str().as_bytes())
 }
 
+/// Appends the words of a `map`.
 fn put_map(
     out: &mut Vec<u8>,
     region: &Text,
@@ -89,11 +96,12 @@ fn put_map(
     ensures { OnOk result (out.new.items ≡ out.old.items ++ spaced (verb_word Verb.Map ∷ region.now ∷ object.now ∷ decimal address ∷ decimal pages ∷ mode_word write ∷ [])) }
 {
     put_names(out, Verb::Map, &[region, object])?;
-    put_number(out, address)?;
-    put_number(out, u64::from(pages))?;
+    put_spaced_number(out, address)?;
+    put_spaced_number(out, u64::from(pages))?;
     put_mode(out, write)
 }
 
+/// Appends a verb and a path.
 fn put_with_path(out: &mut Vec<u8>, verb: Verb, path: &Path) -> Result<(), AllocError>
     ensures { OnOk result (out.new.items ≡ out.old.items ++ spaced (verb_word verb ∷ path_word path.now ∷ [])) }
 {
@@ -101,11 +109,12 @@ fn put_with_path(out: &mut Vec<u8>, verb: Verb, path: &Path) -> Result<(), Alloc
     put_path(out, path)
 }
 
+/// Appends a verb and an address.
 fn put_with_address(out: &mut Vec<u8>, verb: Verb, address: u64) -> Result<(), AllocError>
     ensures { OnOk result (out.new.items ≡ out.old.items ++ spaced (verb_word verb ∷ decimal address ∷ [])) }
 {
     put_word(out, verb.word())?;
-    put_number(out, address)
+    put_spaced_number(out, address)
 }
 
 /// Appends the words of a call, each with a space before it.
@@ -177,6 +186,7 @@ fn put_call(alloc: Global, out: &mut Vec<u8>, call: &Call) -> Result<(), AllocEr
     }
 }
 
+/// The name of the client of the number.
 fn name_of(clients: &[ClientLine], number: u32) -> &[u8]
     ensures { result.now ≡ client_name clients.now number }
 {
@@ -186,6 +196,7 @@ fn name_of(clients: &[ClientLine], number: u32) -> &[u8]
     }
 }
 
+/// Appends a call line.
 fn put_call_line(
     alloc: Global,
     out: &mut Vec<u8>,
@@ -199,6 +210,7 @@ fn put_call_line(
     put(out, b"\n")
 }
 
+/// Appends the call lines of a phase.
 fn put_calls(
     alloc: Global,
     out: &mut Vec<u8>,
@@ -213,6 +225,7 @@ fn put_calls(
     Ok(())
 }
 
+/// Appends each phase: its own line and its call lines.
 fn put_phases(
     alloc: Global,
     out: &mut Vec<u8>,
@@ -228,6 +241,7 @@ fn put_phases(
     Ok(())
 }
 
+/// Appends the client lines.
 fn put_clients(out: &mut Vec<u8>, clients: &[ClientLine]) -> Result<(), AllocError>
     ensures { OnOk result (out.new.items ≡ out.old.items ++ text_of (map client_words clients.now)) }
 {

@@ -1,6 +1,6 @@
 //! A script as values, and the answers to its lines.
 
-use hist_plain::{Bytes, Items, Path, Text};
+use seen_values::{Bytes, Items, Path, Text};
 
 /// A script: who takes part, and what each does in each phase.
 #[derive(Debug, Drop)]
@@ -218,7 +218,7 @@ pub enum Reply {
         /// The part.
         part: Text,
     },
-    /// A part that has to be a context is none.
+    /// A part of the path that has to be a context is no context.
     NotContext {
         /// The part.
         part: Text,

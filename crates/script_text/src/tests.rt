@@ -1,7 +1,7 @@
 //! Scripts of worked cases, each reason on its line, and each answer.
 
 use super::*;
-use hist_plain::{Bytes, Items, Text};
+use seen_values::{Bytes, Items, Text};
 use std::alloc::{AllocError, Global};
 use std::test::Fail;
 
@@ -100,7 +100,7 @@ const REFUSED: [(&[u8], u32, &str); 60] = [
     ),
 ];
 
-/// The line and the word of a refusal; line 0 where the text is a script.
+/// The line and the word of a refusal; line 0 if the text is a script.
 fn refusal(alloc: Global, text: &[u8]) -> (u32, &'static str) {
     match parse_script(alloc, text) {
         Ok(_) => (0, "script"),

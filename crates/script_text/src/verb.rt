@@ -29,6 +29,7 @@ pub(crate) enum Verb {
     Release,
 }
 
+/// All verbs.
 const VERBS: [Verb; 18] = [
     Verb::Context,
     Verb::Bind,
@@ -78,6 +79,7 @@ impl Verb {
     }
 }
 
+/// The verb among these that has the word.
 fn named(verbs: &[Verb], word: &[u8]) -> Option<Verb>
     ensures { result ≡ named word.now verbs.now }
 {

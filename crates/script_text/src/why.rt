@@ -39,13 +39,13 @@ pub enum ScriptWhy {
     /// The number of words is wrong.
     #[error("words")]
     Words,
-    /// A name, path, subcontract or mode is none, or a client has a name that it cannot have.
+    /// A name, path, subcontract or mode is malformed, or a client has a name that it cannot have.
     #[error("name")]
     Name,
-    /// A number or an address is none.
+    /// A number or an address is malformed.
     #[error("number")]
     Number,
-    /// A hex word is none.
+    /// A hex word is malformed.
     #[error("hex")]
     Hex,
     /// Memory ran out; this says nothing of the text.
@@ -53,7 +53,7 @@ pub enum ScriptWhy {
     Memory,
 }
 
-/// The first bad line of a text, from 1, and why it is bad. The line is 0 where memory ran out.
+/// The first bad line of a text, from 1, and why it is bad. The line is 0 if memory ran out.
 #[derive(Clone, Copy, Debug, PartialEq, Eq, Error)]
 #[error("line {line}: {why}")]
 pub struct Refused {

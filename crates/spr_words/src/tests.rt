@@ -1,7 +1,7 @@
 //! Words, and the command that they ask for.
 
 use crate::{Asked, WordsErr, read_words};
-use hist_plain::Text;
+use seen_values::Text;
 use std::alloc::Global;
 use std::test::Fail;
 

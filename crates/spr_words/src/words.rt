@@ -9,7 +9,7 @@ ghost use Rattle.spr_words.specs.Line.{line};
 use crate::command::line;
 use clap::error::ErrorKind;
 use clap::{ArgMatches, Error};
-use hist_plain::Text;
+use seen_values::Text;
 use std::alloc::{AllocError, Global};
 
 /// A command of the program, with the names that its words give.

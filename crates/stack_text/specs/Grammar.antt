@@ -4,6 +4,7 @@ use Rattle.std.specs.List.{AllByRecursion}
 use Rattle.std.specs.Fmt.{decimal}
 use Rattle.text_words.specs.Lines.{text_of}
 use Rattle.text_words.specs.Words.{IsName}
+use Rattle.stack_text.specs.declared.stack.TheConstants.{MAX_LINES}
 use Rattle.stack_text.specs.declared.stack.StackLine.{StackLine}
 use Rattle.stack_text.specs.declared.stack.StackLine.TheVariants.{Page, File, Disk, Mirror, Coherency, Dfs, Vmm}
 use Rattle.stack_text.specs.declared.stack.StackText.{StackText}
@@ -31,10 +32,10 @@ IsStackLine (Coherency name machine below) = IsName name × IsName machine × Is
 IsStackLine (Dfs name machine below) = IsName name × IsName machine × IsName below
 IsStackLine (Vmm name machine below frames) = IsName name × IsName machine × IsName below × IsNumber frames
 
--- a stack that a text can have: at most 128 such lines
+-- a stack that a text can have: at most `MAX_LINES` such lines
 pub record IsStack (stack : StackText) : Type 0 where
   pub lines : AllByRecursion IsStackLine stack.lines
-  pub few : length stack.lines ≤ 128
+  pub few : length stack.lines ≤ MAX_LINES
 
 -- the one text of a stack
 abbrev pub spelling : StackText → List ℕ

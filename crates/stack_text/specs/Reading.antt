@@ -1,10 +1,11 @@
--- Reading a stack text: its lines in order, each by itself, up to the first that is none.
+-- Reading a stack text: its lines in order, each by itself, up to the first bad one.
 use Rattle.std.specs.Prelude.{◌≡◌, ℕ, ◌+◌, List, [], ◌∷◌, ◌++◌, length, codes, if◌then◌else◌, nat_lt, Option, Some, None, Result, Ok, Err}
 use Rattle.std.specs.Str.{bytes_eq}
 use Rattle.text_words.specs.declared.lines.LineWhy.{LineWhy}
 use Rattle.text_words.specs.Lines.{Row, rows_of, words_at}
 use Rattle.text_words.specs.Numbers.{number_of}
 use Rattle.text_words.specs.Words.{is_name}
+use Rattle.stack_text.specs.declared.stack.TheConstants.{MAX_LINES}
 use Rattle.stack_text.specs.declared.stack.StackLine.{StackLine}
 use Rattle.stack_text.specs.declared.stack.StackLine.TheVariants.{Page, File, Disk, Mirror, Coherency, Dfs, Vmm}
 use Rattle.stack_text.specs.declared.why.StackWhy.{StackWhy}
@@ -74,7 +75,7 @@ vmm_at name machine below frames = do
   n ← number_at frames
   Ok (Vmm own at base n)
 
--- so many words after the verb
+-- the verb is followed by `count` words
 abbrev pub with_one : (List ℕ → Result StackLine StackWhy) → List (List ℕ) → Result StackLine StackWhy
 with_one read (a ∷ []) = read a
 with_one read words = Err why.Words
@@ -108,11 +109,11 @@ abbrev pub as_stack_why : {X : Type 0} → Result X LineWhy → Result X StackWh
 as_stack_why (Ok x) = Ok x
 as_stack_why (Err why) = Err (why_of why)
 
--- the line of this number, or the first reason why it is none
+-- the line of this number, or the first reason why it is bad
 unfoldable pub line_at : ℕ → Row → Result StackLine StackWhy
 line_at number row = do
   words ← as_stack_why (words_at row)
-  if nat_lt 128 number then Err why.Long else words_line words
+  if nat_lt MAX_LINES number then Err why.Long else words_line words
 
 -- the lines with the next one, which is read from the row
 abbrev pub AddsLine : List StackLine → List StackLine → Row → Type 0
@@ -122,7 +123,7 @@ abbrev pub in_line : {X : Type 0} → ℕ → Result X StackWhy → Result X Ref
 in_line number (Ok x) = Ok x
 in_line number (Err why) = Err (record { line = number; why = why })
 
--- the lines from this number on, or the first that is none
+-- the lines from this number on, or the first bad one
 abbrev pub lines_at : ℕ → List Row → Result (List StackLine) Refused
 lines_at number [] = Ok []
 lines_at number (row ∷ rows) = do

@@ -40,7 +40,7 @@ abbrev pub Gives : {X : Type 0} → Result X StackWhy → Result X StackWhy → 
 Gives (Ok x) read = read ≡ Ok x
 Gives (Err why) read = Fails why read
 
--- The refusal of a text: the line and the reason that reading gives, or line 0 where memory ran out.
+-- The refusal of a text: the line and the reason that reading gives, or line 0 if memory ran out.
 abbrev pub Tells : {Y : Type 0} → StackWhy → ℕ → Result Y Refused → Type 0
 Tells Memory line read = line ≡ 0
 Tells why line read = read ≡ Err (record { line = line; why = why })

@@ -6,8 +6,8 @@ ghost use Rattle.text_words.specs.Lines.{line_of};
 ghost use Rattle.stack_text.specs.Grammar.{line_words, spelling};
 
 use crate::stack::{StackLine, StackText};
-use hist_plain::Bytes;
 use itoa::Buffer;
+use seen_values::Bytes;
 use std::alloc::{AllocError, Global};
 use text_words::put_line;
 

@@ -9,7 +9,7 @@ ghost use Rattle.stack_text.specs.declared.stack.StackText.{StackText};
 
 use crate::stack::{MAX_LINES, StackLine, StackText};
 use crate::why::{Refused, StackWhy};
-use hist_plain::{Items, Text};
+use seen_values::{Items, Text};
 use std::alloc::Global;
 use text_words::{Line, is_name, number, split_line, text_of_name, words_of};
 
@@ -237,7 +237,7 @@ fn add_line(alloc: Global, lines: &mut Vec<StackLine>, line: Line<'_>) -> Result
     Ok(())
 }
 
-/// The lines of a text, up to the first that is none.
+/// The lines of a text, up to the first bad one.
 fn read_lines(alloc: Global, text: &[u8]) -> Result<Vec<StackLine>, Refused>
     ensures { MatchResult result (λ lines. stack_at text.now ≡ Ok lines.items) (IsRefused (stack_at text.now)) }
 {
@@ -254,14 +254,14 @@ fn read_lines(alloc: Global, text: &[u8]) -> Result<Vec<StackLine>, Refused>
     Ok(lines)
 }
 
-/// The stack that a text spells. Refused is exactly a text that spells none, by its first line
-/// that is none and the first reason, and the rest for want of memory.
+/// The stack that a text spells. It fails exactly if the text spells none, with its first bad line
+/// and the first reason, or if memory runs out.
 pub fn parse_stack(alloc: Global, text: &[u8]) -> Result<StackText, Refused>
     // What is read is spelled so.
     ensures found { IfOk result (λ stack. IsStack stack × (text.now ≡ spelling stack)) }
     // What is spelled so is read, unless memory runs out.
     ensures only { (stack : StackText) → IsStack stack → text.now ≡ spelling stack → Reads result stack }
-    // The first line that is none, and the first reason.
+    // The first bad line, and the first reason.
     ensures refused { IfErr result (IsRefused (stack_at text.now)) }
 {
     match read_lines(alloc, text) {

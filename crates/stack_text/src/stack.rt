@@ -1,6 +1,6 @@
 //! A stack text as values.
 
-use hist_plain::{Items, Text};
+use seen_values::{Items, Text};
 
 /// The most lines that a stack text has.
 pub const MAX_LINES: usize = 128;

@@ -6,7 +6,8 @@ ghost use Rattle.stack_text.specs.Why.{word_of, why_of};
 use std::alloc::{AllocError, AllocFailed};
 use text_words::LineWhy;
 
-/// Why a line is none of a stack text. They are tested in this order, and the first counts.
+/// Why a line cannot stand in a stack text. The reasons are tested in this order, and the first
+/// counts.
 #[derive(Clone, Copy, Debug, PartialEq, Eq)]
 pub enum StackWhy {
     /// A byte is not one of space to `~`.
@@ -15,7 +16,7 @@ pub enum StackWhy {
     Space,
     /// The last line has no line feed.
     End,
-    /// There are 128 lines before.
+    /// There are `MAX_LINES` lines before, which is 128.
     Long,
     /// The first word names no kind of line.
     Verb,
@@ -81,10 +82,10 @@ impl From<LineWhy> for StackWhy {
     }
 }
 
-/// A text that is no stack text: the first line that is none, and why.
+/// A text that is no stack text: its first bad line, and why it is bad.
 #[derive(Clone, Copy, Debug, PartialEq, Eq)]
 pub struct Refused {
-    /// The line's number, from 1; 0 where memory ran out.
+    /// The line's number, from 1; 0 if memory ran out.
     pub line: u32,
     /// The first reason.
     pub why: StackWhy,

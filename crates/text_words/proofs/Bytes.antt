@@ -1,5 +1,7 @@
 -- Tests of bytes.
-use Rattle.std.proofs.Common.{◌≡◌, ℕ, ◌<◌, ◌≤◌, List, [], ◌∷◌, ◌++◌, length, Bool, true, false, ◌&&◌, not, eqb, nat_le, nat_lt, cond, refl, sym, ◌∙◌, arith}
+use Rattle.std.proofs.lemmas.List.{length-map}
+use Rattle.std.proofs.lemmas.List.Folds.{list_all-map}
+use Rattle.std.proofs.Common.{◌≡◌, ℕ, ◌<◌, List, [], ◌∷◌, length, Bool, true, ◌&&◌, nat_le, refl, arith}
 use Rattle.std.specs.List.{list_all}
 use Rattle.std.specs.Str.{IsUtf8, IsAscii}
 use Rattle.std.proofs.lemmas.Bool.{and_parts}
@@ -42,3 +44,6 @@ name_ascii word h = ascii_by is_name_char char_small word (name_chars word h)
 
 pub name_utf8 : (word : List ℕ) → is_name word ≡ true → IsUtf8 word
 name_utf8 word h = IsUtf8-from_ascii word (name_ascii word h)
+
+-- a test of what each element is seen as
+pub ruleset seen_all = (list_all-map, length-map, nat_tests)

@@ -1,8 +1,8 @@
 -- Hex that is read is what is written, and the other way round.
-use Rattle.std.proofs.Common.{◌≡◌, ℕ, zero, suc, ◌+◌, ◌*◌, ◌/◌, ◌%◌, ◌<◌, ◌≤◌, List, [], ◌∷◌, length, get_or, slice_index, Bool, true, false, ◌&&◌, ◌||◌, not, cond, eqb, leb, ltb, Option, Some, None, unwrap_or, Result, Ok, Err, refl, sym, ap, subst, ◌∙◌, arith, lit<}
+use Rattle.std.proofs.Common.{◌≡◌, ℕ, zero, suc, ◌+◌, ◌*◌, ◌/◌, ◌%◌, ◌<◌, List, [], ◌∷◌, length, slice_index, Bool, true, false, ◌&&◌, ◌||◌, not, cond, eqb, leb, ltb, Option, Some, None, unwrap_or, Result, Ok, Err, refl, sym, ap, subst, ◌∙◌, arith}
 use Rattle.std.specs.Prelude.{IfSome, IfOk}
 use Rattle.std.specs.List.{AllByRecursion, list_all}
-use Rattle.std.proofs.lemmas.Bool.{and_parts, and_from, leb-true, le-leb, ltb-true, eqb-true, agree_below, agree_below_at, not-false}
+use Rattle.std.proofs.lemmas.Bool.{and_parts, and_from, ltb-true, eqb-true, agree_below_at}
 use Rattle.std.proofs.lemmas.Bool.Decides.{nat_tests}
 use Rattle.hex.specs.Hex.{decode_of, decode_pairs, hex_digit_value, encode_lower, encode_with, lower_digits, pair_value, value_at, digit_or_error, IsBytes, ◌>>=◌}
 use Rattle.hex.specs.declared.error.FromHexError.{FromHexError}

@@ -1,7 +1,7 @@
 -- A text is its lines, and a line its words.
-use Rattle.std.proofs.Common.{◌≡◌, ◌≢◌, ℕ, zero, suc, ◌+◌, ◌-◌, ◌<◌, ◌≤◌, List, [], ◌∷◌, ◌++◌, length, take, drop, get_or, map, Bool, true, false, ◌&&◌, not, cond, eqb, ltb, Option, Some, None, Result, Ok, Err, inl, inr, refl, sym, ap, subst, ◌∙◌, arith, append_assoc, length-drop}
+use Rattle.std.proofs.Common.{◌≡◌, ℕ, zero, suc, ◌+◌, ◌-◌, ◌<◌, ◌≤◌, List, [], ◌∷◌, ◌++◌, length, take, drop, get_or, map, Bool, true, false, ◌&&◌, not, cond, eqb, ltb, Some, None, Result, Ok, Err, inl, inr, refl, sym, ap, subst, ◌∙◌, arith, append_assoc, length-drop}
 use Rattle.std.specs.Prelude.{IfOk, MatchResult}
-use Rattle.std.specs.List.{AllByRecursion, flat_map, join_with_byte, list_all, slice_split, position, position_or_len}
+use Rattle.std.specs.List.{AllByRecursion, flat_map, join_with_byte, list_all, position, position_or_len}
 use Rattle.std.proofs.lemmas.Bool.{and_parts, and_from, cases_Bool, not-true, eqb-true, eq-eqb, ltb-false, not_from_false}
 use Rattle.text_words.specs.declared.lines.LineWhy.{LineWhy}
 use Rattle.text_words.specs.declared.lines.LineWhy.TheVariants as why

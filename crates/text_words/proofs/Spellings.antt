@@ -1,5 +1,5 @@
 -- Names, numbers, hex and paths are words, and how long they are.
-use Rattle.std.proofs.Common.{◌≡◌, ℕ, suc, ◌+◌, ◌*◌, ◌^◌, ◌<◌, ◌≤◌, List, [], ◌∷◌, ◌++◌, length, Bool, true, false, ◌&&◌, ◌||◌, eqb, leb, ltb, refl, sym, ap, subst, ◌∙◌, arith, length-append}
+use Rattle.std.proofs.Common.{◌≡◌, ℕ, ◌+◌, ◌*◌, ◌^◌, ◌<◌, ◌≤◌, List, [], ◌∷◌, length, true, ◌&&◌, leb, refl, arith, length-append}
 use Rattle.std.specs.Char.{is_ascii_digit}
 use Rattle.std.specs.Fmt.{decimal}
 use Rattle.std.specs.List.{AllByRecursion, join_with_byte, list_all}
@@ -8,7 +8,7 @@ use Rattle.std.proofs.lemmas.Bool.Decides.{nat_tests}
 use Rattle.std.proofs.lemmas.Fmt.{digits_decimal, decimal_nonempty, length-decimal-le}
 use Rattle.hex.specs.Hex.{encode_lower, lower_digits}
 use Rattle.hex.proofs.HexLemmas.{length-encode_with}
-use Rattle.text_words.specs.Words.{is_letter, is_name, is_name_char, is_lower_hex, is_path, IsName, IsPath, IsHexBytes, path_word}
+use Rattle.text_words.specs.Words.{is_letter, is_name, is_name_char, is_lower_hex, IsName, IsPath, IsHexBytes, path_word}
 use Rattle.text_words.specs.Lines.{IsWord, has_bytes, is_word_byte}
 use Rattle.text_words.proofs.Bytes.{list_all-weaker, name_chars}
 use Rattle.text_words.proofs.HexLaws.{lower_again}

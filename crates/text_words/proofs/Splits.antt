@@ -1,5 +1,5 @@
 -- Lists that are split where a byte stands, and joined by it.
-use Rattle.std.proofs.Common.{◌≡◌, ℕ, ◌+◌, suc, List, [], ◌∷◌, ◌++◌, length, Bool, true, false, ◌&&◌, not, eqb, cond, inl, inr, subst, refl, sym, ap, ◌∙◌, arith, ◌≤◌}
+use Rattle.std.proofs.Common.{◌≡◌, ℕ, List, [], ◌∷◌, ◌++◌, Bool, true, false, ◌&&◌, not, eqb, inl, inr, subst, refl, sym, ap, ◌∙◌}
 use Rattle.std.specs.List.{AllByRecursion, flat_map, join_with_byte, list_all, slice_split, onto_first}
 use Rattle.std.specs.Str.{IsAscii}
 use Rattle.std.proofs.lemmas.Bool.{and_parts, not-true, eq-eqb, and_from, cases_Bool, not_from_false}

@@ -1,14 +1,14 @@
 -- Hex and paths that are read are what is written, and the other way round.
-use Rattle.std.proofs.Common.{◌≡◌, ℕ, ◌<◌, ◌≤◌, List, [], ◌∷◌, length, get_or, Bool, true, false, ◌&&◌, ◌||◌, not, cond, eqb, leb, lit<, Option, Some, None, Result, Ok, Err, refl, sym, ap, subst, ◌∙◌, arith, rules}
+use Rattle.std.proofs.Common.{◌≡◌, ℕ, ◌≤◌, List, [], ◌∷◌, length, Bool, true, false, ◌&&◌, not, cond, eqb, leb, lit<, Option, Some, None, Result, Ok, Err, refl, sym, ap, subst, ◌∙◌, arith}
 use Rattle.std.specs.Prelude.{IfSome, IfOk}
-use Rattle.std.specs.List.{AllByRecursion, join_with_byte, list_all, slice_split}
+use Rattle.std.specs.List.{join_with_byte, list_all, slice_split}
 use Rattle.std.specs.Str.{IsUtf8, IsAscii}
-use Rattle.std.proofs.lemmas.Bool.{and_parts, and_from, false_from_ne_true, leb-true, le-leb}
+use Rattle.std.proofs.lemmas.Bool.{and_parts, false_from_ne_true, leb-true}
 use Rattle.std.proofs.lemmas.Bool.Decides.{nat_tests}
 use Rattle.std.proofs.lemmas.List.Splits.{join_with_byte-slice_split}
 use Rattle.std.proofs.lemmas.Str.{IsUtf8-from_ascii}
 use Rattle.std.proofs.lemmas.Str.Ascii.{IsAscii-cons, IsAscii-nil}
-use Rattle.text_words.specs.Words.{is_name, is_name_char, is_letter, is_path, IsPath, path_of, path_word}
+use Rattle.text_words.specs.Words.{is_name, is_name_char, is_path, IsPath, path_of, path_word}
 use Rattle.text_words.proofs.Bytes.{name_ascii, name_chars, list_all-weaker}
 use Rattle.text_words.proofs.Splits.{lacks, split_joined, join_ascii, each, each_true}
 

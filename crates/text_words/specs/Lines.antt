@@ -35,7 +35,7 @@ is_line_byte b = nat_le 32 b && nat_le b 126
 abbrev pub words_in : List ℕ → List (List ℕ)
 words_in body = slice_split (λ b. b == 32) body
 
--- a word has at least one byte: where a line is empty, has a space at an end or two spaces together, one has none
+-- a word has at least one byte; if a line is empty, or has a space at an end or two spaces together, one of its words has no byte
 abbrev pub has_bytes : List ℕ → Bool
 has_bytes word = nat_lt 0 (length word)
 

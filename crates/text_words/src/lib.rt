@@ -9,7 +9,9 @@ mod words;
 
 pub use lines::{Line, LineWhy, lines_and_text, split_line, words_of};
 pub use numbers::{address, number};
-pub use print::{put, put_hex, put_line, put_number, put_path, put_spaced, put_word};
+pub use print::{
+    put, put_hex, put_line, put_number, put_path, put_spaced, put_spaced_number, put_word,
+};
 pub use words::{hex_bytes, is_name, read_path, text_of_name};
 
 #[cfg(test)]

@@ -39,6 +39,7 @@ impl From<AllocError> for LineWhy {
     }
 }
 
+/// The place of the first line feed.
 fn line_feed(text: &[u8]) -> Option<usize>
     ensures { result ≡ position (λ b. b == 10) text.now }
 {
@@ -69,30 +70,29 @@ pub fn split_line(text: &[u8]) -> (Line<'_>, &[u8])
     }
 }
 
+/// Whether each byte is one of space to `~`.
 fn are_line_bytes(body: &[u8]) -> bool
     ensures { result ≡ list_all is_line_byte body.now }
 {
-    body.iter().all(|b| 32 <= *b && *b <= 126)
+    body.iter().all(|b| b' ' <= *b && *b <= b'~')
 }
 
+/// What stands between spaces.
 fn split_words(alloc: Global, body: &[u8]) -> Result<Vec<&[u8]>, AllocError>
     ensures { IfOk result (λ words. map (λ word. word.now) words.items ≡ words_in body.now) }
 {
     body.split(|b| *b == b' ').collect(alloc)
 }
 
+/// Whether each word has a byte.
 fn have_bytes(words: &[&[u8]]) -> bool
-    ensures { result ≡ list_all has_bytes (map (λ word. word.now) words.now) }
+    ensures { result ≡ list_all (λ word. has_bytes word.now) words.now }
 {
-    for word in words {
-        if word.is_empty() {
-            return false;
-        }
-    }
-    true
+    words.iter().all(|word| !word.is_empty())
 }
 
-#[tactic(auto, unfolding(crate::specs::Lines::words_at))]
+/// The words of a line, or the first reason why it has none.
+#[tactic(auto, using(crate::proofs::Bytes::seen_all), unfolding(crate::specs::Lines::words_at))]
 fn checked_words(alloc: Global, line: Line<'_>) -> Result<Vec<&[u8]>, LineWhy>
     ensures { MatchResult result (λ words. words_at (row_of line.entry) ≡ Ok (map (λ word. word.now) words.items)) (λ why. ReadsWords why (words_at (row_of line.entry))) }
 {
@@ -109,7 +109,7 @@ fn checked_words(alloc: Global, line: Line<'_>) -> Result<Vec<&[u8]>, LineWhy>
     Ok(words)
 }
 
-/// The words of a line, or the first reason why it is none.
+/// The words of a line, or the first reason why it is no line of words.
 pub fn words_of(alloc: Global, line: Line<'_>) -> Result<Vec<&[u8]>, LineWhy>
     ensures value { MatchResult result (λ words. words_at (row_of line.entry) ≡ Ok (map (λ word. word.now) words.items)) (λ why. ReadsWords why (words_at (row_of line.entry))) }
     ensures found { IfOk result (λ words. AreWords (map (λ word. word.now) words.items) × (row_of line.entry ≡ words_row (map (λ word. word.now) words.items))) }

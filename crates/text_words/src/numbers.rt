@@ -6,12 +6,14 @@ ghost use Rattle.std.specs.Fmt.{decimal};
 ghost use Rattle.std.specs.List.{list_all};
 ghost use Rattle.text_words.specs.Numbers.{is_decimal, number_below, number_of, address_of};
 
+/// Whether each byte is a decimal digit.
 fn all_digits(word: &[u8]) -> bool
     ensures { result ≡ list_all is_ascii_digit word.now }
 {
     word.iter().all(|c| c.is_ascii_digit())
 }
 
+/// Whether a word is one or more digits, the first of several not `0`.
 fn is_decimal(word: &[u8]) -> bool
     ensures { result ≡ is_decimal word.now }
 {
@@ -21,6 +23,7 @@ fn is_decimal(word: &[u8]) -> bool
     }
 }
 
+/// The number below the limit that a word is, if it is one.
 #[tactic(auto, unfolding(crate::specs::Numbers::number_below))]
 fn number_below(word: &[u8], limit: u64) -> Option<u64>
     ensures { result ≡ number_below limit word.now }
@@ -37,6 +40,7 @@ fn number_below(word: &[u8], limit: u64) -> Option<u64>
     }
 }
 
+/// The number of 32 bits that a word is, if it is one.
 fn small_number(word: &[u8]) -> Option<u32>
     ensures { result ≡ number_of word.now }
 {

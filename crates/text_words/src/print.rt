@@ -8,8 +8,8 @@ ghost use Rattle.hex.specs.Hex.{encode_lower};
 ghost use Rattle.text_words.specs.Lines.{line_of, spaced};
 ghost use Rattle.text_words.specs.Words.{path_word};
 
-use hist_plain::{Path, Text};
 use itoa::Buffer;
+use seen_values::{Path, Text};
 use std::alloc::{AllocError, Global};
 
 /// Appends some bytes, all or none of them.
@@ -28,12 +28,21 @@ pub fn put_word(out: &mut Vec<u8>, word: &[u8]) -> Result<(), AllocError>
     put(out, word)
 }
 
-/// Appends a space and a number in decimal digits.
+/// Appends a number in decimal digits, or nothing.
 pub fn put_number(out: &mut Vec<u8>, number: u64) -> Result<(), AllocError>
-    ensures { OnOk result (out.new.items ≡ out.old.items ++ 32 ∷ decimal number) }
+    ensures ok { OnOk result (out.new.items ≡ out.old.items ++ decimal number) }
+    ensures err { OnErr result (out.new.items ≡ out.old.items) }
 {
     let mut buffer = Buffer::new();
-    put_word(out, buffer.format(number).as_bytes())
+    put(out, buffer.format(number).as_bytes())
+}
+
+/// Appends a space and a number in decimal digits.
+pub fn put_spaced_number(out: &mut Vec<u8>, number: u64) -> Result<(), AllocError>
+    ensures { OnOk result (out.new.items ≡ out.old.items ++ 32 ∷ decimal number) }
+{
+    put(out, b" ")?;
+    put_number(out, number)
 }
 
 /// Appends a space and bytes in hex.
@@ -44,6 +53,7 @@ pub fn put_hex(alloc: Global, out: &mut Vec<u8>, bytes: &[u8]) -> Result<(), All
     put_word(out, text.as_bytes())
 }
 
+/// Appends a slash before each part.
 fn put_parts(out: &mut Vec<u8>, parts: &[Text]) -> Result<(), AllocError>
     ensures { OnOk result (out.new.items ≡ out.old.items ++ flat_map (λ part. 47 ∷ part) parts.now) }
 {
@@ -77,6 +87,7 @@ pub fn put_spaced(out: &mut Vec<u8>, words: &[&[u8]]) -> Result<(), AllocError>
     Ok(())
 }
 
+/// Appends the words, with a space between each two.
 fn put_words(out: &mut Vec<u8>, words: &[&[u8]]) -> Result<(), AllocError>
     ensures { OnOk result (out.new.items ≡ out.old.items ++ join_with_byte 32 (map (λ word. word.now) words.now)) }
 {

@@ -103,7 +103,8 @@ fn printing(rt: HostRuntime) -> Result<(), Fail> {
     let mut out = Vec::new(rt.alloc());
     put(&mut out, b"x")?;
     put_word(&mut out, b"read")?;
-    put_number(&mut out, 18_446_744_073_709_551_615)?;
+    put_spaced_number(&mut out, 18_446_744_073_709_551_615)?;
+    put_number(&mut out, 0)?;
     put_hex(rt.alloc(), &mut out, &[0, 171])?;
     let path = read_path(rt.alloc(), b"c/f")?.ok_or("a path")?;
     put_path(&mut out, &path)?;
@@ -111,7 +112,7 @@ fn printing(rt: HostRuntime) -> Result<(), Fail> {
     put_line(&mut out, &[b"", b"q", b"r"])?;
     assert_eq!(rt;
         out.as_slice(),
-        b"x read 18446744073709551615 00ab c/f y z q r\n".as_slice()
+        b"x read 184467440737095516150 00ab c/f y z q r\n".as_slice()
     );
     Ok(())
 }

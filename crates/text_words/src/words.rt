@@ -6,21 +6,24 @@ ghost use Rattle.hex.specs.Hex.{encode_lower};
 ghost use Rattle.text_words.specs.Words.{IsHexBytes, IsPath, path_word, is_letter, is_name_char, is_name, IsName, is_lower_hex, hex_of, is_path, path_of};
 
 use hex::FromHexError;
-use hist_plain::{Bytes, Path, Text};
+use seen_values::{Bytes, Path, Text};
 use std::alloc::{AllocError, Global};
 
+/// Whether a byte is one of `a` to `z`.
 fn is_letter(c: u8) -> bool
     ensures { result ≡ is_letter c }
 {
-    97 <= c && c <= 122
+    c.is_ascii_lowercase()
 }
 
+/// Whether a byte may stand in a name.
 fn is_name_char(c: u8) -> bool
     ensures { result ≡ is_name_char c }
 {
-    is_letter(c) || (48 <= c && c <= 57) || c == 95
+    is_letter(c) || c.is_ascii_digit() || c == b'_'
 }
 
+/// Whether each byte may stand in a name.
 fn all_name_chars(word: &[u8]) -> bool
     ensures { result ≡ list_all is_name_char word.now }
 {
@@ -46,13 +49,15 @@ pub fn text_of_name(alloc: Global, word: &[u8]) -> Result<Text, AllocError>
     Text::of_ascii(alloc, word)
 }
 
+/// Whether each byte is a hexadecimal digit in lower case.
 fn all_lower_hex(word: &[u8]) -> bool
     ensures { result ≡ list_all is_lower_hex word.now }
 {
     word.iter()
-        .all(|c| (48 <= *c && *c <= 57) || (97 <= *c && *c <= 102))
+        .all(|c| c.is_ascii_digit() || (b'a' <= *c && *c <= b'f'))
 }
 
+/// The bytes of a hex word, if it is one.
 #[tactic(auto, unfolding(crate::specs::Words::hex_of))]
 fn decoded(alloc: Global, word: &[u8]) -> Result<Option<Bytes>, AllocError>
     ensures { IfOk result (λ bytes. bytes ≡ hex_of word.now) }
@@ -67,8 +72,8 @@ fn decoded(alloc: Global, word: &[u8]) -> Result<Option<Bytes>, AllocError>
     }
 }
 
-/// The bytes of a hex word: an even number of lower-case digits, 2 to 8,192 of them. `None` where
-/// it is no such word.
+/// The bytes of a hex word: an even number of lower-case digits, 2 to 8,192 of them. `None` if it
+/// is no such word.
 pub fn hex_bytes(alloc: Global, word: &[u8]) -> Result<Option<Bytes>, AllocError>
     ensures value { IfOk result (λ bytes. bytes ≡ hex_of word.now) }
     ensures found { IfOk result (λ bytes. IfSome bytes (λ b. IsHexBytes b × (word.now ≡ encode_lower b))) }
@@ -77,29 +82,29 @@ pub fn hex_bytes(alloc: Global, word: &[u8]) -> Result<Option<Bytes>, AllocError
     decoded(alloc, word)
 }
 
+/// Whether each part is a name.
 fn all_names(parts: &[&str]) -> bool
-    ensures { result ≡ list_all is_name (map (λ part. part.now) parts.now) }
+    ensures { result ≡ list_all (λ part. is_name part.now) parts.now }
 {
-    for part in parts {
-        if !is_name(part.as_bytes()) {
-            return false;
-        }
-    }
-    true
+    parts.iter().all(|part| is_name(part.as_bytes()))
 }
 
+/// Whether these are 1 to 8 names.
+#[tactic(auto, using(crate::proofs::Bytes::seen_all))]
 fn is_path(parts: &[&str]) -> bool
     ensures { result ≡ is_path (map (λ part. part.now) parts.now) }
 {
     !parts.is_empty() && parts.len() <= 8 && all_names(parts)
 }
 
+/// What stands between the slashes of a word.
 fn split_path(alloc: Global, word: &str) -> Result<Vec<&str>, AllocError>
     ensures { IfOk result (λ parts. map (λ part. part.now) parts.items ≡ slice_split (λ b. b == 47) word.now) }
 {
     word.split('/').collect(alloc)
 }
 
+/// The path that a word is, if it is one.
 #[tactic(auto, unfolding(crate::specs::Words::path_of))]
 fn path_parts(alloc: Global, word: &[u8]) -> Result<Option<Path>, AllocError>
     ensures { IfOk result (λ path. path ≡ path_of word.now) }
@@ -114,7 +119,7 @@ fn path_parts(alloc: Global, word: &[u8]) -> Result<Option<Path>, AllocError>
     Ok(Some(Path::of(alloc, &parts)?))
 }
 
-/// The path that a word is: 1 to 8 names with `/` between each two. `None` where it is none.
+/// The path that a word is: 1 to 8 names with `/` between each two. `None` if it is no path.
 pub fn read_path(alloc: Global, word: &[u8]) -> Result<Option<Path>, AllocError>
     ensures value { IfOk result (λ path. path ≡ path_of word.now) }
     ensures found { IfOk result (λ path. IfSome path (λ parts. IsPath parts × (word.now ≡ path_word parts))) }

@@ -1,5 +1,5 @@
 use Rattle.std.proofs.Common.{sym, arith}
-use Rattle.text_words.proofs.NumberLaws.{decimal_utf8, none_parsed, some_parsed}
+use Rattle.text_words.proofs.NumberLaws.{decimal_utf8, none_parsed}
 use Rattle.text_words.proofs.numbers.number_below.Goals as goal
 
 pub returns-in_default : goal.returns-in_default

@@ -1,4 +1,4 @@
-use Rattle.text_words.proofs.WordLaws.{not_utf8, read_none, read_some}
+use Rattle.text_words.proofs.WordLaws.{not_utf8}
 use Rattle.text_words.proofs.words.path_parts.Goals as goal
 
 pub returns-in_default : goal.returns-in_default
