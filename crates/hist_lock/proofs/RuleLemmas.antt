@@ -6,6 +6,7 @@ use mathlib.Core.Logic.{dite}
 use native.Mathlib.Decide.{ℕ_discrete}
 use prog.Atomic.{either}
 use lib.ListN.{get_elem?}
+use Rattle.std.proofs.lemmas.Bool.{or_left, or_right}
 use Rattle.std.proofs.lemmas.List.{append-nil}
 use Rattle.atomic_table.specs.Table.{State, Act, keeps, takes, gives, step, Allows, Splits, Joins, opening, Final, Seen, Valid, homes_after, carried_after}
 use Rattle.atomic_table.proofs.Lists.{at_set, set_here, set_else, set_again, at_longer, exchanged}
@@ -15,7 +16,7 @@ use Rattle.hist_lock.specs.declared.view.Stage.{Stage}
 use Rattle.hist_lock.specs.declared.view.Stage.TheVariants.{Idle, Waits, Holds, Noted, Met}
 use Rattle.hist_lock.specs.Ranges.{in_range, may_add, Follows, longer, Grows, Added}
 use Rattle.hist_lock.specs.Rule.{ticket, number, has_slot, Standing, Apart, own, Sits, Seats, Placed, Kept, starting}
-use Rattle.hist_lock.specs.Steps.{Mine, with_stage, with_seen, Draws, Takes, Looks, Notes, Passes, Settles, below, above, both, spent}
+use Rattle.hist_lock.specs.Steps.{Mine, with_stage, with_seen, waiting, Draws, Takes, Looks, Notes, Passes, Settles, below, above, both, spent}
 use Rattle.hist_lock.proofs.Lists.{each_append, follows_self, joined, whole_longer, lt_or_le, quiet_none, each_as, each_quiet, follows_more, follows_as, apart_in, wider, within_in, joined_in}
 
 at_length : {A : Type 0} (l : List A) (i : ℕ) (a : A) → get_elem? l i ≡ some a → i < length l
@@ -112,6 +113,7 @@ module _ {T E F : Type 0} (entries : T → List E) (caller : E → Option ℕ) (
       × ((t : ℕ) (j : ℕ) (u : View E F) → ticket w.stage ≡ Some t → j ≢ i → get_elem? views j ≡ some u → ticket u.stage ≡ Some t → ⊥)
       × ((t : ℕ) → served' ≤ t → t < drawn' → (ticket w.stage ≡ Some t) ⊎ ((served ≤ t) × (t < drawn) × (ticket v.stage ≡ Some t → ⊥)))
       × (((w.first < w.end) × (w.seen ≡ log')) ⊎ ((log' ≡ log) × (w.seen ≡ v.seen)))
+      × (((w.first < w.end) × (w.drew ≡ true)) ⊎ ((drawn' ≡ drawn) × (w.drew ≡ v.drew)))
 
   pub reseat : (d : Deed T) (served drawn : ℕ) (log : List E) (served' drawn' : ℕ) (log' : List E) (views : List (View E F)) (i : ℕ) (v w : View E F)
       → Seats entries caller fixed d served drawn log views → get_elem? views i ≡ some v → w.first ≡ v.first → w.end ≡ v.end
@@ -146,6 +148,14 @@ module _ {T E F : Type 0} (entries : T → List E) (caller : E → Option ℕ) (
             (i, w, here, omega arith, p.1 ∙ (ap (λ u. u.seen) is ∙ (h.4 ∙ sym p.0))))
             (λ ne. (h.0, h.1, set_else views i h.0 w ne ∙ h.2, h.3, h.4 ∙ sym p.0)))
             ch.3;
+        told = λ some_drawn. ⊎_elim
+            (λ p. (i, w, here, p.0, p.1))
+            (λ p. let h = old.told (subst (λ n. 0 < n) p.0 some_drawn) in dite (ℕ_discrete h.0 i)
+            (λ e. let is : v ≡ h.1 = some-injective v h.1 (sym at ∙ (ap (λ k. get_elem? views k) (sym e) ∙ h.2)) in
+            let a : v.first ≡ h.1.first = ap (λ u. u.first) is in let b : v.end ≡ h.1.end = ap (λ u. u.end) is in let lt = h.3 in
+            (i, w, here, omega arith, p.1 ∙ (ap (λ u. u.drew) is ∙ h.4)))
+            (λ ne. (h.0, h.1, set_else views i h.0 w ne ∙ h.2, h.3, h.4)))
+            ch.4;
       }
 
   -- a view that has no slot becomes one that has none
@@ -196,15 +206,16 @@ module _ {T E F : Type 0} (entries : T → List E) (caller : E → Option ℕ) (
     opened = kept.opened;
     callers = kept.callers;
     slot = kept.slot;
+    untouched = kept.untouched;
     seats = kept.seats;
   }
 
   -- a ticket is drawn
   draws_hit : (d : Deed T) (s : State (Option T) (View E F)) (i : ℕ) (v : View E F) (kept : Kept entries caller fixed d s) → get_elem? s.views i ≡ some v
       → v.stage ≡ Idle → v.first < v.end → kept.drawn + 1 < 18446744073709551616
-      → Holds3 d (kept.drawn + 1) kept.served (length kept.log) s.homes (set s.views i (with_stage v (Waits kept.drawn)))
+      → Holds3 d (kept.drawn + 1) kept.served (length kept.log) s.homes (set s.views i (waiting v kept.drawn))
   draws_hit d s i v kept at idle lt fits =
-      let w : View E F = with_stage v (Waits kept.drawn) in
+      let w : View E F = waiting v kept.drawn in
       let was = kept.seats.sits i v at in
       let order = kept.order in
       record {
@@ -218,12 +229,14 @@ module _ {T E F : Type 0} (entries : T → List E) (caller : E → Option ℕ) (
         opened = kept.opened;
         callers = kept.callers;
         slot = placed_stays d kept.log s.homes s.views i v w at (ap has_slot idle) refl kept.slot;
+        untouched = λ e. absurd (omega (arith, e));
         seats = reseat d kept.served kept.drawn kept.log kept.served (kept.drawn + 1) kept.log s.views i v w kept.seats at refl refl
             record { follows = was.follows; within = was.within; part = was.part; standing = (lt, order, omega arith) } (
               (λ j u ne au sits. record { follows = sits.follows; within = sits.within; part = sits.part; standing = standing_later caller kept.served kept.drawn (kept.drawn + 1) kept.log u u.stage (omega arith) sits.standing }),
               (λ t j u e ne au tu. fresh d kept.served kept.drawn kept.log s.views kept.seats j u au t tu (omega (arith, some_is kept.drawn t e))),
               (λ t lo hi. dite (ℕ_discrete t kept.drawn) (λ e. inl (ap Some (sym e))) (λ ne. inr (lo, omega arith, (λ e. some_none t (sym e ∙ ap ticket idle))))),
               inr (refl, refl),
+              inl (lt, refl),
             );
       }
 
@@ -238,10 +251,10 @@ module _ {T E F : Type 0} (entries : T → List E) (caller : E → Option ℕ) (
       × Draws (step n 0 g (g + 1) none) me (get_or ws 0 0) (w, carried_after me.1 a) in
       subst P (sym kept.words) (exchanged kept.drawn g (g + 1) (λ m. Goal (kept.drawn ∷ kept.served ∷ length kept.log ∷ []) m)
       (λ e. (
-        with_stage me.0 (Waits kept.drawn),
+        waiting me.0 kept.drawn,
         keeps,
         tt,
-        subst (λ m. Holds3 d m kept.served (length kept.log) s.homes (set s.views i (with_stage me.0 (Waits kept.drawn)))) (ap (λ m. m + 1) e)
+        subst (λ m. Holds3 d m kept.served (length kept.log) s.homes (set s.views i (waiting me.0 kept.drawn))) (ap (λ m. m + 1) e)
             (draws_hit d s i me.0 kept at idle lt (omega arith)),
         ((λ e'. refl), (λ ne. absurd (ne e))),
       ))
@@ -275,12 +288,14 @@ module _ {T E F : Type 0} (entries : T → List E) (caller : E → Option ℕ) (
           opened = kept.opened;
           callers = kept.callers;
           slot = inr (i, w, record { empty = ap (λ (hs : List (maybe.Option (Option T))). set hs 0 none) h.1.lies; at = set_here s.views i w (at_length s.views i v at); has = refl });
+          untouched = λ e. let low = turn.2 in absurd (omega (arith, e));
           seats = reseat d kept.served kept.drawn kept.log kept.served kept.drawn kept.log s.views i v w kept.seats at refl refl
               record { follows = follows_self (own caller w) (entries x) kept.log list; within = was.within; part = was.part; standing = (turn.0, refl, turn.2, list) } (
                 (λ j u ne au sits. sits),
                 (λ t j u e ne au tu. ne (kept.seats.once j i u v t au at tu (mine ∙ e))),
                 (λ t lo hi. dite (ℕ_discrete t kept.served) (λ e. inl (ap Some (sym e))) (λ ne. inr (lo, hi, (λ e. ne (some_is t kept.served (sym e ∙ mine)))))),
                 inl (turn.0, list),
+                inr (refl, refl),
               );
         },
         (x, refl, subst (λ (l : List E). Follows (own caller v) v.seen l) (sym list) was.follows, was.part turn.0 ∙ ap Some (sym h.1.part)),
@@ -328,6 +343,7 @@ module _ {T E F : Type 0} (entries : T → List E) (caller : E → Option ℕ) (
             (λ h. absurd (true_false (has_slot v.stage) (ap has_slot holds) (h.1.free i v at)))
             (λ o. inr (i, w, record { empty = o.2.empty; at = set_here s.views i w (at_length s.views i v at); has = refl }))
             kept.slot;
+        untouched = kept.untouched;
         seats = reseat d kept.served kept.drawn kept.log kept.served kept.drawn (entries y) s.views i v w kept.seats at refl refl
             record { follows = follows_self (own caller w) (entries y) (entries y) refl; within = was.within; part = was.part; standing = (turn.0, refl, turn.2, refl) } (
               (λ j u ne au sits. record {
@@ -342,6 +358,7 @@ module _ {T E F : Type 0} (entries : T → List E) (caller : E → Option ℕ) (
               (λ t j u e ne au tu. ne (kept.seats.once j i u v t au at tu (mine ∙ e))),
               (λ t lo hi. dite (ℕ_discrete t kept.served) (λ e. inl (ap Some (sym e))) (λ ne. inr (lo, hi, (λ e. ne (some_is t kept.served (sym e ∙ mine)))))),
               inl (turn.0, refl),
+              inr (refl, refl),
             );
       }
 
@@ -396,6 +413,7 @@ module _ {T E F : Type 0} (entries : T → List E) (caller : E → Option ℕ) (
             part = some_same (sym part ∙ was.part turn.0);
           },
         );
+        untouched = λ e. let low = turn.2 in absurd (omega (arith, e));
         seats = reseat d kept.served kept.drawn kept.log (kept.served + 1) kept.drawn kept.log s.views i v w kept.seats at refl refl
             record { follows = was.follows; within = was.within; part = was.part; standing = tt } (
               (λ j u ne au sits. record {
@@ -406,6 +424,7 @@ module _ {T E F : Type 0} (entries : T → List E) (caller : E → Option ℕ) (
               }),
               (λ t j u e ne au tu. some_none t (sym e)),
               (λ t lo hi. inr (omega arith, hi, (λ e. let same : t ≡ kept.served = some_is t kept.served (sym e ∙ mine) in omega arith))),
+              inr (refl, refl),
               inr (refl, refl),
             );
       }
@@ -458,11 +477,13 @@ module _ {T E F : Type 0} (entries : T → List E) (caller : E → Option ℕ) (
           opened = kept.opened;
           callers = kept.callers;
           slot = placed_stays d kept.log s.homes s.views i me.0 w at (ap has_slot met) refl kept.slot;
+          untouched = kept.untouched;
           seats = reseat d kept.served kept.drawn kept.log kept.served kept.drawn kept.log s.views i me.0 w kept.seats at refl refl
               record { follows = was.follows; within = was.within; part = was.part; standing = tt } (
                 (λ j u ne au sits. sits),
                 (λ t j u e ne au tu. some_none t (sym e)),
                 (λ t lo hi. inr (lo, hi, (λ e. some_none t (sym e ∙ ap ticket met)))),
+                inr (refl, refl),
                 inr (refl, refl),
               );
         },
@@ -566,6 +587,7 @@ module _ {T E F : Type 0} (entries : T → List E) (caller : E → Option ℕ) (
               },
             ))
             kept.slot;
+        untouched = kept.untouched;
         seats = record {
           sits = λ j u e. ⊎_elim (λ o. kept.seats.sits j u o.1)
               (⊎_elim (λ b. subst (λ (x : View E F). Sits entries caller fixed d kept.served kept.drawn kept.log x) b.1 sits_l) (λ b. subst (λ (x : View E F). Sits entries caller fixed d kept.served kept.drawn kept.log x) b.1 sits_r))
@@ -579,6 +601,9 @@ module _ {T E F : Type 0} (entries : T → List E) (caller : E → Option ℕ) (
               (h.0, h.1, stays_at h.0 h.1 (λ e. some_none t (sym h.3 ∙ (ap (λ (x : View E F). ticket x.stage) (sym (some-injective v h.1 (sym seat ∙ (ap (λ k. get_elem? s.views k) (sym e) ∙ h.2)))) ∙ ap ticket idle))) h.2, h.3);
           whole = let h = kept.seats.whole in dite (ℕ_discrete h.0 i)
               (λ e. (i, l, idle_left, lo, ap (λ u. u.seen) (some-injective v h.1 (sym seat ∙ (ap (λ k. get_elem? s.views k) (sym e) ∙ h.2))) ∙ h.4))
+              (λ ne. (h.0, h.1, stays_at h.0 h.1 ne h.2, h.3, h.4));
+          told = λ some_drawn. let h = kept.seats.told some_drawn in dite (ℕ_discrete h.0 i)
+              (λ e. (i, l, idle_left, lo, ap (λ u. u.drew) (some-injective v h.1 (sym seat ∙ (ap (λ k. get_elem? s.views k) (sym e) ∙ h.2))) ∙ h.4))
               (λ ne. (h.0, h.1, stays_at h.0 h.1 ne h.2, h.3, h.4));
         };
       }
@@ -663,6 +688,7 @@ module _ {T E F : Type 0} (entries : T → List E) (caller : E → Option ℕ) (
             (λ q. let busy : ticket q.1.stage ≡ None → ⊥ = λ e. some_none kept.served (sym (slot_ticket caller kept.served kept.drawn kept.log q.1 q.1.stage ((kept.seats.sits q.0 q.1 q.2.at).standing) q.2.has) ∙ e) in
             inr (q.0, q.1, record { empty = q.2.empty; at = stays_at q.0 q.1 (not_i q.0 q.1 q.2.at busy) (not_o q.0 q.1 q.2.at busy) q.2.at; has = q.2.has }))
             kept.slot;
+        untouched = kept.untouched;
         seats = record {
           sits = λ j u e. ⊎_elim (λ n. kept.seats.sits j u n.2)
               (⊎_elim (λ c. subst (λ (x : View E F). Sits entries caller fixed d kept.served kept.drawn kept.log x) c.1 sits_b) (λ c. subst (λ (x : View E F). Sits entries caller fixed d kept.served kept.drawn kept.log x) c.1 sits_s))
@@ -694,6 +720,11 @@ module _ {T E F : Type 0} (entries : T → List E) (caller : E → Option ℕ) (
                     (ap (λ u. u.seen) (some-injective w h.1 (sym ew ∙ (ap (λ k. get_elem? s.views k) (sym e) ∙ h.2))) ∙ h.4) told.2 told.0,
               ))
               (λ ne'. (h.0, h.1, stays_at h.0 h.1 ne ne' h.2, h.3, h.4)));
+          told = λ some_drawn. let h = kept.seats.told some_drawn in dite (ℕ_discrete h.0 i)
+              (λ e. (i, b, here, omega arith, or_left v.drew w.drew (ap (λ u. u.drew) (some-injective v h.1 (sym ev ∙ (ap (λ k. get_elem? s.views k) (sym e) ∙ h.2))) ∙ h.4)))
+              (λ ne. dite (ℕ_discrete h.0 o)
+              (λ e. (i, b, here, omega arith, or_right v.drew w.drew (ap (λ u. u.drew) (some-injective w h.1 (sym ew ∙ (ap (λ k. get_elem? s.views k) (sym e) ∙ h.2))) ∙ h.4)))
+              (λ ne'. (h.0, h.1, stays_at h.0 h.1 ne ne' h.2, h.3, h.4)));
         };
       }
 
@@ -714,6 +745,7 @@ module _ {T E F : Type 0} (entries : T → List E) (caller : E → Option ℕ) (
         opened = sym (append-nil log);
         callers = tt;
         slot = inl (x, record { free = λ j u e. ap (λ (y : View E F). has_slot y.stage) (sym (one_at v j u e)); lies = refl; list = ap entries (sym is); part = ap fixed (sym is) });
+        untouched = λ e. ap (λ (y : T). some (Some y) ∷ []) (sym is);
         seats = record {
           sits = λ j u e. subst (λ (y : View E F). Sits entries caller fixed d 0 0 log y) (one_at v j u e)
               record { follows = follows_self (own caller v) log log refl; within = λ h. (omega arith, omega arith); part = λ h. refl; standing = tt };
@@ -721,21 +753,36 @@ module _ {T E F : Type 0} (entries : T → List E) (caller : E → Option ℕ) (
           once = λ j k u y t eu ey tu ty. one_index v j u eu ∙ sym (one_index v k y ey);
           held = λ t lo hi. absurd (omega arith);
           whole = (0, v, refl, some_caller, refl);
+          told = λ some_drawn. absurd (omega arith);
         };
       }
+
+  is_zero : (n : ℕ) → (0 < n → ⊥) → n ≡ 0
+  is_zero zero h = refl
+  is_zero (suc n) h = absurd (h (omega arith))
+
+  -- one slot has one value
+  one_home : (x y : T) → some (Some x) ∷ [] ≡ some (Some y) ∷ [] → x ≡ y
+  one_home x y e = some_same (some-injective (Some x) (Some y) (ap (λ (hs : List (maybe.Option (Option T))). front hs) e)) where
+    front : List (maybe.Option (Option T)) → maybe.Option (Option T)
+    front [] = none
+    front (h ∷ hs) = h
 
   -- at the end, with the view of the whole range idle, the value is at home, and its list is what the view has seen
   pub closes : (d : Deed T) (i : ℕ) (v : View E F) (ws : List ℕ) (xs : List (Option T)) → v.stage ≡ Idle → v.first ≡ d.first → v.end ≡ d.end → length xs ≡ 1
       → Final (Seen (Kept entries caller fixed d) i v) ws xs
-      → (x : T) × (get_elem? xs 0 ≡ some (Some x)) × (entries x ≡ v.seen) × (fixed x ≡ fixed d.value.value) × Added caller d.first d.end (entries d.value.value) (entries x)
+      → (x : T) × (get_elem? xs 0 ≡ some (Some x)) × (entries x ≡ v.seen) × (fixed x ≡ fixed d.value.value) × Added caller d.first d.end (entries d.value.value) (entries x) × (v.drew ≡ false → x ≡ d.value.value)
   closes d i v ws xs idle first end one fin =
       let s = fin.0 in let kept = fin.1.0 in let at = fin.1.1 in
       let mine : (j : ℕ) (u : View E F) → get_elem? s.views j ≡ some u → u.first < u.end → j ≡ i = λ j u eu lt. dite (ℕ_discrete j i) (λ e. e)
       (λ ne. let r = (kept.seats.sits j u eu).within lt in absurd (kept.seats.apart j i u v eu at ne u.first (omega arith) lt (omega arith) (omega arith))) in
       let w = kept.seats.whole in
       let seen : v.seen ≡ kept.log = ap (λ u. u.seen) (some-injective v w.1 (sym at ∙ (ap (λ k. get_elem? s.views k) (sym (mine w.0 w.1 w.2 w.3)) ∙ w.2))) ∙ w.4 in
+      let no_ticket : v.drew ≡ false → kept.drawn ≡ 0 = λ quiet. is_zero kept.drawn (λ some_drawn.
+      let h = kept.seats.told some_drawn in
+      true_false v.drew (ap (λ u. u.drew) (some-injective v h.1 (sym at ∙ (ap (λ k. get_elem? s.views k) (sym (mine h.0 h.1 h.2 h.3)) ∙ h.2))) ∙ h.4) quiet) in
       ⊎_elim
-      (λ h. (h.0, fin.4 0 (Some h.0) (ap (λ (hs : List (maybe.Option (Option T))). get_elem? hs 0) h.1.lies), h.1.list ∙ sym seen, h.1.part, record { more = kept.added; whole = h.1.list ∙ kept.opened; callers = kept.callers }))
+      (λ h. (h.0, fin.4 0 (Some h.0) (ap (λ (hs : List (maybe.Option (Option T))). get_elem? hs 0) h.1.lies), h.1.list ∙ sym seen, h.1.part, record { more = kept.added; whole = h.1.list ∙ kept.opened; callers = kept.callers }, (λ quiet. one_home h.0 d.value.value (sym h.1.lies ∙ kept.untouched (no_ticket quiet)))))
       (λ q. absurd (
       let st = (kept.seats.sits q.0 q.1 q.2.at).standing in
       let j = mine q.0 q.1 q.2.at (slot_range caller kept.served kept.drawn kept.log q.1 q.1.stage st q.2.has) in

@@ -11,7 +11,7 @@ use Rattle.hist_lock.specs.declared.view.Deed.{Deed}
 use Rattle.hist_lock.proofs.RuleLemmas.{closes}
 use Rattle.hist_lock.specs.Ranges.{in_range, Follows, Grows, Added}
 use Rattle.hist_lock.specs.Rule.{Kept, has_slot, number, own}
-use Rattle.hist_lock.specs.Steps.{Mine, Settles, both, with_stage, with_seen, Takes}
+use Rattle.hist_lock.specs.Steps.{Mine, Settles, both, waiting, with_seen, Takes}
 use Rattle.hist_lock.specs.Known.{Lock, Known, Rests, known, is_own}
 
 same_head : {A : Type 0} (a b : A) (xs ys : List A) → a ∷ xs ≡ b ∷ ys → a ≡ b
@@ -45,7 +45,7 @@ module _ {T E : Type 0} where
 module _ {T E F : Type 0} (entries : T → List E) (caller : E → Option ℕ) (fixed : T → F) where
   -- the value that was taken begins with what the seat knew
   pub took : (z : TableId) (s : Known E F) (m m' m'' : Mine T E F) (t : ℕ) (y : T) → known z m.0 ≡ s
-      → m' ≡ (with_stage m.0 (Waits t), m.1) → Takes entries caller fixed m' t m'' → m''.1 ≡ (0, Some y) ∷ rest m''.1
+      → m' ≡ (waiting m.0 t, m.1) → Takes entries caller fixed m' t m'' → m''.1 ≡ (0, Some y) ∷ rest m''.1
       → Follows (is_own caller s) s.seen (entries y)
   took z s m m' m'' t y is drew takes there =
       let x : T = takes.0 in
@@ -79,16 +79,16 @@ module _ {T E F : Type 0} (entries : T → List E) (caller : E → Option ℕ) (
       )
 
   -- with the seat of the whole range at rest, the slot's value has the list that the seat knows
-  pub closing : (d : Deed T) (i : ℕ) (z z' : TableId) (l : Lock E F) (s : Known E F) (m : Mine T E F) (ws : List ℕ) (xs : List (Option T)) (o : Option T)
-      → record { name = z; began = entries d.value.value; first = d.first; end = d.end; part = fixed d.value.value } ≡ l → known z' m.0 ≡ s → s.taken ≡ false → Rests m.0.stage m.1
+  pub closing : (d : Deed T) (i : ℕ) (z z' : TableId) (l : Lock T E F) (s : Known E F) (m : Mine T E F) (ws : List ℕ) (xs : List (Option T)) (o : Option T)
+      → record { name = z; value = d.value.value; began = entries d.value.value; first = d.first; end = d.end; part = fixed d.value.value } ≡ l → known z' m.0 ≡ s → s.taken ≡ false → Rests m.0.stage m.1
       → s.first ≡ l.first → s.end ≡ l.end → length xs ≡ 1 → Final (Seen (Kept entries caller fixed d) i m.0) ws xs → get_elem? xs 0 ≡ some o
-      → (x : T) × (o ≡ Some x) × (entries x ≡ s.seen) × Added caller l.first l.end l.began (entries x) × (fixed x ≡ l.part)
+      → (x : T) × (o ≡ Some x) × (entries x ≡ s.seen) × Added caller l.first l.end l.began (entries x) × (fixed x ≡ l.part) × (s.took ≡ false → x ≡ l.value)
   closing d i z z' l s m ws xs o lock is free rests first end one fin there =
       let idle = rests_idle m.0.stage m.1 (ap (λ (k : Known E F). k.taken) is ∙ free) rests in
       let c = closes entries caller fixed d i m.0 ws xs idle.0
-      (ap (λ (k : Known E F). k.first) is ∙ (first ∙ sym (ap (λ (k : Lock E F). k.first) lock))) (ap (λ (k : Known E F). k.end) is ∙ (end ∙ sym (ap (λ (k : Lock E F). k.end) lock))) one fin in
-      let P : Lock E F → Type 0 = λ k. Added caller k.first k.end k.began (entries c.0) in
-      (c.0, some-injective o (Some c.0) (sym there ∙ c.1), c.2 ∙ ap (λ (k : Known E F). k.seen) is, subst P lock c.4, c.3 ∙ ap (λ (k : Lock E F). k.part) lock)
+      (ap (λ (k : Known E F). k.first) is ∙ (first ∙ sym (ap (λ (k : Lock T E F). k.first) lock))) (ap (λ (k : Known E F). k.end) is ∙ (end ∙ sym (ap (λ (k : Lock T E F). k.end) lock))) one fin in
+      let P : Lock T E F → Type 0 = λ k. Added caller k.first k.end k.began (entries c.0) in
+      (c.0, some-injective o (Some c.0) (sym there ∙ c.1), c.2 ∙ ap (λ (k : Known E F). k.seen) is, subst P lock c.4, c.3 ∙ ap (λ (k : Lock T E F). k.part) lock, (λ quiet. c.5 (ap (λ (k : Known E F). k.took) is ∙ quiet) ∙ ap (λ (k : Lock T E F). k.value) lock))
 
   follows_at : (a a' b b' : ℕ) (xs xs' l l' : List E) → a ≡ a' → b ≡ b' → xs ≡ xs' → l ≡ l' → Follows (λ e. in_range a b (caller e)) xs l → Follows (λ e. in_range a' b' (caller e)) xs' l'
   follows_at a a' b b' xs xs' l l' ea eb ex el f =

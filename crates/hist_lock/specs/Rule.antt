@@ -58,7 +58,7 @@ own caller v e = in_range v.first v.end (caller e)
 module _ {T E F : Type 0} (entries : T → List E) (fixed : T → F) where
   -- the first view has the whole range and the opening list
   abbrev pub starting : Deed T → View E F
-  starting d = record { first = d.first; end = d.end; seen = entries d.value.value; stage = Idle; fixed = Some (fixed d.value.value) }
+  starting d = record { first = d.first; end = d.end; seen = entries d.value.value; stage = Idle; fixed = Some (fixed d.value.value); drew = false }
 
 module _ {T E F : Type 0} (entries : T → List E) (caller : E → Option ℕ) (fixed : T → F) where
   -- what holds of one view. One with an empty range, which was joined with another, has no ticket
@@ -68,13 +68,15 @@ module _ {T E F : Type 0} (entries : T → List E) (caller : E → Option ℕ) (
     pub part : v.first < v.end → v.fixed ≡ Some (fixed d.value.value)
     pub standing : Standing caller served drawn log v v.stage
 
-  -- what holds of all views together: their ranges are disjoint; each ticket from the served up to the drawn is one view's; and one view with a caller has seen the whole log
+  -- what holds of all views together: their ranges are disjoint; each ticket from the served up to the drawn is one view's; one view with a caller has seen the whole log; and if a ticket was
+  -- drawn, one view with a caller knows of it
   pub record Seats (d : Deed T) (served drawn : ℕ) (log : List E) (views : List (View E F)) : Type 0 where
     pub sits : (j : ℕ) (v : View E F) → get_elem? views j ≡ some v → Sits d served drawn log v
     pub apart : (j k : ℕ) (v w : View E F) → get_elem? views j ≡ some v → get_elem? views k ≡ some w → j ≢ k → Apart v w
     pub once : (j k : ℕ) (v w : View E F) (t : ℕ) → get_elem? views j ≡ some v → get_elem? views k ≡ some w → ticket v.stage ≡ Some t → ticket w.stage ≡ Some t → j ≡ k
     pub held : (t : ℕ) → served ≤ t → t < drawn → (j : ℕ) × (v : View E F) × (get_elem? views j ≡ some v) × (ticket v.stage ≡ Some t)
     pub whole : (j : ℕ) × (v : View E F) × (get_elem? views j ≡ some v) × (v.first < v.end) × (v.seen ≡ log)
+    pub told : 0 < drawn → (j : ℕ) × (v : View E F) × (get_elem? views j ≡ some v) × (v.first < v.end) × (v.drew ≡ true)
 
   -- the value is at home: its list is the log, and its part is the lock's
   pub record Home (d : Deed T) (log : List E) (homes : List (maybe.Option (Option T))) (views : List (View E F)) (x : T) : Type 0 where
@@ -92,7 +94,7 @@ module _ {T E F : Type 0} (entries : T → List E) (caller : E → Option ℕ) (
   abbrev pub Placed : Deed T → List E → List (maybe.Option (Option T)) → List (View E F) → Type 0
   Placed d log homes views = ((x : T) × Home d log homes views x) ⊎ ((j : ℕ) × (v : View E F) × Out homes views j v)
 
-  -- the rule: the words count the tickets and the log; the log is the opening list and what callers of the whole range, or none, added
+  -- the rule: the words count the tickets and the log; the log is the opening list and what callers of the whole range, or none, added; and before the first ticket the value is the opening one
   pub record Kept (d : Deed T) (s : State (Option T) (View E F)) : Type 0 where
     pub drawn : ℕ
     pub served : ℕ
@@ -104,4 +106,5 @@ module _ {T E F : Type 0} (entries : T → List E) (caller : E → Option ℕ) (
     pub opened : log ≡ entries d.value.value ++ added
     pub callers : Each (λ e. may_add d.first d.end (caller e)) added
     pub slot : Placed d log s.homes s.views
+    pub untouched : drawn ≡ 0 → s.homes ≡ some (Some d.value.value) ∷ []
     pub seats : Seats d served drawn log s.views

@@ -1,19 +1,22 @@
--- The roll of calls, what one caller made of them, and what a hold leaves of a seat.
+-- The roll of calls that the tests keep under a lock, what one caller made of them, and what a hold leaves of a seat.
 use Rattle.std.specs.Prelude.{◌≡◌, ℕ, zero, suc, ◌<◌, ◌≤◌, ◌==◌, false, List, [], ◌∷◌, ◌++◌, filter, Option, Some}
-use Rattle.hist_lock.specs.declared.sample.Call.{Call}
 use Rattle.hist_lock.specs.Known.{Known}
 
+-- who made it, and how many calls its caller had made before
+abbrev pub Call : Type 0
+Call = ℕ × ℕ
+
 abbrev pub call : ℕ → ℕ → Call
-call caller number = record { caller = caller; number = number }
+call caller number = (caller, number)
 
 abbrev pub by : Call → Option ℕ
-by c = Some c.caller
+by c = Some c.0
 
 -- the calls of one caller, in order
 abbrev pub mine : ℕ → List Call → List Call
-mine caller calls = filter (λ c. c.caller == caller) calls
+mine caller calls = filter (λ c. c.0 == caller) calls
 
--- so many calls of a caller, numbered from 0
+-- the first n calls of a caller, numbered from 0
 abbrev pub numbered : ℕ → ℕ → List Call
 numbered caller zero = []
 numbered caller (suc n) = numbered caller n ++ call caller n ∷ []
@@ -22,7 +25,13 @@ numbered caller (suc n) = numbered caller n ++ call caller n ∷ []
 abbrev pub Made : ℕ → List Call → List Call → List Call → Type 0
 Made caller calls old new = mine caller new ≡ mine caller old ++ calls
 
--- each caller from first up to end made so many calls
+-- of `count` calls the caller made the first few
+pub record MadeFew (caller count : ℕ) (old new : List Call) : Type 0 where
+  pub few : ℕ
+  pub fewer : few < count
+  pub calls : Made caller (numbered caller few) old new
+
+-- each caller from first up to end made `count` calls
 pub record EachMade (first end count : ℕ) (old new : List Call) : Type 0 where
   pub each : (caller : ℕ) → first ≤ caller → caller < end → Made caller (numbered caller count) old new
 

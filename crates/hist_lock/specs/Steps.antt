@@ -1,5 +1,5 @@
 -- What each kind of step tells: of the step, the seat before it, the number found, and the seat after it.
-use Rattle.std.specs.Prelude.{◌≡◌, ◌≢◌, ℕ, ◌<◌, List, [], ◌∷◌, Option, Some, None}
+use Rattle.std.specs.Prelude.{◌≡◌, ◌≢◌, ℕ, ◌<◌, true, false, ◌||◌, List, [], ◌∷◌, Option, Some, None}
 use Rattle.atomic_table.specs.Table.{Me, Step, rest}
 use Rattle.hist_lock.specs.declared.view.View.{View}
 use Rattle.hist_lock.specs.declared.view.Stage.{Stage}
@@ -13,15 +13,19 @@ Mine T E F = Me (Option T) (View E F)
 
 module _ {E F : Type 0} where
   abbrev pub with_stage : View E F → Stage E → View E F
-  with_stage v g = record { first = v.first; end = v.end; seen = v.seen; stage = g; fixed = v.fixed }
+  with_stage v g = record { first = v.first; end = v.end; seen = v.seen; stage = g; fixed = v.fixed; drew = v.drew }
+
+  -- the view, waiting with a ticket that it drew
+  abbrev pub waiting : View E F → ℕ → View E F
+  waiting v ticket = record { first = v.first; end = v.end; seen = v.seen; stage = Waits ticket; fixed = v.fixed; drew = true }
 
   abbrev pub with_seen : View E F → List E → Stage E → View E F
-  with_seen v xs g = record { first = v.first; end = v.end; seen = xs; stage = g; fixed = v.fixed }
+  with_seen v xs g = record { first = v.first; end = v.end; seen = xs; stage = g; fixed = v.fixed; drew = v.drew }
 
 module _ {T E F : Type 0} where
   -- a ticket was drawn, or nothing changed
   abbrev pub Draws : Step (Option T) → Mine T E F → ℕ → Mine T E F → Type 0
-  Draws st m found m' = (found ≡ st.first → m' ≡ (with_stage m.0 (Waits found), m.1)) × (found ≢ st.first → m' ≡ m)
+  Draws st m found m' = (found ≡ st.first → m' ≡ (waiting m.0 found, m.1)) × (found ≢ st.first → m' ≡ m)
 
   -- the slot was given back, and the turn passed on. The number found is not the greatest of its type
   abbrev pub Passes : Step (Option T) → Mine T E F → ℕ → Mine T E F → Type 0
@@ -48,15 +52,15 @@ module _ {T E F : Type 0} (entries : T → List E) (caller : E → Option ℕ) (
 module _ {E F : Type 0} where
   -- the view with the callers below a limit, and the view with the others
   abbrev pub below : ℕ → View E F → View E F
-  below at v = record { first = v.first; end = at; seen = v.seen; stage = Idle; fixed = v.fixed }
+  below at v = record { first = v.first; end = at; seen = v.seen; stage = Idle; fixed = v.fixed; drew = v.drew }
 
   abbrev pub above : ℕ → View E F → View E F
-  above at v = record { first = at; end = v.end; seen = v.seen; stage = Idle; fixed = v.fixed }
+  above at v = record { first = at; end = v.end; seen = v.seen; stage = Idle; fixed = v.fixed; drew = v.drew }
 
   -- one view of two neighbouring ranges
   abbrev pub both : View E F → View E F → View E F
-  both v w = record { first = v.first; end = w.end; seen = longer v.seen w.seen; stage = Met v.end v.seen w.seen; fixed = v.fixed }
+  both v w = record { first = v.first; end = w.end; seen = longer v.seen w.seen; stage = Met v.end v.seen w.seen; fixed = v.fixed; drew = v.drew || w.drew }
 
   -- the view of a seat that was joined with another
   abbrev pub spent : View E F
-  spent = record { first = 0; end = 0; seen = []; stage = Idle; fixed = None }
+  spent = record { first = 0; end = 0; seen = []; stage = Idle; fixed = None; drew = false }

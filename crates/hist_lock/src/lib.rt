@@ -4,11 +4,11 @@
 
 mod lock;
 mod rule;
+#[cfg(test)]
 mod sample;
 mod storied;
 #[cfg(test)]
 mod tests;
-mod threads;
 mod view;
 
 pub use lock::{HistLock, Seat};

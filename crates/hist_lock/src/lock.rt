@@ -1,8 +1,9 @@
 //! The lock and its seats.
-ghost use Rattle.std.specs.Prelude.{◌≡◌, ℕ, ◌<◌, ◌≤◌, ◌∷◌, [], IfOk, IfErr, Ok, Some};
+
+ghost use Rattle.std.specs.Prelude.{◌≡◌, ℕ, ◌<◌, ◌≤◌, ◌∷◌, [], IfOk, IfErr, Ok, Some, false};
 ghost use Rattle.hist_lock.specs.Ranges.{Follows, Grows, Added};
 ghost use Rattle.hist_lock.specs.Rule.{number};
-ghost use Rattle.hist_lock.specs.Steps.{with_stage, with_seen, Takes, below, above};
+ghost use Rattle.hist_lock.specs.Steps.{with_seen, waiting, Takes, below, above};
 ghost use Rattle.hist_lock.specs.declared.view.Stage.TheVariants.{Idle, Waits, Holds, Noted};
 ghost use Rattle.hist_lock.specs.Known.{Begins, IsFree, HasTaken, is_own, whole, taking, giving, with_range, meeting};
 
@@ -16,12 +17,12 @@ use std::marker::{Brand, Model};
 use std::snapshot::Snapshot;
 use std::sync::Wait;
 
-// How many times a seat looks at the serving number before it sleeps between its looks.
+/// How many times a seat looks at the serving number before it sleeps between its looks.
 const LOOKS: u32 = 100;
 
 /// A lock round a value that keeps a list. Callers take turns, in the order of their tickets. Contracts see which
-/// lock it is, its whole range of callers, the list that it began with, and its fixed part. It has no `Drop`: it
-/// ends by `close`.
+/// lock it is, its whole range of callers, and the value that it began with, with that value's list and fixed part.
+/// It has no `Drop`: it ends by `close`.
 pub struct HistLock<T: Storied> {
     table: Table<Option<T>, View<T::Entry, T::Fixed>, Deed<T>, Turns, Global>,
 }
@@ -30,7 +31,7 @@ impl<T: Storied> Model for HistLock<T> {
     ghost use Rattle.std.specs.Prelude.{◌≡◌};
     ghost use Rattle.hist_lock.specs.Known.{Lock, lock_of};
 
-    ghost Value = { Lock T.Entry T.Fixed };
+    ghost Value = { Lock T T.Entry T.Fixed };
 
     ghost view = { λ l. lock_of T.entries T.fixed l.table.shared.table_id l.table.shared.key };
 
@@ -65,10 +66,10 @@ impl<T: Storied> Model for Seat<T> {
 
 impl<T: Storied> HistLock<T> {
     /// A lock round the value for the callers from `first` up to `end`, which is not among them, and the seat of
-    /// all of them, which knows the value's list; or the value back, for want of memory alone.
+    /// all of them, which knows the value's list; or the value back, if memory ran out.
     pub fn new(alloc: Global, value: T, first: u32, end: u32) -> Result<(HistLock<T>, Seat<T>), T>
         requires { first < end }
-        ensures lock { IfOk result (λ r. Begins (T.entries value) first end (T.fixed value) r.0) }
+        ensures lock { IfOk result (λ r. Begins T.entries T.fixed value first end r.0) }
         ensures seat { IfOk result (λ r. r.1 ≡ whole r.0) }
         ensures err { IfErr result (λ v. v ≡ value) }
     {
@@ -154,13 +155,15 @@ impl<T: Storied> HistLock<T> {
     }
 
     /// Ends the lock, with the seat of its whole range, and gives the value. Its list is just what the seat knows;
-    /// what was added to the list that the lock began with is by callers of the whole range, or by none.
+    /// what was added to the list that the lock began with is by callers of the whole range, or by none. If no seat
+    /// ever took the value, it is the one that the lock began with.
     pub fn close(self, seat: Seat<T>) -> T
         requires seat { IsFree self seat }
         requires whole { (seat.first ≡ self.first) × (seat.end ≡ self.end) }
         ensures list { T.entries result ≡ seat.seen }
         ensures callers { Added T.caller self.first self.end self.began (T.entries result) }
         ensures part { T.fixed result ≡ self.part }
+        ensures untouched { seat.took ≡ false → result ≡ self.value }
     {
         let HistLock { table } = self;
         let Seat { place } = seat;
@@ -171,7 +174,7 @@ impl<T: Storied> HistLock<T> {
     }
 }
 
-// The one value of a list that was refused.
+/// The one value of a list that was refused.
 fn only<T>(mut slots: Vec<Option<T>>) -> T
     requires { (x : T) × (slots.items ≡ Some x ∷ []) }
     ensures { slots.items ≡ Some result ∷ [] }
@@ -183,12 +186,12 @@ fn only<T>(mut slots: Vec<Option<T>>) -> T
     value
 }
 
-// Draws a ticket. If no ticket were left, it would wait for good.
+/// Draws a ticket. If no ticket were left, it would wait for good.
 fn draw<T: Storied, R: Wait>(rt: &R, words: &Words<T>, place: &mut Place<T>) -> u64
     requires table { (place.old.table_id ≡ words.now.table_id) × (words.now.table_id.words ≡ 3) }
     requires idle { (place.old.me.0.stage ≡ Idle) × (place.old.me.0.first < place.old.me.0.end) }
     ensures same { (place.new.table_id ≡ place.old.table_id) × (place.new.id ≡ place.old.id) }
-    ensures waits { place.new.me ≡ (with_stage place.old.me.0 (Waits result), place.old.me.1) }
+    ensures waits { place.new.me ≡ (waiting place.old.me.0 result, place.old.me.1) }
 {
     let mut guess = words.peek(0);
     for _ in rt.forever() {
@@ -203,7 +206,7 @@ fn draw<T: Storied, R: Wait>(rt: &R, words: &Words<T>, place: &mut Place<T>) -> 
     unreachable!()
 }
 
-// Waits until the ticket is served, and takes the slot.
+/// Waits until the ticket is served, and takes the slot.
 fn await_turn<T: Storied, R: Wait>(rt: &R, words: &Words<T>, place: &mut Place<T>, ticket: u64)
     requires table { (place.old.table_id ≡ words.now.table_id) × (words.now.table_id.words ≡ 3) }
     requires waits { place.old.me.0.stage ≡ Waits ticket }
@@ -226,7 +229,7 @@ fn await_turn<T: Storied, R: Wait>(rt: &R, words: &Words<T>, place: &mut Place<T
     unreachable!()
 }
 
-// Notes the length of the list of the value that the seat is about to give.
+/// Notes the length of the list of the value that the seat is about to give.
 fn note<T: Storied, N: Telling<T>>(words: &Words<T>, place: &mut Place<T>, value: &T)
     requires told { N.told ≡ Some value.now }
     requires table { (place.old.table_id ≡ words.now.table_id) × (words.now.table_id.words ≡ 3) }
@@ -239,7 +242,7 @@ fn note<T: Storied, N: Telling<T>>(words: &Words<T>, place: &mut Place<T>, value
     words.store::<Note<N>>(place, 2, value.len());
 }
 
-// Cuts a seat's range.
+/// Cuts a seat's range.
 fn cut<T: Storied, C: Limit>(words: &Words<T>, place: &mut Place<T>, at: u32) -> Place<T>
     requires limit { at ≡ C.at }
     requires table { (place.old.table_id ≡ words.now.table_id) × (words.now.table_id.words ≡ 3) }

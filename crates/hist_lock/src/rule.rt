@@ -12,6 +12,7 @@
 //! | `Cut`: split a seat | word 0, by a load that tells nothing |
 //! | `Neighbours`: join two seats | word 0, by a load that tells nothing |
 //! | `Settle`: after a join, learn how the two lists lie | word 1, by a load |
+
 use crate::storied::Storied;
 use crate::view::{Deed, View};
 use atomic_table::{Join, Play, Split, TableRule};

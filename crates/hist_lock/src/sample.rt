@@ -1,9 +1,11 @@
-//! The lock in use, in small: callers enter their calls into one roll, on threads of their own. The tests run it.
+//! The lock in use, in small: callers enter their calls into one roll, on threads of their own. The tests run it; the
+//! library has none of it.
+
 ghost use Rattle.std.specs.Prelude.{◌≡◌, ◌<◌, ◌≤◌, ◌++◌, ◌∷◌, [], IfOk, OnOk, OnErr};
 ghost use Rattle.std.specs.Thread.{IsSync};
 ghost use Rattle.hist_lock.specs.Ranges.{Added};
 ghost use Rattle.hist_lock.specs.Known.{IsFree};
-ghost use Rattle.hist_lock.specs.Sample.{call, by, numbered, Made, EachMade, IsSame};
+ghost use Rattle.hist_lock.specs.Sample.{call, by, numbered, Made, MadeFew, EachMade, IsSame};
 
 use crate::lock::{HistLock, Seat};
 use crate::storied::Storied;
@@ -11,14 +13,8 @@ use std::alloc::{AllocError, Global};
 use std::sync::Wait;
 use std::thread::{Threads, join_mut};
 
-/// One call.
-#[derive(Clone, Copy)]
-pub struct Call {
-    /// Who made it.
-    pub caller: u32,
-    /// How many calls its caller had made before.
-    pub number: u64,
-}
+/// One call: who made it, and how many calls its caller had made before.
+pub type Call = (u32, u64);
 
 /// The calls of all callers, oldest first.
 #[derive(Drop)]
@@ -48,18 +44,19 @@ impl Storied for Roll {
 }
 
 impl Roll {
+    /// Enters a call. If memory runs out, the roll stays as it was.
     fn enter(&mut self, caller: u32, number: u64) -> Result<(), AllocError>
         ensures ok { OnOk result (self.new.calls.items ≡ self.old.calls.items ++ call caller number ∷ []) }
         ensures err { OnErr result (self.new.calls.items ≡ self.old.calls.items) }
         ensures label { self.new.label ≡ self.old.label }
     {
         self.calls.reserve(1)?;
-        self.calls.push_reserved(Call { caller, number });
+        self.calls.push_reserved((caller, number));
         Ok(())
     }
 }
 
-/// One call of a caller, in one hold.
+/// One call of a caller, in one hold. If memory runs out, no caller of the seat entered a call.
 pub fn enter<R: Wait>(
     rt: &R,
     lock: &HistLock<Roll>,
@@ -71,6 +68,7 @@ pub fn enter<R: Wait>(
     requires caller { (seat.old.first ≤ caller) × (caller < seat.old.end) }
     ensures seat { IsSame seat.old seat.new }
     ensures made { OnOk result (Made caller (call caller number ∷ []) seat.old.seen seat.new.seen) }
+    ensures err { OnErr result (EachMade seat.old.first seat.old.end 0 seat.old.seen seat.new.seen) }
 {
     let mut roll = lock.take(rt, seat);
     let done = roll.enter(caller, number);
@@ -97,7 +95,7 @@ pub fn in_turn<R: Wait>(rt: &R, alloc: Global, roll: Roll) -> Result<Roll, Alloc
     Ok(roll)
 }
 
-// The calls of one caller, one after another.
+/// The calls of one caller, one after another. If memory runs out, it made the first of them alone.
 fn enter_many<R: Wait>(
     rt: &R,
     lock: &HistLock<Roll>,
@@ -109,6 +107,7 @@ fn enter_many<R: Wait>(
     requires caller { (seat.old.first ≤ caller) × (caller < seat.old.end) }
     ensures seat { IsSame seat.old seat.new }
     ensures made { OnOk result (Made caller (numbered caller count) seat.old.seen seat.new.seen) }
+    ensures err { OnErr result (MadeFew caller count seat.old.seen seat.new.seen) }
 {
     for number in 0..count {
         enter(rt, lock, seat, caller, number)?;
@@ -116,7 +115,7 @@ fn enter_many<R: Wait>(
     Ok(())
 }
 
-// Each caller of the seat makes its calls, on a thread of its own.
+/// Each caller of the seat makes its calls, on a thread of its own.
 fn enter_all<R: Threads + Wait + Sync>(
     rt: &R,
     lock: &HistLock<Roll>,
@@ -155,7 +154,21 @@ fn enter_all<R: Threads + Wait + Sync>(
     high
 }
 
-/// Callers make so many calls each, each on a thread of its own.
+/// Nobody takes the roll, though its seat is cut in two and met again: it comes back as it was.
+pub fn unused(alloc: Global, roll: Roll) -> Roll
+    ensures { result ≡ roll }
+{
+    match HistLock::new(alloc, roll, 0, 2) {
+        Ok((lock, mut low)) => {
+            let high = lock.split(&mut low, 1).unwrap();
+            lock.meet(&mut low, high);
+            lock.close(low)
+        }
+        Err(roll) => roll,
+    }
+}
+
+/// Each caller makes `count` calls, on a thread of its own.
 pub fn at_once<R: Threads + Wait + Sync>(
     rt: &R,
     alloc: Global,

@@ -1,4 +1,5 @@
 //! What a value under the lock means.
+
 ghost use Rattle.std.specs.Prelude.{◌≡◌, ℕ, List, length, Option};
 
 /// A value that keeps a list of entries, of which a caller may have made each.

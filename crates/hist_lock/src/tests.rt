@@ -1,7 +1,8 @@
 //! The lock, with callers in turn and at once.
 
-use crate::sample::{Call, Roll, at_once, in_turn};
-use crate::threads::crosses_threads;
+use crate::lock::{HistLock, Seat};
+use crate::sample::{Call, Roll, at_once, in_turn, unused};
+use crate::storied::Storied;
 use std::alloc::Global;
 use std::test::Fail;
 
@@ -12,12 +13,24 @@ fn empty(alloc: Global) -> Roll {
     }
 }
 
-/// Whether the calls of a caller are numbered in order, and are so many.
+fn needs_send<X: Send>() {}
+
+fn needs_sync<X: Sync>() {}
+
+/// That it is proved shows: a lock and its seats may cross threads if the value may, and a lock may
+/// be shared.
+fn crosses_threads<T: Storied + Send>() {
+    needs_send::<HistLock<T>>();
+    needs_sync::<HistLock<T>>();
+    needs_send::<Seat<T>>();
+}
+
+/// Whether the calls of a caller are numbered in order from 0, and there are `count` of them.
 fn are_in_order(calls: &[Call], caller: u32, count: u64) -> bool {
     let mut next = 0;
     for call in calls {
-        if call.caller == caller {
-            if next >= count || call.number != next {
+        if call.0 == caller {
+            if next >= count || call.1 != next {
                 return false;
             }
             next += 1;
@@ -32,8 +45,10 @@ fn two_callers_in_turn(rt: HostRuntime) -> Result<(), Fail> {
     let roll = in_turn(&rt, rt.alloc(), empty(rt.alloc()))?;
     assert_eq!(rt; roll.label, 7);
     assert_eq!(rt; roll.calls.len(), 2);
-    assert_eq!(rt; (roll.calls[0].caller, roll.calls[0].number), (0, 0));
-    assert_eq!(rt; (roll.calls[1].caller, roll.calls[1].number), (1, 0));
+    assert_eq!(rt; roll.calls[0], (0, 0));
+    assert_eq!(rt; roll.calls[1], (1, 0));
+    let roll = unused(rt.alloc(), roll);
+    assert_eq!(rt; (roll.label, roll.calls.len()), (7, 2));
     Ok(())
 }
 

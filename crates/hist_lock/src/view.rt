@@ -1,5 +1,6 @@
 //! What a seat knows, and what the lock was told when it was made. Proofs alone read these types: no value of the first
 //! two is made, and one of the third is let go as soon as the lock is made.
+
 use std::collections::LinkedList;
 use std::snapshot::Snapshot;
 
@@ -27,8 +28,10 @@ pub struct View<E, F> {
     pub seen: LinkedList<E>,
     /// What it is about.
     pub stage: Stage<E>,
-    /// The lock's fixed part; none, where it was joined with another seat and let go.
+    /// The lock's fixed part; none, if it was joined with another seat and let go.
     pub fixed: Option<F>,
+    /// Whether it has drawn a ticket, or came from a seat that had.
+    pub drew: bool,
 }
 
 /// What the lock was told when it was made.

@@ -6,5 +6,10 @@ pub mod MountLaws
 pub mod BackLaws
 pub mod DiskLaws
 pub mod GroundLaws
+pub mod NameLaws
+pub mod BaseLaws
+pub mod StandLaws
+pub mod ViaLaws
+pub mod DepthLaws
 pub mod SoundLaws
 mod Rows

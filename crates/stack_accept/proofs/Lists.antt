@@ -1,8 +1,8 @@
 -- Lists: their reverses, counts, tests and places.
-use Rattle.std.proofs.Common.{◌≡◌, ℕ, ◌+◌, ◌<◌, ◌≤◌, List, [], ◌∷◌, ◌++◌, length, map, reverse, Bool, true, false, not, ◌||◌, cond, count_by, Some, None, refl, ap, ◌∙◌, inl, inr, arith}
-use Rattle.std.specs.Prelude.{nat_lt, position, ◌⊎◌}
-use Rattle.std.specs.List.{position_or_len, list_any, filter, find}
-use Rattle.std.proofs.lemmas.Bool.{cases_Bool, or_cases, or_left, or_right, or_parts, or_from, cond_both, cond-true, cond-false, both_ways, false≢true, not_from_true, not_from_false}
+use Rattle.std.proofs.Common.{◌≡◌, ℕ, zero, suc, ◌+◌, ◌<◌, ◌≤◌, List, [], ◌∷◌, ◌++◌, length, map, reverse, Bool, true, false, not, ◌||◌, cond, count_by, Some, None, refl, sym, ap, subst, ◌∙◌, inl, inr, arith}
+use Rattle.std.specs.Prelude.{nat_lt, position, slice_get, unwrap_or, ◌⊎◌}
+use Rattle.std.specs.List.{position_or_len, list_any, filter, find, AllByRecursion}
+use Rattle.std.proofs.lemmas.Bool.{cases_Bool, lt-ltb, or_cases, or_left, or_right, or_parts, or_from, cond_both, cond-true, cond-false, both_ways, false≢true, not_from_true, not_from_false}
 use Rattle.std.proofs.lemmas.List.{length-map}
 use Rattle.std.proofs.lemmas.List.Folds.{list_any-append}
 use Rattle.std.proofs.lemmas.List.Sums.{sum_by-append}
@@ -111,3 +111,87 @@ place_front p (x ∷ front) back e =
           let step : position_or_len p (x ∷ front ++ back) ≡ 1 + position_or_len p (front ++ back) = cond-true (not (p x)) (1 + position_or_len p (front ++ back)) 0 (not_from_false (p x) not_here) in
           elim (place_front p front back e) [ inl l ↦ inl (omega (arith, l, step)) | inr r ↦ inr (omega (arith, r, step)) ]
     ]
+
+pub same_value : {X : Type 0} (a b : X) → Some a ≡ Some b → a ≡ b
+same_value a b e = cc
+
+-- what holds of each element holds of the first that passes a test, of those that pass it, and of the one at a place
+pub all_found : {X : Type 0} (P : X → Type 0) (p : X → Bool) (xs : List X) (x : X) → AllByRecursion P xs → find p xs ≡ Some x → P x
+all_found P p [] x h e = absurd cc
+all_found P p (y ∷ xs) x h e =
+    elim (cases_Bool (p y)) [
+      | inl here ↦ subst P (same_value y x (sym (cond-true (p y) (Some y) (find p xs) here) ∙ e)) h.0
+      | inr not_here ↦ all_found P p xs x h.1 (sym (cond-false (p y) (Some y) (find p xs) not_here) ∙ e)
+    ]
+
+pub all_filtered : {X : Type 0} (P : X → Type 0) (p : X → Bool) (xs : List X) → AllByRecursion P xs → AllByRecursion (λ x. (p x ≡ true) × P x) (filter p xs)
+all_filtered P p [] h = tt
+all_filtered P p (x ∷ xs) h =
+    let rest = all_filtered P p xs h.1 in
+    cond_both (p x) (x ∷ filter p xs) (filter p xs) (AllByRecursion (λ y. (p y ≡ true) × P y)) (λ e. ((e, h.0), rest)) (λ _. rest)
+
+pub all_got : {X : Type 0} (P : X → Type 0) (xs : List X) (i : ℕ) (x : X) → AllByRecursion P xs → slice_get xs i ≡ Some x → P x
+all_got P [] i x h e = absurd cc
+all_got P (y ∷ xs) zero x h e = subst P (same_value y x e) h.0
+all_got P (y ∷ xs) (suc i) x h e = all_got P xs i x h.1 e
+
+pub all_weakly : {X : Type 0} (P Q : X → Type 0) → ((x : X) → P x → Q x) → (xs : List X) → AllByRecursion P xs → AllByRecursion Q xs
+all_weakly P Q f [] h = tt
+all_weakly P Q f (x ∷ xs) h = (f x h.0, all_weakly P Q f xs h.1)
+
+-- a found element passes
+pub found_passes : {X : Type 0} (p : X → Bool) (xs : List X) (x : X) → find p xs ≡ Some x → p x ≡ true
+found_passes p [] x e = absurd cc
+found_passes p (y ∷ xs) x e =
+    elim (cases_Bool (p y)) [
+      | inl here ↦ subst (λ z. p z ≡ true) (same_value y x (sym (cond-true (p y) (Some y) (find p xs) here) ∙ e)) here
+      | inr not_here ↦ found_passes p xs x (sym (cond-false (p y) (Some y) (find p xs) not_here) ∙ e)
+    ]
+
+-- where one passes, the one at the first place that passes does
+record IsAtPlace {X : Type 0} (p : X → Bool) (xs : List X) (place : ℕ) : Type 0 where
+  pub inside : place < length xs
+  pub passes : (x : X) → slice_get xs place ≡ Some x → p x ≡ true
+
+at_place : {X : Type 0} (p : X → Bool) (xs : List X) → list_any p xs ≡ true → IsAtPlace p xs (position_or_len p xs)
+at_place p [] e = absurd (false≢true e)
+at_place p (y ∷ xs) e =
+    elim (cases_Bool (p y)) [
+      | inl here ↦
+          let first : position_or_len p (y ∷ xs) ≡ 0 = cond-false (not (p y)) (1 + position_or_len p xs) 0 (not_from_true (p y) here) in
+          subst (IsAtPlace p (y ∷ xs)) (sym first) (record { inside = omega arith; passes = λ x is. subst (λ z. p z ≡ true) (same_value y x is) here })
+      | inr not_here ↦
+          let later : list_any p xs ≡ true = elim (or_cases (p y) (list_any p xs) e) [ inl here ↦ absurd (both_ways (p y) not_here here) | inr l ↦ l ] in
+          let rest = at_place p xs later in
+          let step : position_or_len p (y ∷ xs) ≡ suc (position_or_len p xs) = cond-true (not (p y)) (1 + position_or_len p xs) 0 (not_from_false (p y) not_here) ∙ omega arith in
+          let inside : suc (position_or_len p xs) < length (y ∷ xs) = omega (arith, rest.inside) in
+          subst (IsAtPlace p (y ∷ xs)) (sym step) (record { inside = inside; passes = rest.passes })
+    ]
+
+pub number_passes : {X : Type 0} (p : X → Bool) (xs : List X) (x : X) → list_any p xs ≡ true → slice_get xs (unwrap_or (position p xs) 0) ≡ Some x → p x ≡ true
+number_passes p xs x some e =
+    let at = at_place p xs some in
+    let place = position_or_len p xs in
+    let is : unwrap_or (position p xs) 0 ≡ place = ap (λ o. unwrap_or o 0) (cond-true (nat_lt place (length xs)) (Some place) None (lt-ltb place (length xs) at.inside)) in
+    at.passes x (ap (λ n. slice_get xs n) (sym is) ∙ e)
+
+-- where one passes alone, whoever passes is the one that is found
+pub only_found : {X : Type 0} (p : X → Bool) (xs : List X) (x : X) → count_by p xs ≡ 1 → find p xs ≡ Some x → AllByRecursion (λ y. p y ≡ true → y ≡ x) xs
+only_found p [] x one found = tt
+only_found {X} p (y ∷ xs) x one found =
+    let counted = count_by_cons p y xs in
+    elim (cases_Bool (p y)) [
+      | inl here ↦
+          let mine = cond-true {A = ℕ} (p y) 1 0 here in
+          let none : count_by p xs ≡ 0 = omega (arith, counted, one, mine) in
+          ((λ e. same_value y x (sym (cond-true (p y) (Some y) (find p xs) here) ∙ found)), none_pass xs none)
+      | inr not_here ↦
+          let none = cond-false {A = ℕ} (p y) 1 0 not_here in
+          ((λ e. absurd (both_ways (p y) not_here e)), only_found p xs x (omega (arith, counted, one, none)) (sym (cond-false (p y) (Some y) (find p xs) not_here) ∙ found))
+    ] where
+      none_pass : (zs : List X) → count_by p zs ≡ 0 → AllByRecursion (λ z. p z ≡ true → z ≡ x) zs
+      none_pass [] e = tt
+      none_pass (z ∷ zs) e =
+          let counts = count_by_cons p z zs in
+          let rest : count_by p zs ≡ 0 = omega (arith, counts, e) in
+          ((λ passes. let m = cond-true {A = ℕ} (p z) 1 0 passes in absurd (omega (arith, counts, m, e))), none_pass zs rest)

@@ -8,6 +8,7 @@ use Rattle.std.proofs.lemmas.List.Sums.{length-filter}
 use Rattle.stack_text.specs.declared.stack.StackLine.{StackLine}
 use Rattle.stack_text.specs.declared.stack.StackLine.TheVariants.{Page, File, Disk, Mirror, Coherency, Dfs, Vmm}
 use Rattle.tower_core.specs.TreeShape.{IsTree}
+use Rattle.stack_accept.specs.declared.TheConstants.{MAX_FRAMES}
 use Rattle.stack_accept.specs.declared.rule.Rule.TheVariants.{OneGround, Limits}
 use Rattle.stack_accept.specs.declared.entries.NodeEntry.{NodeEntry}
 use Rattle.stack_accept.specs.Lines.{is_layer, is_storage, is_upper, is_named, is_storage_name}
@@ -75,7 +76,7 @@ abbrev AreLayers : List StackLine → Type 0
 AreLayers [] = Unit {0}
 AreLayers (line ∷ lines) = (is_layer line ≡ true) × AreLayers lines
 
-node_upper : (text : List StackLine) (line : StackLine) → is_node text line ≡ true → is_upper line ≡ true
+pub node_upper : (text : List StackLine) (line : StackLine) → is_node text line ≡ true → is_upper line ≡ true
 node_upper text (Page size) e = absurd (false≢true e)
 node_upper text (File name pages) e = absurd (false≢true e)
 node_upper text (Disk name machine) e = absurd (false≢true e)
@@ -168,7 +169,7 @@ upper_step earlier (Mirror name machine left right) e few = omega arith
 upper_step earlier (Coherency name machine below) e few = let low = ltb-true _ 31 (and_parts (ltb (count_by (λ l. is_upper l) earlier) 31) _ e).0 in omega (arith, low)
 upper_step earlier (Dfs name machine below) e few = let low = ltb-true _ 31 (and_parts (ltb (count_by (λ l. is_upper l) earlier) 31) _ e).0 in omega (arith, low)
 upper_step earlier (Vmm name machine below frames) e few =
-    let low = ltb-true _ 31 (and_parts (ltb (count_by (λ l. is_upper l) earlier) 31) _ (and_parts (has_room earlier below) (is_count frames) e).0).0 in omega (arith, low)
+    let low = ltb-true _ 31 (and_parts (ltb (count_by (λ l. is_upper l) earlier) 31) _ (and_parts (has_room earlier below) (is_count MAX_FRAMES frames) e).0).0 in omega (arith, low)
 
 pub few_nodes : (lines : List StackLine) → KeepsRules [] lines → length (nodes_of lines) ≤ 32
 few_nodes lines keeps =

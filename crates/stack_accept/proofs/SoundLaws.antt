@@ -1,13 +1,16 @@
 -- An accepted text makes a sound mount.
 use Rattle.std.proofs.Common.{◌≡◌, ℕ, zero, suc, ◌+◌, ◌^◌, ◌<◌, ◌≤◌, List, [], ◌∷◌, ◌++◌, length, reverse, count_by, get_or, Bool, true, cond, eqb, ltb, leb, Option, Some, None, refl, sym, ap, subst, ◌∙◌, inl, inr, arith, lit≤}
-use Rattle.std.specs.Prelude.{unwrap_or}
+use Rattle.std.specs.Prelude.{slice_get, unwrap_or}
+use Rattle.std.proofs.lemmas.Option.{slice_get_within, get_or_from_slice_get}
 use Rattle.std.specs.List.{AllByRecursion, list_any, filter, filter_map, cons_option, position_or_len, fold}
 use Rattle.std.specs.Str.{bytes_eq}
 use Rattle.std.proofs.lemmas.Bool.{cases_Bool, false≢true, and_parts, or_cases, ltb-true, leb-true, eqb-true, cond_both, cond-true, cond-false}
 use Rattle.std.proofs.lemmas.List.{length-append}
+use Rattle.hist_plain.specs.declared.TheConstants.{MAX_PAGES}
 use Rattle.hist_plain.specs.Plain.{IsPageSize}
 use Rattle.stack_text.specs.declared.stack.StackLine.{StackLine}
 use Rattle.stack_text.specs.declared.stack.StackLine.TheVariants.{Page, File, Disk, Mirror, Coherency, Dfs, Vmm}
+use Rattle.stack_accept.specs.declared.TheConstants.{MAX_FRAMES}
 use Rattle.stack_accept.specs.declared.rule.Rule.TheVariants.{PageFirst, Limits}
 use Rattle.stack_accept.specs.declared.entries.FileEntry.{FileEntry}
 use Rattle.stack_accept.specs.declared.entries.NodeEntry.{NodeEntry}
@@ -19,13 +22,20 @@ use Rattle.std.specs.List.Sorted.{IsPermutation}
 use Rattle.std.proofs.lemmas.List.Sorted.{length_permutation}
 use Rattle.stack_accept.proofs.GroundLaws.{ground_disks}
 use Rattle.tower_core.specs.TreeShape.{TreeShape}
-use Rattle.stack_accept.specs.Sound.{IsInLimits, IsGroundNode, IsLayerNode, IsMount}
+use Rattle.stack_accept.specs.Sound.{IsInLimits, HasFrames, IsGroundNode, IsLayerNode, IsMount}
 use Rattle.stack_accept.proofs.Lists.{count_by_cons}
 use Rattle.stack_accept.proofs.Kept.{kept_at_end}
 use Rattle.stack_accept.proofs.TreeLaws.{EachPlaced, ArePlaced}
 use Rattle.stack_accept.proofs.MountLaws.{kept, has_nodes, mounted_tree, few_nodes, few_by, ground_storage}
+use Rattle.stack_accept.proofs.NameLaws.{files_differ, disks_differ, machines_differ}
+use Rattle.stack_accept.proofs.StandLaws.{nodes_differ, nodes_stand, nodes_first, ground_unseen, two_nodes}
+use Rattle.stack_accept.proofs.ViaLaws.{AreBased, view_served}
+use Rattle.stack_accept.proofs.DepthLaws.{nodes_low}
 
-in_limits : (n : ℕ) → is_count n ≡ true → IsInLimits n
+frames_in_limits : (n : ℕ) → is_count MAX_FRAMES n ≡ true → HasFrames n
+frames_in_limits n e = let h = and_parts (leb 1 n) (leb n 1024) e in (leb-true 1 n h.0, leb-true n 1024 h.1)
+
+in_limits : (n : ℕ) → is_count MAX_PAGES n ≡ true → IsInLimits n
 in_limits n e = let h = and_parts (leb 1 n) (leb n 1024) e in (leb-true 1 n h.0, leb-true n 1024 h.1)
 
 -- the page size
@@ -60,7 +70,7 @@ page_size_is (line ∷ lines) keeps = first_page line lines (keeps.0 PageFirst) 
 
 file_step : (earlier : List StackLine) (line : StackLine) → keeps Limits earlier line ≡ true → count_by (λ l. is_file l) earlier ≤ 16 → count_by (λ l. is_file l) earlier + cond (is_file line) 1 0 ≤ 16
 file_step earlier (Page size) e few = omega arith
-file_step earlier (File name pages) e few = let low = ltb-true _ 16 (and_parts (ltb (count_by (λ l. is_file l) earlier) 16) (is_count pages) e).0 in omega (arith, low)
+file_step earlier (File name pages) e few = let low = ltb-true _ 16 (and_parts (ltb (count_by (λ l. is_file l) earlier) 16) (is_count MAX_PAGES pages) e).0 in omega (arith, low)
 file_step earlier (Disk name machine) e few = omega arith
 file_step earlier (Mirror name machine left right) e few = omega arith
 file_step earlier (Coherency name machine below) e few = omega arith
@@ -112,7 +122,7 @@ count_disks (line ∷ lines) =
 
 file_pages : (earlier : List StackLine) (line : StackLine) (rest : List FileEntry) → keeps Limits earlier line ≡ true → AllByRecursion (λ file. IsInLimits file.pages) rest → AllByRecursion (λ file. IsInLimits file.pages) (cons_option (file_of line) rest)
 file_pages earlier (Page size) rest e h = h
-file_pages earlier (File name pages) rest e h = (in_limits pages (and_parts (ltb (count_by (λ l. is_file l) earlier) 16) (is_count pages) e).1, h)
+file_pages earlier (File name pages) rest e h = (in_limits pages (and_parts (ltb (count_by (λ l. is_file l) earlier) 16) (is_count MAX_PAGES pages) e).1, h)
 file_pages earlier (Disk name machine) rest e h = h
 file_pages earlier (Mirror name machine left right) rest e h = h
 file_pages earlier (Coherency name machine below) rest e h = h
@@ -209,7 +219,7 @@ layer_is text earlier nodes machines (Mirror name machine left right) rest some 
 layer_is text earlier nodes machines (Coherency name machine below) rest some is e h = (record { kind = refl; machine = low_number machines machine some }, h)
 layer_is text earlier nodes machines (Dfs name machine below) rest some is e h = (record { kind = refl; machine = low_number machines machine some }, h)
 layer_is text earlier nodes machines (Vmm name machine below frames) rest some is e h =
-    (record { kind = in_limits frames (and_parts (has_room earlier below) (is_count frames) e).1; machine = low_number machines machine some }, h)
+    (record { kind = frames_in_limits frames (and_parts (has_room earlier below) (is_count MAX_FRAMES frames) e).1; machine = low_number machines machine some }, h)
 
 each_layer : (text nodes : List StackLine) (machines : List (List ℕ)) (earlier lines : List StackLine) → 0 < length machines → KeepsRules earlier lines
     → AllByRecursion (IsLayerNode machines) (filter_map (λ line. node_of machines nodes line) (filter (λ line. is_node text line) lines))
@@ -255,6 +265,21 @@ levels_low (OnMirror left right) =
     omega (arith, one, other, both)
 levels_low (OnCoherency below) = levels_low below
 
+-- what is below a node, read as `get` reads it
+below_got : (nodes : List NodeEntry) → ((number : ℕ) (d : NodeEntry) → 0 < number → number < length nodes → (get_or nodes number d).below < number)
+    → (number : ℕ) (node : NodeEntry) → 0 < number → slice_get nodes number ≡ Some node → node.below < number
+below_got nodes ordered number node above at =
+    subst (λ (n : NodeEntry). n.below < number) (get_or_from_slice_get nodes number node node at) (ordered number node above (slice_get_within nodes number node at))
+
+based : (lines : List StackLine) (keeps : KeepsRules [] lines) → AreBased (nodes_of lines)
+based lines keeps =
+    let has = has_nodes lines keeps in
+    record {
+      unseen = ground_unseen lines keeps;
+      ordered = below_got (nodes_of lines) (λ node d above inside. subst (λ ns. (get_or ns node d).below < node) (sym has.all) (below_at has.ground has.rest has.placed node d above (subst (λ ns. node < length ns) has.all inside)));
+      stands = nodes_stand lines keeps;
+    }
+
 pub mounted_is : (lines : List StackLine) → IsAccepted lines → IsMount (mounted lines)
 mounted_is lines accepted =
     let keeps = kept lines accepted in
@@ -278,15 +303,25 @@ mounted_is lines accepted =
       some_file = omega (arith, files, file_count);
       few_files = omega (arith, few_files, file_count);
       pages = each_pages [] lines keeps;
+      some_disk = omega (arith, levels, counted, below, disk_count);
       few_disks = omega (arith, few_disks, disk_count);
       disks = disks;
       levels = omega (arith, few_disks, levels, counted, below);
+      file_names = files_differ lines keeps;
+      node_names = nodes_differ lines keeps;
+      disk_names = disks_differ lines keeps;
+      machine_names = machines_differ lines;
       tree = mounted_tree lines accepted;
       served = refl;
+      some_layer = two_nodes lines keeps;
       few_nodes = few_nodes lines keeps;
       ground_node = λ d. subst (λ ns. IsGroundNode machines (get_or ns 0 d)) (sym has.all) (ground_is machines (node_lines lines) has.line has.ground some has.storage has.named);
       layer_node = λ node d above inside. subst (λ ns. IsLayerNode machines (get_or ns node d)) (sym has.all) (layer_at machines has.ground has.rest layers node d above (subst (λ ns. node < length ns) has.all inside));
       ordered = λ node d above inside. subst (λ ns. (get_or ns node d).below < node) (sym has.all) (below_at has.ground has.rest has.placed node d above (subst (λ ns. node < length ns) has.all inside));
+      stands = nodes_stand lines keeps;
+      depths = nodes_low lines keeps (based lines keeps).ordered;
+      first = nodes_first lines keeps;
+      serving = λ view machine seen. view_served (nodes_of lines) (based lines keeps) view view machine (omega arith) seen;
     }
 
 mount_of : ℕ → List FileEntry → TreeShape → List NodeEntry → Plan → List (List ℕ) → List (List ℕ) → Mount

@@ -1,5 +1,5 @@
 -- The tree that an accepted stack makes.
-use Rattle.std.specs.Prelude.{ℕ, zero, suc, List, [], ◌∷◌, ◌++◌, reverse, filter, map, fold, position, slice_get, Bool, true, false, ◌&&◌, ◌==◌, if◌then◌else◌, Option, Some, None, unwrap_or}
+use Rattle.std.specs.Prelude.{ℕ, zero, suc, ◌+◌, List, [], ◌∷◌, ◌++◌, reverse, filter, map, fold, position, slice_get, Bool, true, false, ◌&&◌, ◌==◌, if◌then◌else◌, Option, Some, None, unwrap_or}
 use Rattle.std.specs.Option.{option_map_or, option_to_list}
 use Rattle.std.specs.List.{list_any, find, filter_map}
 use Rattle.std.specs.Str.{bytes_eq}
@@ -88,6 +88,18 @@ abbrev pub is_dfs_node : Kind → Bool
 is_dfs_node kinds.Dfs = true
 is_dfs_node _ = false
 
+-- A coherency or a distributed layer has a view. The ground is neither, and a memory manager serves its own machine alone.
+abbrev pub is_view : Kind → Bool
+is_view kinds.Disk = false
+is_view kinds.Mirror = false
+is_view kinds.Coherency = true
+is_view kinds.Dfs = true
+is_view kinds.Vmm = false
+
+-- the node of this number has a view
+abbrev pub is_view_in : List NodeEntry → ℕ → Bool
+is_view_in nodes number = option_map_or (λ node. is_view node.kind) (slice_get nodes number) false
+
 -- local traffic goes round a distributed layer of its own machine
 abbrev pub goes_round : Option NodeEntry → ℕ → Bool
 goes_round None machine = false
@@ -97,7 +109,7 @@ abbrev pub below_of : Option NodeEntry → ℕ
 below_of None = 0
 below_of (Some node) = node.below
 
--- where so many steps down from a view lead, for the machine
+-- the node that is reached from a view by at most this many steps down, for the machine
 abbrev pub via_in : ℕ → List NodeEntry → ℕ → ℕ → ℕ
 via_in zero nodes view machine = view
 via_in (suc steps) nodes view machine = if goes_round (slice_get nodes view) machine then via_in steps nodes (below_of (slice_get nodes view)) machine else view
@@ -106,6 +118,16 @@ via_in (suc steps) nodes view machine = if goes_round (slice_get nodes view) mac
 -- the node that serves what it stands on. Each step goes to a lower node.
 abbrev pub via : List NodeEntry → ℕ → ℕ → ℕ
 via nodes view machine = via_in view nodes view machine
+
+-- how many layers there are from a node down to the ground, itself included; at most this many are counted
+abbrev pub depth_in : ℕ → List NodeEntry → ℕ → ℕ
+depth_in zero nodes number = 0
+depth_in (suc steps) nodes zero = 0
+depth_in (suc steps) nodes (suc number) = depth_in steps nodes (below_of (slice_get nodes (suc number))) + 1
+
+-- The depth of a node, by what stands on what; the ground has depth 0. Each step goes to a lower node.
+abbrev pub depth : List NodeEntry → ℕ → ℕ
+depth nodes number = depth_in number nodes number
 
 -- the parent of a node is the node that serves on its machine what it stands on
 abbrev pub tree_of : List NodeEntry → TreeShape

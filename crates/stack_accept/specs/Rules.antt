@@ -2,8 +2,10 @@
 use Rattle.std.specs.Prelude.{◌≡◌, ℕ, ◌+◌, ◌^◌, List, [], ◌∷◌, ◌++◌, length, reverse, count_by, Bool, true, false, not, ◌&&◌, ◌||◌, ◌==◌, nat_lt, nat_le, if◌then◌else◌, Option, Some, None}
 use Rattle.std.specs.List.{list_any, list_all, find}
 use Rattle.std.specs.Str.{bytes_eq}
+use Rattle.hist_plain.specs.declared.TheConstants.{MAX_PAGES}
 use Rattle.stack_text.specs.declared.stack.StackLine.{StackLine}
 use Rattle.stack_text.specs.declared.stack.StackLine.TheVariants.{Page, File, Disk, Mirror, Coherency, Dfs, Vmm}
+use Rattle.stack_accept.specs.declared.TheConstants.{MAX_FILES, MAX_DISKS, MAX_LAYERS, MAX_DEPTH, MAX_FRAMES}
 use Rattle.stack_accept.specs.declared.rule.Rule.{Rule}
 use Rattle.stack_accept.specs.declared.rule.Rule.TheVariants.{PageFirst, NewName, EarlierLayer, MirrorSides, OneUser, OneGround, CoherentFirst, ManagerOnTop, SameMachine, Limits}
 use Rattle.stack_accept.specs.Lines.{is_file, is_disk, is_mirror, is_dfs, is_page, is_storage, is_upper, name_of, machine_of, is_word, is_named, is_layer_named, all_bases, is_declared, is_storage_name, is_vmm_name, is_used, is_side, is_coherent_storage}
@@ -73,12 +75,12 @@ depth_back (line ∷ earlier) name = if is_layer_named name line then depth_on l
 abbrev pub depth_of : List StackLine → List ℕ → ℕ
 depth_of earlier name = depth_back (reverse earlier) name
 
--- at most 31 upper layers, and at most 8 on one another
+-- one more upper layer may be, and may stand on the layer of the name
 abbrev pub has_room : List StackLine → List ℕ → Bool
-has_room earlier below = nat_lt (count_by (λ line. is_upper line) earlier) 31 && nat_lt (depth_of earlier below) 8
+has_room earlier below = nat_lt (count_by (λ line. is_upper line) earlier) MAX_LAYERS && nat_lt (depth_of earlier below) MAX_DEPTH
 
-abbrev pub is_count : ℕ → Bool
-is_count n = nat_le 1 n && nat_le n 1024
+abbrev pub is_count : ℕ → ℕ → Bool
+is_count most n = nat_le 1 n && nat_le n most
 
 -- a power of two from 64 to 4,096
 abbrev pub is_page_size : ℕ → Bool
@@ -87,12 +89,12 @@ is_page_size size = list_any (λ k. size == 2 ^ k) (6 ∷ 7 ∷ 8 ∷ 9 ∷ 10 �
 -- The limits on sizes and counts hold. Four disks make mirrors of three levels at most.
 abbrev pub is_within_limits : List StackLine → StackLine → Bool
 is_within_limits earlier (Page size) = is_page_size size
-is_within_limits earlier (File name pages) = nat_lt (count_by (λ line. is_file line) earlier) 16 && is_count pages
-is_within_limits earlier (Disk name machine) = nat_lt (count_by (λ line. is_disk line) earlier) 4
+is_within_limits earlier (File name pages) = nat_lt (count_by (λ line. is_file line) earlier) MAX_FILES && is_count MAX_PAGES pages
+is_within_limits earlier (Disk name machine) = nat_lt (count_by (λ line. is_disk line) earlier) MAX_DISKS
 is_within_limits earlier (Mirror name machine left right) = true
 is_within_limits earlier (Coherency name machine below) = has_room earlier below
 is_within_limits earlier (Dfs name machine below) = has_room earlier below
-is_within_limits earlier (Vmm name machine below frames) = has_room earlier below && is_count frames
+is_within_limits earlier (Vmm name machine below frames) = has_room earlier below && is_count MAX_FRAMES frames
 
 -- what a rule asks of a line, given the lines before it
 abbrev pub keeps : Rule → List StackLine → StackLine → Bool

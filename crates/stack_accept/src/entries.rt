@@ -1,6 +1,6 @@
 //! What a mounted stack consists of.
 
-use hist_plain::Text;
+use seen_values::Text;
 use std::boxed::Box;
 
 /// What a node is.
@@ -18,8 +18,20 @@ pub enum Kind {
     Vmm,
 }
 
+impl Kind {
+    ghost use Rattle.std.specs.Prelude.{◌≡◌};
+    ghost use Rattle.stack_accept.specs.Mount.{is_view};
+
+    /// Whether a node of the kind has a view: a coherency or a distributed layer has one.
+    pub fn is_view(self) -> bool
+        ensures { result ≡ is_view self }
+    {
+        matches!(self, Kind::Coherency | Kind::Dfs)
+    }
+}
+
 /// A file of the stack.
-#[derive(Debug, Drop)]
+#[derive(Clone, Debug, Drop)]
 pub struct FileEntry {
     /// Its name.
     pub name: Text,
@@ -28,7 +40,7 @@ pub struct FileEntry {
 }
 
 /// A node of the tree.
-#[derive(Debug, Drop)]
+#[derive(Clone, Debug, Drop)]
 pub struct NodeEntry {
     /// The layer's name.
     pub name: Text,
@@ -43,7 +55,7 @@ pub struct NodeEntry {
 }
 
 /// What the ground is made of.
-#[derive(Debug, Drop)]
+#[derive(Clone, Debug, Drop)]
 pub enum GroundPlan {
     /// A disk, by its number.
     Disk {

@@ -7,51 +7,57 @@ ghost use Rattle.stack_accept.specs.Lines.{is_page, is_file, is_disk, is_mirror,
 
 use stack_text::StackLine;
 
-pub fn is_page(line: &StackLine) -> bool
+/// Whether the line gives the page size.
+pub(crate) fn is_page(line: &StackLine) -> bool
     ensures { result ≡ is_page line.now }
 {
     matches!(line, StackLine::Page { .. })
 }
 
-pub fn is_file(line: &StackLine) -> bool
+/// Whether the line declares a file.
+pub(crate) fn is_file(line: &StackLine) -> bool
     ensures { result ≡ is_file line.now }
 {
     matches!(line, StackLine::File { .. })
 }
 
-pub fn is_disk(line: &StackLine) -> bool
+/// Whether the line declares a disk.
+pub(crate) fn is_disk(line: &StackLine) -> bool
     ensures { result ≡ is_disk line.now }
 {
     matches!(line, StackLine::Disk { .. })
 }
 
-pub fn is_mirror(line: &StackLine) -> bool
+/// Whether the line declares a mirror.
+pub(crate) fn is_mirror(line: &StackLine) -> bool
     ensures { result ≡ is_mirror line.now }
 {
     matches!(line, StackLine::Mirror { .. })
 }
 
-pub fn is_dfs(line: &StackLine) -> bool
+/// Whether the line declares a distributed layer.
+pub(crate) fn is_dfs(line: &StackLine) -> bool
     ensures { result ≡ is_dfs line.now }
 {
     matches!(line, StackLine::Dfs { .. })
 }
 
-pub fn is_vmm(line: &StackLine) -> bool
+/// Whether the line declares a memory manager.
+pub(crate) fn is_vmm(line: &StackLine) -> bool
     ensures { result ≡ is_vmm line.now }
 {
     matches!(line, StackLine::Vmm { .. })
 }
 
-/// A disk or a mirror.
-pub fn is_storage(line: &StackLine) -> bool
+/// Whether the line declares a disk or a mirror.
+pub(crate) fn is_storage(line: &StackLine) -> bool
     ensures { result ≡ is_storage line.now }
 {
     matches!(line, StackLine::Disk { .. } | StackLine::Mirror { .. })
 }
 
-/// A coherency layer, a distributed layer or a memory manager.
-pub fn is_upper(line: &StackLine) -> bool
+/// Whether the line declares a coherency layer, a distributed layer or a memory manager.
+pub(crate) fn is_upper(line: &StackLine) -> bool
     ensures { result ≡ is_upper line.now }
 {
     matches!(
@@ -61,7 +67,7 @@ pub fn is_upper(line: &StackLine) -> bool
 }
 
 /// The name that the line declares.
-pub fn name(line: &StackLine) -> Option<&str>
+pub(crate) fn name(line: &StackLine) -> Option<&str>
     ensures { option_map (λ n. n.now) result ≡ name_of line.now }
 {
     match line {
@@ -76,7 +82,7 @@ pub fn name(line: &StackLine) -> Option<&str>
 }
 
 /// The machine of a layer.
-pub fn machine(line: &StackLine) -> Option<&str>
+pub(crate) fn machine(line: &StackLine) -> Option<&str>
     ensures { option_map (λ n. n.now) result ≡ machine_of line.now }
 {
     match line {
@@ -91,7 +97,7 @@ pub fn machine(line: &StackLine) -> Option<&str>
 }
 
 /// Whether there is a word, and it is this one.
-pub fn is_word(own: Option<&str>, word: &str) -> bool
+pub(crate) fn is_word(own: Option<&str>, word: &str) -> bool
     ensures { result ≡ is_word (option_map (λ n. n.now) own.entry) word.now }
 {
     match own {
@@ -100,19 +106,22 @@ pub fn is_word(own: Option<&str>, word: &str) -> bool
     }
 }
 
-pub fn is_named(name_sought: &str, line: &StackLine) -> bool
-    ensures { result ≡ is_named name_sought.now line.now }
+/// Whether the line declares the name.
+pub(crate) fn is_named(sought: &str, line: &StackLine) -> bool
+    ensures { result ≡ is_named sought.now line.now }
 {
-    is_word(name(line), name_sought)
+    is_word(name(line), sought)
 }
 
-pub fn is_layer_named(name: &str, line: &StackLine) -> bool
+/// Whether the line declares a layer of the name.
+pub(crate) fn is_layer_named(name: &str, line: &StackLine) -> bool
     ensures { result ≡ is_layer_named name.now line.now }
 {
     (is_storage(line) || is_upper(line)) && is_named(name, line)
 }
 
-pub fn stands_on(base: &str, line: &StackLine) -> bool
+/// Whether the line stands on the layer of this name.
+pub(crate) fn stands_on(base: &str, line: &StackLine) -> bool
     ensures { result ≡ stands_on base.now line.now }
 {
     match line {
@@ -124,13 +133,15 @@ pub fn stands_on(base: &str, line: &StackLine) -> bool
     }
 }
 
-pub fn is_declared(lines: &[StackLine], name: &str) -> bool
+/// Whether one of the lines declares a layer of the name.
+pub(crate) fn is_declared(lines: &[StackLine], name: &str) -> bool
     ensures { result ≡ is_declared lines.now name.now }
 {
     lines.iter().any(|line| is_layer_named(name, line))
 }
 
-pub fn is_storage_name(lines: &[StackLine], name: &str) -> bool
+/// Whether one of the lines declares a disk or a mirror of the name.
+pub(crate) fn is_storage_name(lines: &[StackLine], name: &str) -> bool
     ensures { result ≡ is_storage_name lines.now name.now }
 {
     lines
@@ -138,7 +149,8 @@ pub fn is_storage_name(lines: &[StackLine], name: &str) -> bool
         .any(|line| is_storage(line) && is_named(name, line))
 }
 
-pub fn is_vmm_name(lines: &[StackLine], name: &str) -> bool
+/// Whether one of the lines declares a memory manager of the name.
+pub(crate) fn is_vmm_name(lines: &[StackLine], name: &str) -> bool
     ensures { result ≡ is_vmm_name lines.now name.now }
 {
     lines
@@ -146,13 +158,15 @@ pub fn is_vmm_name(lines: &[StackLine], name: &str) -> bool
         .any(|line| is_vmm(line) && is_named(name, line))
 }
 
-pub fn is_used(lines: &[StackLine], name: &str) -> bool
+/// Whether one of the lines stands on the layer of the name.
+pub(crate) fn is_used(lines: &[StackLine], name: &str) -> bool
     ensures { result ≡ is_used lines.now name.now }
 {
     lines.iter().any(|line| stands_on(name, line))
 }
 
-pub fn is_side(lines: &[StackLine], name: &str) -> bool
+/// Whether one of the lines is a mirror that has the layer of the name as a side.
+pub(crate) fn is_side(lines: &[StackLine], name: &str) -> bool
     ensures { result ≡ is_side lines.now name.now }
 {
     lines
@@ -161,7 +175,7 @@ pub fn is_side(lines: &[StackLine], name: &str) -> bool
 }
 
 /// Whether the line is a coherency layer on a disk or a mirror.
-pub fn is_coherent_storage(lines: &[StackLine], line: &StackLine) -> bool
+pub(crate) fn is_coherent_storage(lines: &[StackLine], line: &StackLine) -> bool
     ensures { result ≡ is_coherent_storage lines.now line.now }
 {
     match line {

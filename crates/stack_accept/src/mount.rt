@@ -12,11 +12,12 @@ ghost use Rattle.stack_accept.specs.Mount.{number_in, page_size_of, file_of, dis
 use crate::entries::{FileEntry, GroundPlan, Kind, NodeEntry};
 use crate::line::{is_disk, is_layer_named, is_named, is_storage, machine};
 use crate::rule::{is_first_node, is_node};
-use hist_plain::Text;
+use seen_values::Text;
 use stack_text::{MAX_LINES, StackLine};
 use std::alloc::{AllocError, Global};
 use std::boxed::Box;
 
+/// The place of a name in a list of names.
 fn place_in(names: &[Text], name: &str) -> Option<usize>
     ensures value { result ≡ position (λ own. bytes_eq own name.now) names.now }
     ensures inside { IfSome result (λ place. place < length names.now) }
@@ -25,7 +26,7 @@ fn place_in(names: &[Text], name: &str) -> Option<usize>
 }
 
 /// The place of a name in a list of names, or 0.
-pub fn number_in(names: &[Text], name: &str) -> u32
+pub(crate) fn number_in(names: &[Text], name: &str) -> u32
     requires { length names.now ≤ MAX_LINES }
     ensures { result ≡ number_in names.now name.now }
 {
@@ -35,7 +36,8 @@ pub fn number_in(names: &[Text], name: &str) -> u32
     }
 }
 
-pub fn page_size_of(lines: &[StackLine]) -> u32
+/// The page size, which the first line gives.
+pub(crate) fn page_size_of(lines: &[StackLine]) -> u32
     ensures { result ≡ page_size_of lines.now }
 {
     match lines {
@@ -45,14 +47,14 @@ pub fn page_size_of(lines: &[StackLine]) -> u32
 }
 
 /// The files, in the order of their lines.
-pub fn files_of(alloc: Global, lines: &[StackLine]) -> Result<Vec<FileEntry>, AllocError>
+pub(crate) fn files_of(alloc: Global, lines: &[StackLine]) -> Result<Vec<FileEntry>, AllocError>
     ensures { IfOk result (λ files. files.items ≡ filter_map (λ line. file_of line) lines.now) }
 {
     let mut files = Vec::new(alloc);
     for line in lines {
         if let StackLine::File { name, pages } = line {
             files.push(FileEntry {
-                name: name.copy()?,
+                name: name.clone()?,
                 pages: *pages,
             })?;
         }
@@ -61,18 +63,19 @@ pub fn files_of(alloc: Global, lines: &[StackLine]) -> Result<Vec<FileEntry>, Al
 }
 
 /// The names of the disks, in the order of their lines.
-pub fn disks_of(alloc: Global, lines: &[StackLine]) -> Result<Vec<Text>, AllocError>
+pub(crate) fn disks_of(alloc: Global, lines: &[StackLine]) -> Result<Vec<Text>, AllocError>
     ensures { IfOk result (λ disks. disks.items ≡ filter_map (λ line. disk_of line) lines.now) }
 {
     let mut disks = Vec::new(alloc);
     for line in lines {
         if let StackLine::Disk { name, .. } = line {
-            disks.push(name.copy()?)?;
+            disks.push(name.clone()?)?;
         }
     }
     Ok(disks)
 }
 
+/// Whether the name is in the list.
 fn is_known(names: &[Text], name: &str) -> bool
     ensures { result ≡ list_any (λ own. bytes_eq own name.now) names.now }
 {
@@ -103,7 +106,7 @@ fn add_machine(alloc: Global, names: &mut Vec<Text>, line: &StackLine) -> Result
 }
 
 /// The machines, in the order in which their names first occur.
-pub fn machines_of(alloc: Global, lines: &[StackLine]) -> Result<Vec<Text>, AllocError>
+pub(crate) fn machines_of(alloc: Global, lines: &[StackLine]) -> Result<Vec<Text>, AllocError>
     ensures few { IfOk result (λ machines. length machines.items ≤ length lines.now) }
     ensures value { IfOk result (λ machines. machines.items ≡ machines_of lines.now) }
 {
@@ -122,7 +125,7 @@ fn first_node(lines: &[StackLine]) -> Option<&StackLine>
 }
 
 /// The name of the ground.
-pub fn ground_name(lines: &[StackLine]) -> &str
+pub(crate) fn ground_name(lines: &[StackLine]) -> &str
     ensures { result.now ≡ ground_name lines.now }
 {
     match first_node(lines) {
@@ -133,6 +136,7 @@ pub fn ground_name(lines: &[StackLine]) -> &str
     }
 }
 
+/// The line of the disk or mirror of the name.
 fn storage_line<'a>(lines: &'a [StackLine], name: &str) -> Option<&'a StackLine>
     ensures { option_map (λ line. line.now) result ≡ find (λ line. is_storage line && is_named name.now line) lines.now }
 {
@@ -142,7 +146,7 @@ fn storage_line<'a>(lines: &'a [StackLine], name: &str) -> Option<&'a StackLine>
 }
 
 /// The lines of the ground and of the other nodes.
-pub fn node_lines(alloc: Global, lines: &[StackLine]) -> Result<Vec<&StackLine>, AllocError>
+pub(crate) fn node_lines(alloc: Global, lines: &[StackLine]) -> Result<Vec<&StackLine>, AllocError>
     ensures value { IfOk result (λ nodes. map (λ line. line.now) nodes.items ≡ node_lines lines.now) }
     ensures few { IfOk result (λ nodes. length nodes.items ≤ length lines.now + 1) }
 {
@@ -158,6 +162,7 @@ pub fn node_lines(alloc: Global, lines: &[StackLine]) -> Result<Vec<&StackLine>,
     Ok(nodes)
 }
 
+/// The place of the name's line among the nodes' lines.
 fn place_of(nodes: &[&StackLine], name: &str) -> Option<usize>
     ensures value { result ≡ position (λ line. is_named name.now line.now) nodes.now }
     ensures inside { IfSome result (λ place. place < length nodes.now) }
@@ -232,7 +237,7 @@ fn node_of(
         }
     };
     Ok(Some(NodeEntry {
-        name: name.copy()?,
+        name: name.clone()?,
         kind,
         machine: number_in(machines, machine.as_str()),
         below,
@@ -241,7 +246,7 @@ fn node_of(
 }
 
 /// The nodes, from the machines and the nodes' lines.
-pub fn nodes_of(
+pub(crate) fn nodes_of(
     alloc: Global,
     machines: &[Text],
     lines: &[&StackLine],
@@ -259,12 +264,14 @@ pub fn nodes_of(
     Ok(nodes)
 }
 
+/// The node of the number.
 fn node_at(nodes: &[NodeEntry], at: u32) -> Option<&NodeEntry>
     ensures { option_map (λ n. n.now) result ≡ slice_get nodes.now at }
 {
     nodes.get(at as usize)
 }
 
+/// Whether local traffic goes round the node: it is a distributed layer of this machine.
 fn goes_round(node: Option<&NodeEntry>, machine: u32) -> bool
     ensures { result ≡ goes_round (option_map (λ n. n.now) node.entry) machine }
 {
@@ -274,6 +281,7 @@ fn goes_round(node: Option<&NodeEntry>, machine: u32) -> bool
     }
 }
 
+/// What the node stands on.
 fn below_of(node: Option<&NodeEntry>) -> u32
     ensures { result ≡ below_of (option_map (λ n. n.now) node.entry) }
 {
@@ -284,7 +292,7 @@ fn below_of(node: Option<&NodeEntry>) -> u32
 }
 
 /// The node that serves a view's pages on a machine.
-pub fn via(nodes: &[NodeEntry], view: u32, machine: u32) -> u32
+pub(crate) fn via(nodes: &[NodeEntry], view: u32, machine: u32) -> u32
     ensures { result ≡ via nodes.now view machine }
 {
     let mut at = view;
@@ -299,7 +307,7 @@ pub fn via(nodes: &[NodeEntry], view: u32, machine: u32) -> u32
 }
 
 /// The parent of each node.
-pub fn parents_of(alloc: Global, nodes: &[NodeEntry]) -> Result<Vec<u32>, AllocError>
+pub(crate) fn parents_of(alloc: Global, nodes: &[NodeEntry]) -> Result<Vec<u32>, AllocError>
     ensures { IfOk result (λ parents. parents.items ≡ (tree_of nodes.now).parents) }
 {
     let mut parents = Vec::new(alloc);
@@ -310,7 +318,7 @@ pub fn parents_of(alloc: Global, nodes: &[NodeEntry]) -> Result<Vec<u32>, AllocE
 }
 
 /// The frames of each node.
-pub fn frames_of(alloc: Global, nodes: &[NodeEntry]) -> Result<Vec<u32>, AllocError>
+pub(crate) fn frames_of(alloc: Global, nodes: &[NodeEntry]) -> Result<Vec<u32>, AllocError>
     ensures { IfOk result (λ frames. frames.items ≡ (tree_of nodes.now).frames) }
 {
     let mut frames = Vec::new(alloc);
@@ -336,7 +344,7 @@ fn count_disks(lines: &[StackLine]) -> usize
 
 /// The plan of the layer of the name. A name that no line declares, and a layer that is no part of
 /// a ground, have no plan of their own: disk 0 stands for it, and no accepted text asks for it.
-pub fn plan(alloc: Global, lines: &[StackLine], name: &str) -> Result<GroundPlan, AllocError>
+pub(crate) fn plan(alloc: Global, lines: &[StackLine], name: &str) -> Result<GroundPlan, AllocError>
     requires { length lines.now ≤ MAX_LINES }
     ensures { IfOk result (λ p. plan_of p ≡ plan_back (reverse lines.now) name.now) }
 {

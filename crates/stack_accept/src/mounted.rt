@@ -1,12 +1,13 @@
 //! A mounted stack, and the one way to make one.
 
-ghost use Rattle.std.specs.Prelude.{◌≡◌, ◌≤◌, IfOk, IfErr, length};
+ghost use Rattle.std.specs.Prelude.{◌≡◌, ◌≤◌, IfOk, IfErr, length, true};
 ghost use Rattle.stack_accept.specs.Plan.{plan_of};
 ghost use Rattle.stack_accept.specs.Rules.{first_breach, IsAccepted};
-ghost use Rattle.stack_accept.specs.Sound.{IsMount};
+ghost use Rattle.stack_accept.specs.Sound.{IsMount, Serves};
 ghost use Rattle.stack_accept.specs.Unfit.{IsUnfit};
 ghost use Rattle.tower_core.specs.TreeShape.{IsTree};
-ghost use Rattle.stack_accept.specs.Mount.{mounted, machines_of, nodes_of, tree_of, via};
+ghost use Rattle.stack_accept.specs.Mount.{mounted, machines_of, nodes_of, tree_of, is_view_in, via};
+ghost use Rattle.hist_plain.specs.declared.TheConstants.{MAX_NODES};
 
 use crate::entries::{FileEntry, GroundPlan, NodeEntry};
 use crate::mount::{
@@ -14,7 +15,7 @@ use crate::mount::{
     parents_of, plan, via,
 };
 use crate::rule::{Unfit, check};
-use hist_plain::Text;
+use seen_values::Text;
 use stack_text::{MAX_LINES, StackLine, StackText};
 use std::alloc::{AllocError, Global};
 use std::marker::Model;
@@ -105,9 +106,11 @@ impl Mounted {
     }
 
     /// The node that serves a view's pages on a machine: the view, unless it is a distributed layer
-    /// of this machine; then the node that serves what it stands on.
+    /// of this machine; then the node that serves what it stands on. A layer's parent is the node
+    /// that serves on its machine what it stands on.
     pub fn via(&self, view: u32, machine: u32) -> u32
         ensures value { result ≡ via self.now.nodes view machine }
+        ensures serves { is_view_in self.now.nodes view ≡ true → Serves self.now.nodes view machine result }
         ensures sound { IsMount self.now }
     {
         via(&self.nodes, view, machine)
@@ -132,7 +135,7 @@ fn build_nodes(
 /// The tree of the nodes.
 fn build_tree(alloc: Global, nodes: &[NodeEntry]) -> Result<Tree, AllocError>
     requires tree { IsTree (tree_of nodes.now) }
-    requires few { length nodes.now ≤ 32 }
+    requires few { length nodes.now ≤ MAX_NODES }
     ensures { IfOk result (λ tree. tree ≡ tree_of nodes.now) }
 {
     let parents = parents_of(alloc, nodes)?;
@@ -163,8 +166,8 @@ fn mount(alloc: Global, lines: &[StackLine]) -> Result<Mounted, AllocError>
     })
 }
 
-/// The mounted stack of a text. Refused is exactly a text that breaks a rule, by its first line
-/// that breaks one and the lowest rule that this line breaks, and the rest for want of memory.
+/// The mounted stack of a text. It fails exactly if the text breaks a rule, with the first line that
+/// breaks one and the lowest rule that this line breaks, or if memory runs out.
 pub fn accept(alloc: Global, text: &StackText) -> Result<Mounted, Unfit>
     requires { length text.now.lines ≤ MAX_LINES }
     ensures accepted { IfOk result (λ _. IsAccepted text.now.lines) }

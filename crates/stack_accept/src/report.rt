@@ -7,10 +7,9 @@ ghost use Rattle.stack_accept.specs.Check.{kind_word, machine_name, node_head, n
 
 use crate::entries::{Kind, NodeEntry};
 use crate::mounted::Mounted;
-use hist_plain::Text;
-use itoa::Buffer;
+use seen_values::Text;
 use std::alloc::AllocError;
-use text_words::{put, put_number, put_word};
+use text_words::{put, put_number, put_spaced_number, put_word};
 
 impl Kind {
     /// The kind's printed word.
@@ -27,6 +26,7 @@ impl Kind {
     }
 }
 
+/// The name of the machine of the number.
 fn machine_name(machines: &[Text], machine: u32) -> &str
     ensures { result.now ≡ machine_name machines.now machine }
 {
@@ -53,8 +53,7 @@ fn put_node(
 ) -> Result<(), AllocError>
     ensures { OnOk result (out.new.items ≡ out.old.items ++ node_head mounted.now number node.now) }
 {
-    let mut buffer = Buffer::new();
-    put(out, buffer.format(number).as_bytes())?;
+    put_number(out, u64::from(number))?;
     put_word(out, node.name.as_str().as_bytes())?;
     put_word(out, node.kind.word().as_bytes())?;
     put_word(
@@ -75,7 +74,7 @@ fn put_node_line(
 {
     put_node(out, mounted, number, node)?;
     if number > 0 {
-        put_number(out, u64::from(parent_of(mounted, number)))?;
+        put_spaced_number(out, u64::from(parent_of(mounted, number)))?;
     }
     put(out, b"\n")
 }

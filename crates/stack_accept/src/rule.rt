@@ -12,16 +12,10 @@ use crate::line::{
     is_named, is_page, is_side, is_storage, is_storage_name, is_upper, is_used, is_vmm_name,
     is_word, machine, name, stands_on,
 };
+use crate::{MAX_DEPTH, MAX_DISKS, MAX_FILES, MAX_FRAMES, MAX_LAYERS};
+use hist_plain::MAX_PAGES;
 use stack_text::{MAX_LINES, StackLine};
 use std::alloc::AllocError;
-
-const MAX_FILES: usize = 16;
-
-const MAX_DISKS: usize = 4;
-
-const MAX_UPPER_LAYERS: usize = 31;
-
-const MAX_DEPTH: usize = 8;
 
 /// A rule of the stack. Each is asked of every line with the lines before it; some are asked of
 /// the end of the text too. All are this project's own.
@@ -87,7 +81,7 @@ fn is_taken(earlier: &[StackLine], name: &str) -> bool
     earlier.iter().any(|line| is_named(name, line))
 }
 
-/// The name, where there is one, is new.
+/// The name, if the line has one, is new.
 fn is_new_name(earlier: &[StackLine], name: Option<&str>) -> bool
     ensures { result ≡ is_new_name earlier.now (option_map (λ n. n.now) name.entry) }
 {
@@ -97,6 +91,7 @@ fn is_new_name(earlier: &[StackLine], name: Option<&str>) -> bool
     }
 }
 
+/// Whether a layer before has the name and may be a mirror's side.
 fn may_be_side(earlier: &[StackLine], name: &str) -> bool
     ensures { result ≡ may_be_side earlier.now name.now }
 {
@@ -117,6 +112,7 @@ fn has_fit_sides(earlier: &[StackLine], line: &StackLine) -> bool
     }
 }
 
+/// Whether both sides of a mirror are this one layer.
 fn is_both_sides(base: &str, line: &StackLine) -> bool
     ensures { result ≡ is_both_sides base.now line.now }
 {
@@ -133,18 +129,21 @@ fn is_shared_layer(earlier: &[StackLine], line: &StackLine, base: &str) -> bool
     !is_mirror(line) && !is_storage_name(earlier, base) && !is_side(earlier, base)
 }
 
+/// Whether nothing stands on the layer yet, and the line does so once.
 fn is_unused(earlier: &[StackLine], line: &StackLine, base: &str) -> bool
     ensures { result ≡ is_unused earlier.now line.now base.now }
 {
     !is_used(earlier, base) && !is_both_sides(base, line)
 }
 
+/// Whether the line may stand on the layer, as far as its other users go.
 fn may_use(earlier: &[StackLine], line: &StackLine, base: &str) -> bool
     ensures { result ≡ may_use earlier.now line.now base.now }
 {
     is_unused(earlier, line, base) || is_shared_layer(earlier, line, base)
 }
 
+/// Only mirrors and coherency layers stand on a disk or a mirror.
 fn is_coherent_first(earlier: &[StackLine], line: &StackLine) -> bool
     ensures { result ≡ is_coherent_first earlier.now line.now }
 {
@@ -155,6 +154,7 @@ fn is_coherent_first(earlier: &[StackLine], line: &StackLine) -> bool
     }
 }
 
+/// Whether what a line of this machine stands on may be this layer.
 fn is_near(machine_sought: Option<&str>, line: &StackLine) -> bool
     ensures { result ≡ is_near (option_map (λ n. n.now) machine_sought.entry) line.now }
 {
@@ -164,6 +164,7 @@ fn is_near(machine_sought: Option<&str>, line: &StackLine) -> bool
     }
 }
 
+/// Whether a layer before has the name and may carry a layer of the machine.
 fn reaches(earlier: &[StackLine], machine: Option<&str>, base: &str) -> bool
     ensures { result ≡ reaches earlier.now (option_map (λ n. n.now) machine.entry) base.now }
 {
@@ -189,32 +190,37 @@ fn depth_of(earlier: &[StackLine], name: &str) -> usize
     }
 }
 
+/// Whether one more upper layer may be, and may stand on the layer of the name.
 fn has_room(earlier: &[StackLine], below: &str) -> bool
     ensures { result ≡ has_room earlier.now below.now }
 {
-    earlier.iter().filter(|line| is_upper(line)).count() < MAX_UPPER_LAYERS
+    earlier.iter().filter(|line| is_upper(line)).count() < MAX_LAYERS
         && depth_of(earlier, below) < MAX_DEPTH
 }
 
-fn is_count(n: u32) -> bool
-    ensures { result ≡ is_count n }
+/// Whether the number is from 1 to the greatest.
+fn is_count(most: u32, n: u32) -> bool
+    ensures { result ≡ is_count most n }
 {
-    1 <= n && n <= 1024
+    1 <= n && n <= most
 }
 
+/// A power of two from 64 to 4,096.
 fn is_page_size(size: u32) -> bool
     ensures { result ≡ is_page_size size }
 {
     matches!(size, 64 | 128 | 256 | 512 | 1024 | 2048 | 4096)
 }
 
+/// The limits on sizes and counts hold.
 fn is_within_limits(earlier: &[StackLine], line: &StackLine) -> bool
     ensures { result ≡ is_within_limits earlier.now line.now }
 {
     match line {
         StackLine::Page { size } => is_page_size(*size),
         StackLine::File { pages, .. } => {
-            earlier.iter().filter(|line| is_file(line)).count() < MAX_FILES && is_count(*pages)
+            earlier.iter().filter(|line| is_file(line)).count() < MAX_FILES
+                && is_count(MAX_PAGES, *pages)
         }
         StackLine::Disk { .. } => {
             earlier.iter().filter(|line| is_disk(line)).count() < MAX_DISKS
@@ -223,7 +229,7 @@ fn is_within_limits(earlier: &[StackLine], line: &StackLine) -> bool
         StackLine::Coherency { below, .. } => has_room(earlier, below.as_str()),
         StackLine::Dfs { below, .. } => has_room(earlier, below.as_str()),
         StackLine::Vmm { below, frames, .. } => {
-            has_room(earlier, below.as_str()) && is_count(*frames)
+            has_room(earlier, below.as_str()) && is_count(MAX_FRAMES, *frames)
         }
     }
 }
@@ -301,7 +307,7 @@ fn has_user(lines: &[StackLine], line: &StackLine) -> bool
 }
 
 /// Whether the line is an upper layer that is no mirror's side.
-pub fn is_node(lines: &[StackLine], line: &StackLine) -> bool
+pub(crate) fn is_node(lines: &[StackLine], line: &StackLine) -> bool
     ensures { result ≡ is_node lines.now line.now }
 {
     match line {
@@ -313,7 +319,7 @@ pub fn is_node(lines: &[StackLine], line: &StackLine) -> bool
 }
 
 /// Whether the line is such a layer that stands on a disk or a mirror.
-pub fn is_first_node(lines: &[StackLine], line: &StackLine) -> bool
+pub(crate) fn is_first_node(lines: &[StackLine], line: &StackLine) -> bool
     ensures { result ≡ is_first_node lines.now line.now }
 {
     is_node(lines, line)
@@ -343,6 +349,7 @@ fn has_one_ground(lines: &[StackLine]) -> bool
         == 1
 }
 
+/// There is a file.
 fn has_file(lines: &[StackLine]) -> bool
     ensures { result ≡ keeps_at_end Rule.Limits lines.now }
 {
@@ -434,13 +441,13 @@ fn broken_at_end(lines: &[StackLine]) -> Option<Rule>
         .find(|rule| !rule.is_kept_at_end(lines))
 }
 
-/// A law: the lines are accepted exactly where each line, after those before it, keeps every rule,
-/// and so does the end of the text.
+/// A law: the lines are accepted exactly if each line, after those before it, keeps every rule, and
+/// so does the end of the text.
 pub fn accepted_by_every_rule()
     ensures { (lines : List StackLine) → IsAccepted lines ↔ KeepsRules [] lines }
 {}
 
-/// A broken rule, and the number of the line after so many.
+/// A broken rule, and the number of the line that follows the earlier ones.
 fn refusal(rule: Rule, before: usize) -> Unfit
     requires { before ≤ MAX_LINES }
     ensures { result ≡ Unfit.Unfit (number_of rule) (before + 1) }
@@ -452,7 +459,7 @@ fn refusal(rule: Rule, before: usize) -> Unfit
 }
 
 /// Whether the lines keep every rule; else the first line that breaks one, and the lowest of its.
-pub fn check(lines: &[StackLine]) -> Result<(), Unfit>
+pub(crate) fn check(lines: &[StackLine]) -> Result<(), Unfit>
     requires { length lines.now ≤ MAX_LINES }
     ensures { MatchResult result (λ _. IsAccepted lines.now) (IsUnfit (first_breach lines.now)) }
 {

@@ -122,9 +122,22 @@ fn lends_what_it_mounted(rt: HostRuntime) -> Result<(), Fail> {
     };
     assert!(rt; matches!(**left, GroundPlan::Coherency { .. }));
     assert!(rt; matches!(**right, GroundPlan::Disk { disk: 0 }));
+    let copied = mounted.ground().clone()?;
+    assert!(rt; matches!(copied, GroundPlan::Mirror { .. }));
     let spread = stack(rt.alloc(), SPREAD)??;
-    for (view, machine, served) in [(1, 0, 1), (3, 0, 1), (3, 1, 3), (0, 0, 0)] {
+    for (view, machine, served) in [(1, 0, 1), (3, 0, 1), (3, 1, 3)] {
         assert_eq!(rt; spread.via(view, machine), served);
+    }
+    for (node, has_view) in spread
+        .nodes()
+        .iter()
+        .zip([false, true, false, true, false, false])
+    {
+        assert_eq!(rt; node.kind.is_view(), has_view, "{}", node.name.as_str());
+        assert_eq!(rt; node.clone()?.frames, node.frames);
+    }
+    for file in spread.files() {
+        assert_eq!(rt; file.clone()?.pages, file.pages);
     }
     Ok(())
 }

@@ -1,4 +1,4 @@
--- One page in a trail: the rights and places of all nodes, and the table of events, which says what each step does to them and where it is allowed.
+-- One page in a trail: the rights and places of all nodes, and the table of events, which says what each step does to them and when it is allowed.
 use Rattle.std.specs.Prelude.{◌≡◌, ◌≢◌, ℕ, ◌+◌, ◌<◌, ◌≤◌, Bool, true, false, ◌==◌, if◌then◌else◌}
 use Rattle.tower_core.specs.declared.right.Right.{Right}
 use Rattle.tower_core.specs.declared.step.Step.{Step}
@@ -43,7 +43,7 @@ granted_at shape col node Right.Write = col.at node
 abbrev pub given : TreeShape → Column → ℕ → ℕ → ℕ
 given shape col node = updated col.at (parent shape node) (col.at node)
 
--- the column "at after", where the place before the event is len. Where a node has Nothing it is 0
+-- the column "at after"; len is the place before the event. It is 0 at a node that has Nothing
 abbrev pub at_after : TreeShape → ℕ → Column → Step → ℕ → ℕ
 at_after shape len col Untouched = col.at
 at_after shape len col (Reads node) = col.at
@@ -92,7 +92,7 @@ abbrev pub NoSiblingHolds : TreeShape → Column → ℕ → Type 0
 NoSiblingHolds shape col node =
     (child : ℕ) → IsChild shape child (parent shape node) → child ≢ node → col.right child ≡ Right.Nothing
 
--- the column "Allowed where", of what concerns the page's rights. Where a line asks for more, as frames, Trail.antt has it
+-- the column "Allowed if", of what concerns the page's rights. What a line asks besides, as frames, stands in Trail.antt
 abbrev pub MayStep : TreeShape → Column → Step → Type 0
 MayStep shape col Untouched = Unit {0}
 MayStep shape col (Reads node) = (col.right node ≢ Right.Nothing) × NoChildWrites shape col node
@@ -134,11 +134,11 @@ strength Right.Nothing = 0
 strength Right.Read = 1
 strength Right.Write = 2
 
--- the page is coherent, where the trail has len events so far
+-- the page is coherent; the trail has len events so far
 pub record IsCoherent (shape : TreeShape) (len : ℕ) (col : Column) : Type 0 where
   -- a node's right is at most its parent's
   pub capped : (node : ℕ) → IsUpper shape node → strength (col.right node) ≤ strength (col.right (parent shape node))
-  -- where a node has Write, its siblings have Nothing
+  -- if a node has Write, its siblings have Nothing
   pub alone : (node : ℕ) → IsUpper shape node → col.right node ≡ Right.Write → NoSiblingHolds shape col node
   -- a copy for reading shows what the parent's shows, and one for writing that or later
   pub reading : (node : ℕ) → IsUpper shape node → col.right node ≡ Right.Read → col.at node ≡ col.at (parent shape node)

@@ -23,12 +23,12 @@ abbrev pub shown : TreeShape → ℕ → List ℕ → List Event → ℕ → ℕ
 shown shape size bytes trail node page =
     page_at (plain_shape shape size) (fresh shape.parents bytes) trail page (at_of shape trail node page)
 
--- the event is within one page of a file of so many pages
+-- the event is within one page of the file
 abbrev pub FitsFile : ℕ → ℕ → Event → Type 0
 FitsFile size pages (Event.Access caller number node life op) = Fits size pages op
 FitsFile size pages event = ForSome (page_of event) (λ page. page < pages)
 
--- a grant to a node that has Nothing is ZeroFill where the parent shows zeros, and PageIn elsewhere
+-- a grant to a node that has Nothing is ZeroFill if the parent shows zeros, and else PageIn
 abbrev pub IsFilled : TreeShape → ℕ → List ℕ → List Event → Event → Type 0
 IsFilled shape size bytes before (Event.ZeroFill node page write) =
     IsZeroPage size (shown shape size bytes before (parent shape node) page)
@@ -48,6 +48,6 @@ IsLegalAfter shape size pages bytes before [] = Unit {0}
 IsLegalAfter shape size pages bytes before (event ∷ events) =
     IsLegalNext shape size pages bytes before event × IsLegalAfter shape size pages bytes (before ++ event ∷ []) events
 
--- the trail is legal over a file of so many pages of this size that starts with these bytes
+-- the trail is legal over a file of these pages, each of this size, that starts with these bytes
 abbrev pub IsLegal : TreeShape → ℕ → ℕ → List ℕ → List Event → Type 0
 IsLegal shape size pages bytes trail = IsLegalAfter shape size pages bytes [] trail

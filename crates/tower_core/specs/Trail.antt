@@ -1,4 +1,4 @@
--- What a trail is worth: the rights, places, uses and lives after it, and which event may come next.
+-- The state after a trail: the rights, places, uses and lives, and which event may come next.
 use Rattle.std.specs.Prelude.{◌≡◌, ◌≢◌, ℕ, ◌+◌, ◌<◌, ◌≤◌, ◌⊎◌, Bool, true, false, ◌==◌, if◌then◌else◌, List, [], ◌∷◌}
 use Rattle.std.specs.List.{fold}
 use Rattle.hist_plain.specs.declared.event.Event.{Event}
@@ -140,7 +140,7 @@ MayAccess shape s node (Op.Write page off bytes) = MayStep shape (s.column page)
 MayAccess shape s node (Op.Clear page) = MayStep shape (s.column page) (Writes node)
 MayAccess shape s node Op.Open = Unit {0}
 
--- THE TABLE OF EVENTS, by event: the column "Allowed where", whole but for the bytes that ZeroFill moves
+-- THE TABLE OF EVENTS, by event: the column "Allowed if", whole but for the bytes that ZeroFill moves
 abbrev pub IsLine : TreeShape → ℕ → State → Event → Type 0
 -- an access of another life is always allowed
 IsLine shape pages s (Event.Access caller number node life op) = life ≡ s.life node → MayAccess shape s node op

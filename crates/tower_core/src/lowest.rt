@@ -2,6 +2,7 @@
 
 ghost use Rattle.std.specs.Prelude.{◌≡◌, ◌≢◌, ◌<◌, ◌≤◌, ◌+◌, ◌*◌, ℕ, IfOk, MatchOption, None, Option, length, vec_len};
 ghost use Rattle.std.proofs.Props.{props};
+ghost use Rattle.hist_plain.specs.declared.TheConstants.{MAX_PAGES};
 ghost use Rattle.tower_core.specs.Tournament.{IsTournament, key_at, lower};
 
 use std::alloc::{AllocError, Global};
@@ -15,7 +16,7 @@ pub struct Lowest {
     pub count: u32,
     /// The tournament, from place 1 on.
     pub entries: Vec<Option<u64>>,
-    ghost few: { count ≤ 1024 },
+    ghost few: { count ≤ MAX_PAGES },
     ghost sized: { vec_len entries ≡ 2 * count },
     ghost played: { IsTournament count entries.items } by { Prim.hlevel props },
 }
@@ -25,7 +26,7 @@ impl Lowest {
 
     /// Each number has this key.
     pub fn new(alloc: Global, count: u32, key: Option<u64>) -> Result<Lowest, AllocError>
-        requires { count ≤ 1024 }
+        requires { count ≤ MAX_PAGES }
         ensures keys { IfOk result (λ l. (n : ℕ) → n < count → key_of l n ≡ key) }
         ensures count { IfOk result (λ l. l.count ≡ count) }
     {
@@ -95,7 +96,7 @@ fn lower(a: Option<u64>, b: Option<u64>) -> Option<u64>
 /// Gives a number another key, and plays the games on its way up again.
 fn play(entries: &mut Vec<Option<u64>>, count: usize, number: usize, key: Option<u64>)
     requires number { number < count }
-    requires few { count ≤ 1024 }
+    requires few { count ≤ MAX_PAGES }
     requires sized { vec_len entries.old ≡ 2 * count }
     requires played { IsTournament count entries.old.items }
     ensures played { IsTournament count entries.new.items }

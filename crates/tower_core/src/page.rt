@@ -1,6 +1,7 @@
 //! One page's table: a cell for each node.
 
 ghost use Rattle.std.specs.Prelude.{◌≡◌, ◌<◌, ◌+◌, ◌≤◌, ◌↔◌, IfOk, IsTrue, vec_len, ℕ};
+ghost use Rattle.hist_plain.specs.declared.TheConstants.{MAX_EVENTS};
 ghost use Rattle.tower_core.specs.TreeShape.{nodes, IsUpper};
 ghost use Rattle.tower_core.specs.Column.{at_after, newest_after, right_after, used_after, given, updated, MayStep, NoChildHolds, NoChildWrites, NoSiblingHolds, IsStepOf, column_after};
 ghost use Rattle.tower_core.specs.Trail.{holds};
@@ -15,7 +16,7 @@ use std::alloc::{AllocError, Global};
 pub struct Cell {
     /// What the node may do with the page.
     pub right: Right,
-    /// The place whose bytes its copy shows, and 0 where it has none.
+    /// The place whose bytes its copy shows; 0 if it has no copy.
     pub at: u64,
     /// The place after its last use of the page.
     pub used: u64,
@@ -59,7 +60,7 @@ impl Page {
         }
     }
 
-    /// The place after the node's last use of the page, where it holds it.
+    /// The place after the node's last use of the page, if the node holds it.
     pub fn use_of(&self, node: u32) -> Option<u64>
         requires { node < vec_len self.now.cells }
         ensures { result ≡ use_key (page_column self.now) (page_used self.now) node }
@@ -71,7 +72,7 @@ impl Page {
         }
     }
 
-    /// The place that the ground shows, where the page was written or cleared since.
+    /// The place that the ground shows, if the page was written or cleared since.
     pub fn stale(&self) -> Option<u64>
         requires { 0 < vec_len self.now.cells }
         ensures { result ≡ stale_key (page_column self.now) }
@@ -201,7 +202,7 @@ impl Page {
     /// The node shows its own bytes from the place after the event on.
     fn write(&mut self, node: u32, len: u64)
         requires node_in { node < vec_len self.old.cells }
-        requires room { len < 4194304 }
+        requires room { len < MAX_EVENTS }
         ensures right { (n : ℕ) → (cell_of self.new n).right ≡ (cell_of self.old n).right }
         ensures at { (n : ℕ) → (cell_of self.new n).at ≡ updated (page_column self.old).at node (len + 1) n }
         ensures used { (n : ℕ) → (cell_of self.new n).used ≡ updated (page_used self.old) node (len + 1) n }
@@ -214,11 +215,11 @@ impl Page {
         self.newest = len + 1;
     }
 
-    /// The node has Write or Read from now on, and where it had Nothing it shows what its parent does.
+    /// The node has Write or Read from now on; if it had Nothing, it shows what its parent does.
     fn grant(&mut self, tree: &Tree, node: u32, write: bool, len: u64)
         requires cells { nodes tree.now ≡ vec_len self.old.cells }
         requires upper { IsUpper tree.now node }
-        requires room { len < 4194304 }
+        requires room { len < MAX_EVENTS }
         ensures right { (n : ℕ) → (cell_of self.new n).right ≡
             right_after (page_column self.old).right (Grants node write) n }
         ensures at { (n : ℕ) → (cell_of self.new n).at ≡
@@ -240,7 +241,7 @@ impl Page {
     pub fn take(&mut self, tree: &Tree, step: Step, len: u64)
         requires cells { nodes tree.now ≡ vec_len self.old.cells }
         requires upper { IsStepOf tree.now step }
-        requires room { len < 4194304 }
+        requires room { len < MAX_EVENTS }
         ensures right { (n : ℕ) → (cell_of self.new n).right ≡ right_after (page_column self.old).right step n }
         ensures at { (n : ℕ) →
             (cell_of self.new n).at ≡ at_after tree.now len (page_column self.old) step n }

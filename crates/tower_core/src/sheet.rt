@@ -3,6 +3,7 @@
 ghost use Rattle.std.specs.Prelude.{◌≡◌, ◌≢◌, ◌<◌, ◌≤◌, ◌+◌, ℕ, All, IfOk, length, slice_get, slice_index, vec_len, Some};
 ghost use Rattle.std.specs.Int.{from_bool};
 ghost use Rattle.std.proofs.Props.{props};
+ghost use Rattle.hist_plain.specs.declared.TheConstants.{MAX_EVENTS, MAX_PAGES};
 ghost use Rattle.tower_core.specs.TreeShape.{nodes, IsUpper};
 ghost use Rattle.tower_core.specs.Trail.{lives_after};
 ghost use Rattle.tower_core.specs.Page.{IsHeldCounted};
@@ -15,8 +16,8 @@ use crate::{Right, Step, Tree, subtree};
 use hist_plain::{Event, Op};
 use std::alloc::{AllocError, Global};
 
-/// What a file's trail is worth: the rights, places, uses and lives after it. `seen` tells contracts
-/// the state that it stands for. Each node's uses, and the places of the pages that the ground lacks, are
+/// The state after a file's trail: the rights, places, uses and lives. `seen` is the state that
+/// contracts see. Each node's uses, and the places of the pages that the ground lacks, are
 /// kept in order too, so that no call looks at all pages.
 #[derive(Drop)]
 pub struct Sheet {
@@ -27,7 +28,7 @@ pub struct Sheet {
     stale: Lowest,
     len: u64,
     ghost grounded: { 0 < vec_len lives },
-    ghost few: { vec_len pages ≤ 1024 },
+    ghost few: { vec_len pages ≤ MAX_PAGES },
     ghost counts: { vec_len held ≡ vec_len lives },
     ghost sized: { All (λ page. vec_len page.cells ≡ vec_len lives) pages.items } by { Prim.hlevel props },
     ghost counted: { All (λ life. life ≤ len) lives.items } by { Prim.hlevel props },
@@ -49,7 +50,7 @@ impl Sheet {
 
     /// The sheet of an empty trail.
     pub fn new(alloc: Global, tree: &Tree, pages: u32) -> Result<Sheet, AllocError>
-        requires { pages ≤ 1024 }
+        requires { pages ≤ MAX_PAGES }
         ensures state { IfOk result (λ sheet. seen sheet ≡ start) }
         ensures nodes { IfOk result (λ sheet. nodes_of sheet ≡ nodes tree.now) }
         ensures pages { IfOk result (λ sheet. pages_of sheet ≡ pages) }
@@ -294,7 +295,7 @@ impl Sheet {
         requires same_tree { nodes tree.now ≡ nodes_of self.old }
         requires page_in { page < pages_of self.old }
         requires upper { IsStepOf tree.now step }
-        requires room { (seen self.old).len < 4194304 }
+        requires room { (seen self.old).len < MAX_EVENTS }
         ensures state { seen self.new ≡
             moved tree.now (seen self.old) (seen self.old).life (λ p. of_page p page step) }
         ensures nodes { nodes_of self.new ≡ nodes_of self.old }
@@ -316,7 +317,7 @@ impl Sheet {
 
     /// Enters an event that touches no page and no life.
     fn pass(&mut self, tree: &Tree)
-        requires room { (seen self.old).len < 4194304 }
+        requires room { (seen self.old).len < MAX_EVENTS }
         ensures state { seen self.new ≡
             moved tree.now (seen self.old) (seen self.old).life (λ p. Step.Untouched) }
         ensures nodes { nodes_of self.new ≡ nodes_of self.old }
@@ -330,7 +331,7 @@ impl Sheet {
         requires same_tree { nodes tree.now ≡ nodes_of self.old }
         requires page_in { ForSome (page_of_op op.now) (λ page. page < pages_of self.old) }
         requires upper { IsUpper tree.now node }
-        requires room { (seen self.old).len < 4194304 }
+        requires room { (seen self.old).len < MAX_EVENTS }
         ensures state { seen self.new ≡
             moved tree.now (seen self.old) (seen self.old).life (λ p. step_of_access p node op.now) }
         ensures nodes { nodes_of self.new ≡ nodes_of self.old }
@@ -350,7 +351,7 @@ impl Sheet {
         requires same_tree { nodes tree.now ≡ nodes_of self.old }
         requires page_in { ForSome (page_of event.now) (λ page. page < pages_of self.old) }
         requires allowed { IsAllowed tree.now (pages_of self.old) (seen self.old) event.now }
-        requires room { (seen self.old).len < 4194304 }
+        requires room { (seen self.old).len < MAX_EVENTS }
         ensures state { seen self.new ≡ state_after tree.now (seen self.old) event.now }
         ensures nodes { nodes_of self.new ≡ nodes_of self.old }
         ensures pages { pages_of self.new ≡ pages_of self.old }
@@ -391,7 +392,7 @@ impl Sheet {
     fn end_lives(&mut self, tree: &Tree, top: u32)
         requires same_tree { nodes tree.now ≡ nodes_of self.old }
         requires upper { IsUpper tree.now top }
-        requires room { (seen self.old).len < 4194304 }
+        requires room { (seen self.old).len < MAX_EVENTS }
         ensures state { seen self.new ≡
             moved tree.now (seen self.old) (lives_after tree.now (seen self.old).life top) (λ p. Step.Untouched) }
         ensures nodes { nodes_of self.new ≡ nodes_of self.old }
@@ -410,7 +411,7 @@ fn zeros(alloc: Global, nodes: usize) -> Result<Vec<u32>, AllocError>
     vec![in alloc; 0; nodes]
 }
 
-/// The counts of held pages at the start, where the ground alone holds pages.
+/// The counts of held pages at the start: the ground alone holds pages.
 fn counts_at_start(alloc: Global, nodes: usize, pages: u32) -> Result<Vec<u32>, AllocError>
     requires { 0 < nodes }
     ensures len { IfOk result (λ counts. vec_len counts ≡ nodes) }
@@ -422,10 +423,10 @@ fn counts_at_start(alloc: Global, nodes: usize, pages: u32) -> Result<Vec<u32>, 
     Ok(counts)
 }
 
-/// The orders of uses at the start, where the ground alone holds pages.
+/// The orders of uses at the start: the ground alone holds pages.
 fn uses_at_start(alloc: Global, nodes: usize, pages: u32) -> Result<Vec<Lowest>, AllocError>
     requires nodes { 0 < nodes }
-    requires pages { pages ≤ 1024 }
+    requires pages { pages ≤ MAX_PAGES }
     ensures len { IfOk result (λ uses. vec_len uses ≡ nodes) }
     ensures starts { IfOk result (λ uses. (node : ℕ) (l : ALowest) → slice_get uses.items node ≡ Some l → StartsUses pages node l) }
 {
@@ -440,7 +441,7 @@ fn uses_at_start(alloc: Global, nodes: usize, pages: u32) -> Result<Vec<Lowest>,
 /// Counts a page that a node had or has a right on.
 fn recount(held: &mut Vec<u32>, node: u32, had: bool, has: bool)
     requires node_in { node < vec_len held.old }
-    requires low { slice_index held.old.items node ≤ 1024 }
+    requires low { slice_index held.old.items node ≤ MAX_PAGES }
     requires had { from_bool had ≤ slice_index held.old.items node }
     ensures len { vec_len held.new ≡ vec_len held.old }
     ensures node { slice_index held.new.items node + from_bool had ≡
@@ -456,7 +457,7 @@ fn recount(held: &mut Vec<u32>, node: u32, had: bool, has: bool)
 fn raise_lives(lives: &mut [u32], tree: &Tree, top: u32)
     requires same_tree { nodes tree.now ≡ length lives.old }
     requires upper { IsUpper tree.now top }
-    requires room { All (λ life. life < 4194304) lives.old }
+    requires room { All (λ life. life < MAX_EVENTS) lives.old }
     ensures { (n : ℕ) → slice_index lives.new n ≡ lives_after tree.now (slice_index lives.old) top n }
 {
     let within = subtree(tree, top);

@@ -1,8 +1,10 @@
 //! The tree of nodes over a file.
 
 ghost use Rattle.std.specs.Prelude.{◌≡◌, ◌<◌, ◌≤◌, IfOk, length};
+ghost use Rattle.hist_plain.specs.declared.TheConstants.{MAX_NODES};
 ghost use Rattle.tower_core.specs.TreeShape.{IsTree, frames_of, is_within, nodes, parent};
 
+use hist_plain::MAX_NODES;
 use std::alloc::{AllocError, Global};
 use std::marker::Model;
 
@@ -16,6 +18,7 @@ pub struct Tree {
 
 impl Model for Tree {
     ghost use Rattle.std.specs.Prelude.{◌≤◌, length};
+    ghost use Rattle.hist_plain.specs.declared.TheConstants.{MAX_NODES};
     ghost use Rattle.tower_core.specs.TreeShape.{TreeShape, IsTree, nodes};
 
     ghost Value = { TreeShape };
@@ -24,15 +27,15 @@ impl Model for Tree {
 
     ghost invariant = { λ t.
         IsTree (record { parents = t.parents.items; frames = t.frames.items })
-        × (length t.parents.items ≤ 32) };
+        × (length t.parents.items ≤ MAX_NODES) };
 }
 
 impl Tree {
     /// The tree of these parents and frames, by node. A node whose frames are not 0 is a leaf, which
-    /// holds rights on at most so many pages. Want of memory is the only refusal.
+    /// holds rights on at most that many pages of a file. It fails only if memory runs out.
     pub fn new(alloc: Global, parents: &[u32], frames: &[u32]) -> Result<Tree, AllocError>
         requires tree { IsTree (record { parents = parents.now; frames = frames.now }) }
-        requires few { length parents.now ≤ 32 }
+        requires few { length parents.now ≤ MAX_NODES }
         ensures { IfOk result (λ t. t ≡ record { parents = parents.now; frames = frames.now }) }
     {
         Ok(Tree {
@@ -45,7 +48,7 @@ impl Tree {
     pub fn nodes(&self) -> u32
         ensures count { result ≡ nodes self.now }
         ensures tree { IsTree self.now }
-        ensures few { result ≤ 32 }
+        ensures few { result ≤ MAX_NODES }
     {
         self.parents.len() as u32
     }

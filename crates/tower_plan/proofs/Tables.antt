@@ -1,5 +1,5 @@
 -- Tables filled node by node.
-use Rattle.std.proofs.Common.{◌≡◌, ◌≢◌, ℕ, ◌+◌, ◌<◌, ◌≤◌, inl, inr, sym, ◌∙◌, ap, subst, refl, arith, Bool, true, false, ◌||◌, List, length, get_or, get_or-set_other, replicate}
+use Rattle.std.proofs.Common.{◌≡◌, ◌≢◌, ℕ, ◌+◌, ◌<◌, ◌≤◌, inl, inr, sym, ◌∙◌, ap, subst, refl, arith, Bool, true, false, ◌||◌, List, length, get_or, replicate}
 use Rattle.std.proofs.Math.ListN.{set}
 use Rattle.std.proofs.lemmas.List.{get_or-set_same, get_or-replicate}
 use Rattle.tower_core.specs.TreeShape.{TreeShape, parent, nodes, is_within, IsUpper, IsTree}

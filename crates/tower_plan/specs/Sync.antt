@@ -9,7 +9,7 @@ use Rattle.tower_core.specs.Trail.{State, IsSettled}
 use Rattle.tower_plan.specs.declared.plan.Next.{Next}
 use Rattle.tower_plan.specs.Plan.{depth_of}
 
--- a node with Write pushes its copy; where Write is kept, only a changed one
+-- a node with Write pushes its copy; if Write is kept, only a changed one
 pub record IsPusher (shape : TreeShape) (col : Column) (keep : Keep) (node : ℕ) : Type 0 where
   pub upper : IsUpper shape node
   pub writes : col.right node ≡ Right.Write
@@ -40,7 +40,7 @@ abbrev pub IsSyncAnswer : TreeShape → State → ℕ → ℕ → ℕ → Keep �
 IsSyncAnswer shape s page node from keep Next.Ready = IsSettled from (s.column page)
 IsSyncAnswer shape s page node from keep (Next.Do event) = IsNextOfSync shape s page node from keep event
 
--- the cost of a page: 0 where it is settled, and else the depth of the node that pushes
+-- the cost of a page: 0 if it is settled, and else the depth of the node that pushes
 pub data IsSyncCost (shape : TreeShape) (col : Column) (from : ℕ) (keep : Keep) : ℕ → Type 0 where
   Settled : IsSettled from col → IsSyncCost shape col from keep 0
   Left : (other : ℕ) → IsUnsettled from col → IsDeepestPusher shape col keep other → IsSyncCost shape col from keep (depth_of shape other)

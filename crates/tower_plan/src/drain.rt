@@ -11,11 +11,12 @@ ghost use Rattle.tower_core.specs.Flags.{AreFlags};
 use crate::plan::revoke;
 use crate::table::depths;
 use crate::{Next, Rights};
+use hist_plain::MAX_NODES;
 use tower_core::{Right, Tree, subtree};
 
 /// The event that comes next on the way to the end of the channels of a subtree. On the lowest page
 /// on which a node of the subtree has a right, the deepest such node, and of equal depth the one of
-/// the greatest number, gets FlushBack where it has Write and DeleteRange where it has Read. Ready
+/// the greatest number, gets FlushBack if it has Write and DeleteRange if it has Read. Ready
 /// means that no node of the subtree has a right. This rule is this project's own.
 pub fn next_drain<R: Rights>(tree: &Tree, rights: &R, node: u32) -> Next
     requires same_tree { nodes tree.now ≡ R.node_count rights.now }
@@ -33,6 +34,7 @@ pub fn next_drain<R: Rights>(tree: &Tree, rights: &R, node: u32) -> Next
         node (R.page_count rights.now) + 1
         ≡ rights_below tree.now (R.state rights.now) node (R.page_count rights.now)) }
 {
+    // The proof reads here that this is a tree of at most `MAX_NODES` nodes.
     let _nodes = tree.nodes();
     by_rule(tree, rights, node)
 }
@@ -45,6 +47,7 @@ fn by_rule<R: Rights>(tree: &Tree, rights: &R, top: u32) -> Next
         IsCoherent tree.now (R.state rights.now).len ((R.state rights.now).column page) }
     ensures { IsDrainAnswer tree.now (R.page_count rights.now) (R.state rights.now) top result }
 {
+    // The proof reads here that this is a tree of at most `MAX_NODES` nodes.
     let _nodes = tree.nodes();
     match lowest_held(rights, top) {
         Some(page) => match first_holder(tree, rights, &subtree(tree, top), top, page) {
@@ -77,7 +80,7 @@ fn lowest_held<R: Rights>(rights: &R, node: u32) -> Option<u32>
 fn first_holder<R: Rights>(
     tree: &Tree,
     rights: &R,
-    within: &[bool; 32],
+    within: &[bool; MAX_NODES],
     top: u32,
     page: u32,
 ) -> Option<u32>

@@ -8,7 +8,7 @@ ghost use Rattle.tower_core.specs.declared.step.Step.{Step as AStep};
 
 use crate::Rights;
 use crate::table::{depths, path};
-use hist_plain::Event;
+use hist_plain::{Event, MAX_NODES};
 use tower_core::{Right, Tree};
 
 /// What comes next.
@@ -52,7 +52,7 @@ fn hinders(want: Right, right: Right) -> bool
 fn first_hindrance<R: Rights>(
     tree: &Tree,
     rights: &R,
-    on: &[bool; 32],
+    on: &[bool; MAX_NODES],
     node: u32,
     page: u32,
     want: Right,
@@ -84,7 +84,7 @@ fn first_hindrance<R: Rights>(
 fn first_lacking<R: Rights>(
     tree: &Tree,
     rights: &R,
-    on: &[bool; 32],
+    on: &[bool; MAX_NODES],
     node: u32,
     page: u32,
     want: Right,
@@ -124,6 +124,7 @@ pub fn cost<R: Rights>(tree: &Tree, rights: &R, node: u32, page: u32, want: Righ
     ensures count { result ≡ cost_of tree.now (R.page_count rights.now) (R.state rights.now) node page want }
     ensures few { result ≤ nodes tree.now }
 {
+    // The proof reads here that this is a tree of at most `MAX_NODES` nodes.
     let _nodes = tree.nodes();
     events_left(tree, rights, node, page, want)
 }
@@ -135,6 +136,7 @@ fn events_left<R: Rights>(tree: &Tree, rights: &R, node: u32, page: u32, want: R
     requires page_in { page < R.page_count rights.now }
     ensures { result ≡ cost_of tree.now (R.page_count rights.now) (R.state rights.now) node page want }
 {
+    // The proof reads here that this is a tree of at most `MAX_NODES` nodes.
     let _nodes = tree.nodes();
     let left = count_left(tree, rights, &path(tree, node), node, page, want);
     left + u32::from(is_full(tree, rights, node, page))
@@ -144,7 +146,7 @@ fn events_left<R: Rights>(tree: &Tree, rights: &R, node: u32, page: u32, want: R
 fn count_left<R: Rights>(
     tree: &Tree,
     rights: &R,
-    on: &[bool; 32],
+    on: &[bool; MAX_NODES],
     node: u32,
     page: u32,
     want: Right,
@@ -226,6 +228,7 @@ fn by_rule<R: Rights>(tree: &Tree, rights: &R, node: u32, page: u32, want: Right
     ensures rule { IsAnswer tree.now (R.page_count rights.now) (R.state rights.now) node page want result }
     ensures tree { IsTree tree.now }
 {
+    // The proof reads here that this is a tree of at most `MAX_NODES` nodes.
     let _nodes = tree.nodes();
     let on = path(tree, node);
     if let Some(other) = first_hindrance(tree, rights, &on, node, page, want) {
@@ -256,7 +259,7 @@ fn by_rule<R: Rights>(tree: &Tree, rights: &R, node: u32, page: u32, want: Right
 ///
 /// First the deepest node off the path that hinders, and of equal depth the one of the greatest
 /// number: for a read it has Write and gets DenyWrites, and for a write it has any right and gets
-/// FlushBack or DeleteRange. Then, where the node is a leaf without a frame for the page, PageOut of
+/// FlushBack or DeleteRange. Then, if the node is a leaf without a frame for the page, PageOut of
 /// its least recently used page. Then the lowest node on the path that lacks the right gets a grant,
 /// as PageIn. Ready means that the access is allowed. These rules are this project's own; the papers
 /// ask only for one writer or many readers.

@@ -78,6 +78,7 @@ fn by_rule<R: Rights>(tree: &Tree, rights: &R, page: u32, node: u32, from: u64, 
     requires ground { ((R.state rights.now).column page).right 0 ≡ Right.Write }
     ensures { IsSyncAnswer tree.now (R.state rights.now) page node from keep result }
 {
+    // The proof reads here that this is a tree of at most `MAX_NODES` nodes.
     let _nodes = tree.nodes();
     if is_settled(rights, page, from) {
         return Next::Ready;
@@ -90,11 +91,11 @@ fn by_rule<R: Rights>(tree: &Tree, rights: &R, page: u32, node: u32, from: u64, 
     }
 }
 
-/// The event that comes next on the way to a page that is settled from that place on: the deepest
-/// node with Write and a changed copy pushes it, and where only Read is kept the deepest with Write.
-/// The message is the one of a node that asks for it itself, SyncOut or WriteOut, where the pushing
-/// node is on the path to the node of the sync, and WriteBack or DenyWrites elsewhere. Ready means
-/// that the page is settled. This rule is this project's own.
+/// The next event towards settling the page: until the disk has a copy at least as new as place
+/// `from`. The deepest node with Write and a changed copy pushes it; if only Read is kept, the deepest
+/// with Write. If the pushing node is on the path to the node of the sync, it sends SyncOut or
+/// WriteOut, and else it gets WriteBack or DenyWrites. Ready means that the page is settled. This
+/// rule is this project's own.
 pub fn next_sync<R: Rights>(
     tree: &Tree,
     rights: &R,
@@ -115,6 +116,7 @@ pub fn next_sync<R: Rights>(
         IsOneLess (IsSyncCost tree.now ((R.state rights.now).column page) from keep)
         (IsSyncCost tree.now ((state_after tree.now (R.state rights.now) event).column page) from keep)) }
 {
+    // The proof reads here that this is a tree of at most `MAX_NODES` nodes.
     let _nodes = tree.nodes();
     by_rule(tree, rights, page, node, from, keep)
 }

@@ -3,13 +3,15 @@
 ghost use Rattle.std.specs.Prelude.{◌≡◌, ◌<◌, ◌≤◌, IsTrue, ℕ};
 ghost use Rattle.std.specs.Option.{ForSome};
 ghost use Rattle.hist_plain.specs.Event.{page_of, page_of_op};
+ghost use Rattle.hist_plain.specs.declared.TheConstants.{MAX_PAGES};
 ghost use Rattle.tower_core.specs.TreeShape.{IsUpper, nodes};
 ghost use Rattle.tower_core.specs.Trail.{IsCoherentState};
 ghost use Rattle.tower_core.specs.Sheet.{nodes_of, pages_of, seen};
 ghost use Rattle.tower_plan.specs.Reached.{IsReached};
 
 use super::*;
-use hist_plain::{Bytes, Event, Keep, Op};
+use hist_plain::{Event, Keep, MAX_EVENTS, Op};
+use seen_values::Bytes;
 use std::alloc::{AllocError, Global};
 use std::process::Abort;
 use std::test::Fail;
@@ -39,6 +41,7 @@ fn next(tree: &Tree, sheet: &Sheet, wish: Wish, node: u32, page: u32, from: u64)
     requires upper { IsUpper tree.now node }
     requires page_in { page < pages_of sheet.now }
 {
+    // The proof reads here that this is a tree of at most `MAX_NODES` nodes.
     let _nodes = tree.nodes();
     match wish {
         Wish::Read => next_for(tree, sheet, node, page, Right::Read),
@@ -122,7 +125,7 @@ fn wished(alloc: Global, wish: Wish, node: u32, page: u32, from: u64) -> Result<
     })
 }
 
-/// Whether the event is of one of so many pages, if it is of a page.
+/// Whether the event is of one of these pages, if it is of a page.
 fn is_in_pages(event: &Event, pages: u32) -> bool
     ensures { IsTrue result → ForSome (page_of event.now) (λ page. page < pages) }
 {
@@ -150,14 +153,15 @@ fn is_op_in_pages(op: &Op, pages: u32) -> bool
     }
 }
 
-/// Enters the event where it is allowed, and tells whether it is.
+/// Enters the event if it is allowed, and tells whether it is.
 fn enter(tree: &Tree, sheet: &mut Sheet, event: &Event) -> bool
     requires reached { IsReached tree.now sheet.old }
     ensures reached { IsReached tree.now sheet.new }
     ensures pages { pages_of sheet.new ≡ pages_of sheet.old }
 {
+    // The proof reads here that this is a tree of at most `MAX_NODES` nodes.
     let _nodes = tree.nodes();
-    if !is_in_pages(event, sheet.pages()) || sheet.len() >= 4_194_304 {
+    if !is_in_pages(event, sheet.pages()) || sheet.len() >= MAX_EVENTS {
         return false;
     }
     if !sheet.allowed(tree, event) {
@@ -246,7 +250,7 @@ fn follow(
     pages: u32,
     wishes: &[(Wish, u32, u32, &str)],
 ) -> Result<(), Fail>
-    requires { pages ≤ 1024 }
+    requires { pages ≤ MAX_PAGES }
 {
     let mut sheet = Sheet::new(alloc, tree, pages)?;
     for (wish, node, page, want) in wishes {
