@@ -1,18 +1,21 @@
 -- A test of numbers below a bound.
-use Rattle.std.proofs.Common.{◌≡◌, ℕ, zero, suc, ◌<◌, Bool, true, false, ◌||◌, leb, refl, sym, ap, ◌∙◌, arith}
-use Rattle.std.proofs.lemmas.Bool.{leb-true, leb-false}
+use Rattle.std.proofs.Common.{◌≡◌, ℕ, ◌+◌, ◌<◌, Bool, true, get_or, sym, ap, ◌∙◌, arith}
+use Rattle.std.specs.List.{range_with_len}
+use Rattle.std.proofs.lemmas.List.Folds.{list_any_at, Any-from_list_any}
+use Rattle.std.proofs.lemmas.List.FromFn.{length-range_with_len, get_or-range_with_len}
 use Rattle.idl_check.specs.Verdict.{any_below}
 
-or_true : (b : Bool) → (b || true) ≡ true
-or_true true = refl
-or_true false = refl
-
-last_or_below : (n k : ℕ) (test : ℕ → Bool) → k < suc n → test k ≡ true → (k < n → any_below n test ≡ true) → (any_below n test || test n) ≡ true
-last_or_below n k test below is rest = cases (leb n k) refl where
-  cases : (b : Bool) → leb n k ≡ b → (any_below n test || test n) ≡ true
-  cases true e = let low = leb-true n k e in let same : k ≡ n = omega arith in ap (λ t. any_below n test || t) (ap test (sym same) ∙ is) ∙ or_true (any_below n test)
-  cases false e = ap (λ t. t || test n) (rest (leb-false n k e))
-
 pub any_below_true : (n k : ℕ) (test : ℕ → Bool) → k < n → test k ≡ true → any_below n test ≡ true
-any_below_true zero k test below is = absurd (omega arith)
-any_below_true (suc n) k test below is = last_or_below n k test below is (λ low. any_below_true n k test low is)
+any_below_true n k test below is =
+    let long = length-range_with_len 0 n in
+    let at : get_or (range_with_len 0 n) k 0 ≡ k = get_or-range_with_len 0 n k 0 below ∙ omega arith in
+    list_any_at test (range_with_len 0 n) k 0 (omega arith) (ap test at ∙ is)
+
+pub below_any : (n : ℕ) (test : ℕ → Bool) → any_below n test ≡ true → (k : ℕ) × (k < n) × (test k ≡ true)
+below_any n test e =
+    let found = Any-from_list_any test (range_with_len 0 n) e in
+    let long = length-range_with_len 0 n in
+    let low = found.2 in
+    let below : found.0 < n = omega arith in
+    let at : found.0 ≡ found.1 = (let same : found.0 ≡ 0 + found.0 = omega arith in same ∙ sym (get_or-range_with_len 0 n found.0 found.1 below) ∙ found.3) in
+    (found.0, below, ap test at ∙ found.4)

@@ -1,4 +1,16 @@
+pub mod Lists
+pub mod NameTests
+pub mod Rises
+pub mod Twice
+pub mod Repeated
 pub mod Ways
 pub mod Below
 pub mod Reaching
+pub mod Used
+pub mod Made
+pub mod Ranks
+pub mod Clashing
+pub mod Exactly
+pub mod InText
+pub mod Least
 pub mod Apart

@@ -1,17 +1,16 @@
 -- The table of what reaches what is right.
-use Rattle.std.proofs.Common.{◌≡◌, ℕ, zero, suc, ◌+◌, ◌<◌, ◌≤◌, List, [], ◌∷◌, length, map, Bool, true, false, ◌&&◌, ◌||◌, get_or, cond, count_by, Option, Some, None, add-zero, ◌⊎◌, refl, sym, ap, subst, ◌∙◌, arith}
+use Rattle.std.proofs.Common.{◌≡◌, ℕ, zero, suc, ◌<◌, ◌≤◌, List, [], ◌∷◌, length, map, Bool, true, false, ◌&&◌, ◌||◌, get_or, cond, ◌⊎◌, refl, sym, ap, subst, ◌∙◌, arith}
 use Rattle.std.proofs.Common.{inl, inr}
 use Rattle.std.proofs.lemmas.Bool.{or_cases, and_parts, cases_lt}
-use Rattle.std.proofs.lemmas.List.Recursion.{is_count_by}
 use Rattle.std.proofs.lemmas.List.{get_or-map, length-map}
 use Rattle.idl_reader.specs.Tree.{DeclTree}
-use Rattle.idl_check.specs.Reach.{at, Reaches, Step, Onward, direct, direct_row, either_row, through_row, through, ways, reached, ranks_of}
-use Rattle.idl_check.specs.Names.{decl_name}
-use Rattle.idl_check.specs.declared.why.UnfitWhy.{UnfitWhy}
-use Rattle.idl_check.specs.declared.why.UnfitWhy.TheVariants.{Repeated, UnknownType, NotInterface, Cycle}
-use Rattle.idl_check.specs.declared.why.IdlUnfit.{IdlUnfit}
-use Rattle.idl_check.specs.Verdict.{repeat_in, first_unknown, first_wrong_base, cycle_from, first_cycle, or_unfit, unfit}
+use Rattle.idl_check.specs.Reach.{at, direct, direct_row, either_row, through_row, through, ways, reached}
 use Rattle.idl_check.proofs.Ways.{length-through}
+
+-- from the first there is a way to the second, of one step or more
+pub data Reaches (rows : List (List Bool)) : ℕ → ℕ → Type 0 where
+  Step : (i j : ℕ) → at rows i j ≡ true → Reaches rows i j
+  Onward : (i j k : ℕ) → at rows i j ≡ true → Reaches rows j k → Reaches rows i k
 
 -- beyond the end there is nothing
 get_or_beyond : {X : Type 0} (xs : List X) (i : ℕ) (d : X) → length xs ≤ i → get_or xs i d ≡ d
@@ -185,127 +184,24 @@ wide_at all (d ∷ ds) (suc i) below = wide_at all ds i (omega arith)
 direct_square : (decls : List DeclTree) → Square (length decls) (direct decls)
 direct_square decls = record { tall = length-map decls (λ d. direct_row decls d); wide = λ i below. wide_at decls decls i below }
 
+-- only declarations stand in the table of what one is made of
+pub at_inside : (decls : List DeclTree) (i j : ℕ) → at (direct decls) i j ≡ true → (i < length decls) × (j < length decls)
+at_inside decls i j is = at_within (length decls) i j (direct decls) (direct_square decls) is
+
 complete : (n : ℕ) (base rows : List (List Bool)) → Square n base → Right n n base rows → (i j : ℕ) → Reaches base i j → at rows i j ≡ true
 complete n base rows s r i j (Step i' j' is) = r.more i' j' is
 complete n base rows s r i j (Onward i' m j' is rest) =
     let inside = at_within n i' m base s is in
     r.joined m i' j' inside.1 (r.more i' m is) (complete n base rows s r m j' rest)
 
+pub length-reached : (decls : List DeclTree) → length (reached decls) ≡ length decls
+length-reached decls = (right_ways (length decls) (length decls) (direct decls) (direct_square decls)).square.tall
+
+pub wide-reached : (decls : List DeclTree) (i : ℕ) → i < length decls → length (get_or (reached decls) i []) ≡ length decls
+wide-reached decls i below = (right_ways (length decls) (length decls) (direct decls) (direct_square decls)).square.wide i below
+
 pub reached_sound : (decls : List DeclTree) (i j : ℕ) → at (reached decls) i j ≡ true → Reaches (direct decls) i j
 reached_sound decls i j is = (right_ways (length decls) (length decls) (direct decls) (direct_square decls)).sound i j is
 
 pub reached_complete : (decls : List DeclTree) (i j : ℕ) → Reaches (direct decls) i j → at (reached decls) i j ≡ true
 reached_complete decls i j way = complete (length decls) (direct decls) (reached decls) (direct_square decls) (right_ways (length decls) (length decls) (direct decls) (direct_square decls)) i j way
-
-abbrev trues : List Bool → ℕ
-trues [] = 0
-trues (b ∷ bs) = cond b (1 + trues bs) (trues bs)
-
-counts : (bs : List Bool) → trues bs ≡ count_by (λ b. b) bs
-counts bs = is_count_by trues (λ b. b) refl (λ b cs. refl) bs
-
--- a row that has all of another and one more counts more
-count_least : (few more : List Bool) → length few ≡ length more → ((k : ℕ) → get_or few k false ≡ true → get_or more k false ≡ true) → trues few ≤ trues more
-count_least [] more e sub = omega arith
-count_least (f ∷ few) [] e sub = absurd (omega arith)
-count_least (f ∷ few) (m ∷ more) e sub = heads f m (sub 0) (count_least few more (omega arith) (λ k. sub (suc k))) where
-  heads : (a b : Bool) → (a ≡ true → b ≡ true) → trues few ≤ trues more → trues (a ∷ few) ≤ trues (b ∷ more)
-  heads true true h rest = omega arith
-  heads true false h rest = let isnt = h refl in absurd cc
-  heads false true h rest = omega arith
-  heads false false h rest = omega arith
-
-count_less : (few more : List Bool) → length few ≡ length more → ((k : ℕ) → get_or few k false ≡ true → get_or more k false ≡ true) → (m : ℕ) → get_or few m false ≡ false → get_or more m false ≡ true → trues few < trues more
-count_less [] [] e sub m isnt is = absurd cc
-count_less [] (b ∷ more) e sub m isnt is = absurd (omega arith)
-count_less (f ∷ few) [] e sub m isnt is = absurd (omega arith)
-count_less (f ∷ few) (b ∷ more) e sub zero isnt is = heads f b isnt is (count_least few more (omega arith) (λ k. sub (suc k))) where
-  heads : (a c : Bool) → a ≡ false → c ≡ true → trues few ≤ trues more → trues (a ∷ few) < trues (c ∷ more)
-  heads false true h g rest = omega arith
-  heads true c h g rest = absurd cc
-  heads false false h g rest = absurd cc
-count_less (f ∷ few) (b ∷ more) e sub (suc m) isnt is = heads f b (sub 0) (count_less few more (omega arith) (λ k. sub (suc k)) m isnt is) where
-  heads : (a c : Bool) → (a ≡ true → c ≡ true) → trues few < trues more → trues (a ∷ few) < trues (c ∷ more)
-  heads true true h rest = omega arith
-  heads true false h rest = let bad = h refl in absurd cc
-  heads false true h rest = omega arith
-  heads false false h rest = omega arith
-
-cycle_none : (rows : List (List Bool)) (i : ℕ) (ds : List DeclTree) → cycle_from rows i ds ≡ None → (k : ℕ) → k < length ds → at rows (i + k) (i + k) ≡ false
-cycle_none rows i [] none k below = absurd (omega arith)
-cycle_none rows i (d ∷ ds) none zero below = cases (at rows i i) refl none where
-  cases : (b : Bool) → at rows i i ≡ b → cond b (Some (decl_name d).place) (cycle_from rows (i + 1) ds) ≡ None → at rows (i + 0) (i + 0) ≡ false
-  cases true e h = absurd cc
-  cases false e h = ap (λ n. at rows n n) (add-zero i) ∙ e
-cycle_none rows i (d ∷ ds) none (suc k) below = cases (at rows i i) none (λ h. cycle_none rows (i + 1) ds h k (omega arith)) where
-  cases : (b : Bool) → cond b (Some (decl_name d).place) (cycle_from rows (i + 1) ds) ≡ None → (cycle_from rows (i + 1) ds ≡ None → at rows (i + 1 + k) (i + 1 + k) ≡ false) → at rows (i + suc k) (i + suc k) ≡ false
-  cases true h rest = absurd cc
-  cases false h rest = let same : i + suc k ≡ i + 1 + k = omega arith in ap (λ n. at rows n n) same ∙ rest h
-
-none_of : (why : UnfitWhy) (o : Option ℕ) (other : Option IdlUnfit) → or_unfit why o other ≡ None → (o ≡ None) × (other ≡ None)
-none_of why None other e = (refl, e)
-none_of why (Some place) other e = absurd cc
-
--- the reasons that do not hold where declarations fit together
-pub no_repeat : (decls : List DeclTree) → unfit decls ≡ None → repeat_in [] decls ≡ None
-unfolding unfit
-no_repeat decls fit = (none_of Repeated (repeat_in [] decls) _ fit).0
-
-pub no_wrong_base : (decls : List DeclTree) → unfit decls ≡ None → first_wrong_base decls ≡ None
-unfolding unfit
-no_wrong_base decls fit =
-    let a = none_of Repeated (repeat_in [] decls) _ fit in
-    let b = none_of UnknownType (first_unknown decls) _ a.1 in
-    (none_of NotInterface (first_wrong_base decls) _ b.1).0
-
-pub no_cycle : (decls : List DeclTree) → unfit decls ≡ None → (i : ℕ) → i < length decls → at (reached decls) i i ≡ false
-unfolding unfit
-no_cycle decls fit i below =
-    let a = none_of Repeated (repeat_in [] decls) _ fit in
-    let b = none_of UnknownType (first_unknown decls) _ a.1 in
-    let c = none_of NotInterface (first_wrong_base decls) _ b.1 in
-    let d = none_of Cycle (first_cycle decls) _ c.1 in
-    let same : 0 + i ≡ i = omega arith in
-    sym (ap (λ n. at (reached decls) n n) same) ∙ cycle_none (reached decls) 0 decls d.0 i below
-
--- a row that lacks one of its places counts less than its length
-count_within : (row : List Bool) → trues row ≤ length row
-count_within [] = omega arith
-count_within (true ∷ row) = omega (arith, count_within row)
-count_within (false ∷ row) = omega (arith, count_within row)
-
-count_below : (row : List Bool) (m : ℕ) → m < length row → get_or row m false ≡ false → trues row < length row
-count_below [] m below isnt = absurd (omega arith)
-count_below (true ∷ row) zero below isnt = absurd cc
-count_below (false ∷ row) zero below isnt = omega (arith, count_within row)
-count_below (true ∷ row) (suc m) below isnt = omega (arith, count_below row m (omega arith) isnt)
-count_below (false ∷ row) (suc m) below isnt = omega (arith, count_below row m (omega arith) isnt)
-
--- no declaration reaches as many as there are, since it does not reach itself
-pub rank_below : (decls : List DeclTree) → unfit decls ≡ None → (i : ℕ) → i < length decls → get_or (ranks_of decls) i 0 < length decls
-rank_below decls fit i below =
-    let n = length decls in
-    let rows = reached decls in
-    let square = (right_ways n n (direct decls) (direct_square decls)).square in
-    let tall = square.tall in
-    let wide = square.wide i below in
-    let less = count_below (get_or rows i []) i (omega arith) (no_cycle decls fit i below) in
-    let is : get_or (ranks_of decls) i 0 ≡ count_by (λ b. b) (get_or rows i []) = get_or-map (λ row. count_by (λ b. b) row) rows i [] 0 (omega arith) in
-    let count = counts (get_or rows i []) in
-    omega (arith, is, count, less, wide)
-
--- what a declaration is made of has a smaller number
-pub rank_falls : (decls : List DeclTree) → unfit decls ≡ None → (i j : ℕ) → at (direct decls) i j ≡ true → get_or (ranks_of decls) j 0 < get_or (ranks_of decls) i 0
-rank_falls decls fit i j is =
-    let n = length decls in
-    let r = right_ways n n (direct decls) (direct_square decls) in
-    let inside = at_within n i j (direct decls) (direct_square decls) is in
-    let rows = reached decls in
-    let tall = r.square.tall in
-    let sub : (k : ℕ) → at rows j k ≡ true → at rows i k ≡ true = λ k h. r.joined j i k inside.1 (r.more i j is) h in
-    let less = count_less (get_or rows j []) (get_or rows i []) (r.square.wide j inside.1 ∙ sym (r.square.wide i inside.0)) sub j (no_cycle decls fit j inside.1) (r.more i j is) in
-    let a : get_or (ranks_of decls) j 0 ≡ count_by (λ b. b) (get_or rows j []) = get_or-map (λ row. count_by (λ b. b) row) rows j [] 0 (omega arith) in
-    let b : get_or (ranks_of decls) i 0 ≡ count_by (λ b. b) (get_or rows i []) = get_or-map (λ row. count_by (λ b. b) row) rows i [] 0 (omega arith) in
-    let c = counts (get_or rows j []) in
-    let d = counts (get_or rows i []) in
-    omega (arith, a, b, c, d, less)

@@ -1,5 +1,5 @@
 -- Which declaration reaches which through bases, or through the types of fields.
-use Rattle.std.specs.Prelude.{◌≡◌, ℕ, zero, suc, List, [], ◌∷◌, length, Bool, true, false, ◌||◌, map, get_or, if◌then◌else◌, count_by}
+use Rattle.std.specs.Prelude.{ℕ, zero, suc, List, [], ◌∷◌, length, Bool, false, ◌||◌, map, get_or, if◌then◌else◌, count_by}
 use Rattle.idl_reader.specs.Tree.{DeclTree}
 use Rattle.idl_check.specs.Names.{decl_name, has_name, parts_of}
 
@@ -14,11 +14,6 @@ direct_row decls d = map (λ e. has_name (decl_name e).text (parts_of d)) decls
 -- the first is made of the second
 abbrev pub direct : List DeclTree → List (List Bool)
 direct decls = map (λ d. direct_row decls d) decls
-
--- from the first there is a way to the second, of one step or more
-pub data Reaches (rows : List (List Bool)) : ℕ → ℕ → Type 0 where
-  Step : (i j : ℕ) → at rows i j ≡ true → Reaches rows i j
-  Onward : (i j k : ℕ) → at rows i j ≡ true → Reaches rows j k → Reaches rows i k
 
 abbrev pub either_row : List Bool → List Bool → List Bool
 either_row [] bs = []

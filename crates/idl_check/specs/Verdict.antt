@@ -1,7 +1,7 @@
--- Whether declarations fit together: the reasons are tested one after the other over the whole text, and of one reason the first
--- place in the text counts.
-use Rattle.std.specs.Prelude.{◌≡◌, ℕ, zero, suc, ◌+◌, List, [], ◌∷◌, ◌++◌, length, Bool, false, ◌&&◌, ◌||◌, ◌==◌, not, map, if◌then◌else◌, Option, Some, None, Result, Ok, Err}
-use Rattle.std.specs.List.{flat_map, list_any}
+-- The verdict on declarations, as the checker finds it: the reasons are tested one after the other over the whole text, and of
+-- one reason the first place in the text counts. What it means stands in FitsTogether.
+use Rattle.std.specs.Prelude.{◌≡◌, ℕ, ◌+◌, List, [], ◌∷◌, ◌++◌, length, Bool, ◌&&◌, ◌||◌, ◌==◌, not, map, if◌then◌else◌, Option, Some, None, Result, Ok, Err}
+use Rattle.std.specs.List.{flat_map, list_any, range_with_len}
 use Rattle.std.specs.Str.{bytes_eq}
 use Rattle.idl_reader.specs.declared.idl.Word.{Word}
 use Rattle.idl_reader.specs.Tree.{OpTree, DeclTree, StructOf, EnumOf, InterfaceOf}
@@ -77,9 +77,9 @@ sharing decls = map (λ d. sharing_row decls d) decls
 abbrev pub has_ops : List (List Bool) → ℕ → ℕ → Bool
 has_ops rows i k = (i == k) || at rows i k
 
+-- a number below the bound passes the test
 abbrev pub any_below : ℕ → (ℕ → Bool) → Bool
-any_below zero test = false
-any_below (suc k) test = any_below k test || test k
+any_below bound test = list_any test (range_with_len 0 bound)
 
 -- the i-th has the operations of the l-th, which is another than the k-th and shares a name with it
 abbrev pub clashes_at : List (List Bool) → List (List Bool) → ℕ → ℕ → ℕ → Bool
@@ -117,7 +117,7 @@ abbrev pub passes : UnfitWhy → Option ℕ → Result (Unit {0}) IdlUnfit
 passes why None = Ok tt
 passes why (Some place) = Err (record { place = place; why = why })
 
--- A refusal is the first reason with its first place, or want of memory.
+-- A refusal is the first reason with its first place, or out of memory.
 abbrev pub Tells : UnfitWhy → IdlUnfit → Option IdlUnfit → Type 0
 Tells Memory e found = e ≡ no_memory
 Tells why e found = found ≡ Some e

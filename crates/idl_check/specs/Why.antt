@@ -12,6 +12,6 @@ word_of Cycle = codes "cycle"
 word_of Clash = codes "clash"
 word_of Memory = codes "memory"
 
--- want of memory, which has no place
+-- out of memory, which has no place
 abbrev pub no_memory : IdlUnfit
 no_memory = record { place = 0; why = Memory }

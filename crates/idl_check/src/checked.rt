@@ -1,14 +1,16 @@
 //! Declarations that were found to fit together.
 
-ghost use Rattle.std.specs.Prelude.{◌≡◌, ◌<◌, IfOk, IfErr, List, ℕ, get_or, length, true, None};
+ghost use Rattle.std.specs.Prelude.{◌≡◌, ◌≢◌, ◌<◌, ◌≤◌, ◌↔◌, IfOk, OnOk, IfErr, List, ℕ, get_or, length, None, Some};
+ghost use Rattle.idl_reader.specs.Grammar.{AreDecls, IsTextOf};
 ghost use Rattle.idl_reader.specs.Tree.{DeclTree, idl_tree};
 ghost use Rattle.idl_check.specs.Fit.{Fit, IsFit};
-ghost use Rattle.idl_check.specs.Reach.{at, direct, reached, Reaches, ranks_of};
+ghost use Rattle.idl_check.specs.FitsTogether.{IsMadeOf, FitsTogether, Holds, IsReason};
+ghost use Rattle.idl_check.specs.Reach.{ranks_of};
 ghost use Rattle.idl_check.specs.Verdict.{unfit, IsUnfit};
 
 use crate::reach::ranks;
 use crate::verdict::checked_rows;
-use crate::why::IdlUnfit;
+use crate::why::{IdlUnfit, UnfitWhy};
 use idl_reader::{Decl, Idl};
 use std::alloc::Global;
 use std::marker::Model;
@@ -59,11 +61,16 @@ impl<'a> Checked<'a> {
     }
 }
 
-/// Finds out whether the declarations of a text fit together. Refused is exactly where a reason
-/// holds: the first of them, at its first place in the text; and the rest is for want of memory.
+/// Finds out whether the declarations of a text fit together. Fails exactly if they do not, for the
+/// first reason that holds, at its first place in the text, or if memory runs out.
 pub fn check(alloc: Global, idl: &Idl) -> Result<Checked<'_>, IdlUnfit>
+    requires { AreDecls (idl_tree idl.now) }
     ensures ok { IfOk result (λ checked. checked ≡ record { idl = idl.now; ranks = ranks_of (idl_tree idl.now) }) }
-    ensures fit { IfOk result (λ checked. unfit (idl_tree idl.now) ≡ None) }
+    ensures fit { OnOk result (FitsTogether (idl_tree idl.now)) }
+    ensures unfit { IfErr result (λ e. e.why ≢ UnfitWhy.Memory → ¬ FitsTogether (idl_tree idl.now)) }
+    ensures reason { IfErr result (λ e. e.why ≢ UnfitWhy.Memory → IsReason (idl_tree idl.now) e) }
+    // The same by the verdict, which says the place too: `first_reason`.
+    ensures sound { OnOk result (unfit (idl_tree idl.now) ≡ None) }
     ensures refused { IfErr result (λ e. IsUnfit e (unfit (idl_tree idl.now))) }
 {
     let rows = checked_rows(alloc, idl.decls.as_slice())?;
@@ -71,17 +78,22 @@ pub fn check(alloc: Global, idl: &Idl) -> Result<Checked<'_>, IdlUnfit>
     Ok(Checked { idl, ranks })
 }
 
-/// The table of which declaration reaches which is right: a way of one step or more leads from the
-/// one to the other.
-pub fn ways_and_answers()
-    ensures sound { (decls : List DeclTree) (i j : ℕ) → at (reached decls) i j ≡ true → Reaches (direct decls) i j }
-    ensures complete { (decls : List DeclTree) (i j : ℕ) → Reaches (direct decls) i j → at (reached decls) i j ≡ true }
+/// The verdict is `None` exactly if the declarations fit together, and else it is the first reason
+/// against it.
+pub fn fit_exactly()
+    ensures fit { (decls : List DeclTree) → (unfit decls ≡ None) ↔ FitsTogether decls }
+    ensures reason { (decls : List DeclTree) (e : IdlUnfit) → unfit decls ≡ Some e → IsReason decls e }
 {}
 
-/// Where declarations fit together, what one is made of has a smaller number than it, and each
-/// number is below how many declarations there are: so a recursion on a declaration's fields or
-/// bases ends, within that depth.
+/// If a text declares them, the verdict's place is the first at which its reason holds.
+pub fn first_reason()
+    ensures { (text : List ℕ) (decls : List DeclTree) → IsTextOf text decls → (e : IdlUnfit) → unfit decls ≡ Some e → (place : ℕ) → Holds decls e.why place → e.place ≤ place }
+{}
+
+/// If declarations fit together, what one is made of has a smaller number than it, and each number
+/// is below how many declarations there are: so a recursion on a declaration's fields or bases ends,
+/// within that depth.
 pub fn ranks_fall()
-    ensures below { (decls : List DeclTree) → unfit decls ≡ None → (i : ℕ) → i < length decls → get_or (ranks_of decls) i 0 < length decls }
-    ensures fall { (decls : List DeclTree) → unfit decls ≡ None → (i j : ℕ) → at (direct decls) i j ≡ true → get_or (ranks_of decls) j 0 < get_or (ranks_of decls) i 0 }
+    ensures below { (decls : List DeclTree) → FitsTogether decls → (i : ℕ) → i < length decls → get_or (ranks_of decls) i 0 < length decls }
+    ensures fall { (decls : List DeclTree) → FitsTogether decls → (i j : ℕ) → IsMadeOf decls i j → get_or (ranks_of decls) j 0 < get_or (ranks_of decls) i 0 }
 {}

@@ -8,7 +8,7 @@ mod repeats;
 mod verdict;
 mod why;
 
-pub use checked::{Checked, check, ranks_fall, ways_and_answers};
+pub use checked::{Checked, check, first_reason, fit_exactly, ranks_fall};
 pub use names::{decl_name, is_interface};
 pub use why::{IdlUnfit, UnfitWhy};
 

@@ -31,12 +31,7 @@ pub fn is_interface(decl: &Decl) -> bool
 pub fn has_name(words: &[&Word], name: &str) -> bool
     ensures { result ≡ has_name name.now (map (λ word. word.now) words.now) }
 {
-    for word in words {
-        if word.text.as_str() == name {
-            return true;
-        }
-    }
-    false
+    words.iter().any(|word| word.text.as_str() == name)
 }
 
 fn put_words<'a>(out: &mut Vec<&'a Word>, words: &'a [Word]) -> Result<(), AllocError>

@@ -1,12 +1,18 @@
 //! Declarations that fit together, and those that do not, with the place and the reason.
 
+ghost use Rattle.std.specs.Prelude.{IfOk};
+ghost use Rattle.idl_reader.specs.Grammar.{AreDecls};
+ghost use Rattle.idl_reader.specs.Tree.{idl_tree};
+
 use super::*;
 use idl_reader::{Idl, IdlRefused, IdlWhy, read_idl};
 use std::alloc::Global;
 use std::test::Fail;
 
 /// Reads a text that is short enough to have places.
-fn read(alloc: Global, text: &[u8]) -> Result<Idl, IdlRefused> {
+fn read(alloc: Global, text: &[u8]) -> Result<Idl, IdlRefused>
+    ensures { IfOk result (λ idl. AreDecls (idl_tree idl)) }
+{
     if text.len() > 65_536 {
         return Err(IdlRefused {
             place: 0,

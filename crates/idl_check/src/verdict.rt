@@ -50,12 +50,8 @@ fn first_unknown(alloc: Global, decls: &[Decl]) -> Result<Option<u32>, AllocErro
 fn declares_interface(decls: &[Decl], word: &Word) -> bool
     ensures { result ≡ declares_interface (map (λ d. decl_tree d) decls.now) word.now }
 {
-    for decl in decls {
-        if is_interface(decl) && decl_name(decl).text.as_str() == word.text.as_str() {
-            return true;
-        }
-    }
-    false
+    decls.iter().any(|decl| is_interface(decl)
+        && decl_name(decl).text.as_str() == word.text.as_str())
 }
 
 /// The first word that names no interface.
@@ -114,12 +110,7 @@ fn names_of_ops<'a>(alloc: Global, ops: &'a [IdlOp]) -> Result<Vec<&'a Word>, Al
 fn one_among(names: &[&Word], words: &[&Word]) -> bool
     ensures { result ≡ list_any (λ word. has_name word.text (map (λ name. name.now) names.now)) (map (λ word. word.now) words.now) }
 {
-    for word in words {
-        if has_name(names, word.text.as_str()) {
-            return true;
-        }
-    }
-    false
+    words.iter().any(|word| has_name(names, word.text.as_str()))
 }
 
 /// Whether two declarations have an operation of one name.
@@ -170,12 +161,7 @@ fn clashes_at(rows: &[Vec<bool>], shared: &[Vec<bool>], i: usize, k: usize, l: u
 fn one_clashes(rows: &[Vec<bool>], shared: &[Vec<bool>], i: usize, k: usize) -> bool
     ensures { result ≡ any_below (length rows.now) (clashes_at (map (λ row. row.items) rows.now) (map (λ row. row.items) shared.now) i k) }
 {
-    for l in 0..rows.len() {
-        if clashes_at(rows, shared, i, k, l) {
-            return true;
-        }
-    }
-    false
+    (0..rows.len()).any(|l| clashes_at(rows, shared, i, k, l))
 }
 
 /// The same, where the i-th has the operations of the k-th too.
@@ -189,12 +175,7 @@ fn clashes_with(rows: &[Vec<bool>], shared: &[Vec<bool>], i: usize, k: usize) ->
 fn has_clash(rows: &[Vec<bool>], shared: &[Vec<bool>], i: usize) -> bool
     ensures { result ≡ has_clash (map (λ row. row.items) rows.now) (map (λ row. row.items) shared.now) i }
 {
-    for k in 0..rows.len() {
-        if clashes_with(rows, shared, i, k) {
-            return true;
-        }
-    }
-    false
+    (0..rows.len()).any(|k| clashes_with(rows, shared, i, k))
 }
 
 /// The first interface with a clash.

@@ -46,7 +46,7 @@ impl UnfitWhy {
 /// Declarations that do not fit together: where, and why.
 #[derive(Clone, Copy, Debug, PartialEq, Eq)]
 pub struct IdlUnfit {
-    /// The offset in bytes of the name that the reason is about; 0 where memory ran out.
+    /// The offset in bytes of the name that the reason is about; 0 if memory ran out.
     pub place: u32,
     /// The reason.
     pub why: UnfitWhy,

@@ -504,7 +504,7 @@ idl_again text decls is =
     let whole = many_again IsDecl decl_then [] until_end is_decl_word decl_at end_starts decl_again [] end_stops 256 decls (tokens_of text) is.0.0 is.0.1 is.1 in
     ap (λ r. r >>= λ ds. done ds.0) whole.1
 
--- a refusal of a text that declares something is for want of memory
+-- a refusal of a text that declares something is out of memory
 pub refused_memory : (decls : List DeclTree) (r : Result (List DeclTree) IdlRefused) (e : IdlRefused) → r ≡ done decls → IsRefused r e → e ≡ no_memory
 refused_memory decls r e is fails = cases e.why fails where
   cases : (w : IdlWhy) → Fails w e r → e ≡ no_memory

@@ -9,3 +9,4 @@ pub mod Found
 pub mod Again
 pub mod Printed
 pub mod Exactly
+pub mod TokenPlaces

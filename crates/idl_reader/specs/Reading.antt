@@ -1,5 +1,6 @@
 -- Reading a text token by token: for each line of the grammar what it reads, and the tokens after it, or the first token
--- that cannot stand there.
+-- that cannot stand there. This is the reader's descent, and it serves only to say which reason comes first; which texts are
+-- read, and what they declare, the grammar above it says.
 use Rattle.std.specs.Prelude.{ℕ, zero, suc, ◌-◌, ◌==◌, ◌||◌, not, List, [], ◌∷◌, ◌++◌, length, codes, Bool, true, false, if◌then◌else◌, Option, Some, None, Result, Ok, Err}
 use Rattle.std.specs.Str.{bytes_eq}
 use Rattle.idl_reader.specs.declared.why.IdlWhy.{IdlWhy}
@@ -19,7 +20,7 @@ abbrev pub ◌>>=◌ : {A B E : Type 0} → Result A E → (A → Result B E) �
 abbrev pub Reads : Type 0 → Type 0
 Reads X = Result (X × List Lexeme) IdlRefused
 
--- refused at the first token, which keeps its own reason where it is none
+-- refused at the first token; what begins no token keeps its own reason
 unfoldable pub refused : IdlWhy → List Lexeme → IdlRefused
 refused why (WordToken at word ∷ rest) = record { place = at; why = why }
 refused why (Sign at sign ∷ rest) = record { place = at; why = why }

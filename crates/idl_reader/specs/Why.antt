@@ -1,4 +1,4 @@
--- Why a text is no IDL text.
+-- Why a text is not in the language.
 use Rattle.std.specs.Prelude.{◌≡◌, ℕ, List, codes, Result, Ok, Err}
 use Rattle.idl_reader.specs.declared.why.IdlWhy.{IdlWhy}
 use Rattle.idl_reader.specs.declared.why.IdlWhy.TheVariants.{Byte, LongName, Token, Limit, Memory}
@@ -12,11 +12,11 @@ word_of Token = codes "token"
 word_of Limit = codes "limit"
 word_of Memory = codes "memory"
 
--- want of memory, which has no place
+-- out of memory, which has no place
 abbrev pub no_memory : IdlRefused
 no_memory = record { place = 0; why = Memory }
 
--- A refusal is what reading gives, or want of memory.
+-- A refusal is what reading gives, or out of memory.
 abbrev pub Fails : {Y : Type 0} → IdlWhy → IdlRefused → Result Y IdlRefused → Type 0
 Fails Memory refused read = refused ≡ no_memory
 Fails why refused read = read ≡ Err refused

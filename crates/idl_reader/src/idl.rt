@@ -1,6 +1,6 @@
 //! An IDL text as values.
 
-use hist_plain::{Items, Text};
+use seen_values::{Items, Text};
 use std::boxed::Box;
 
 /// The most declarations that a text has.

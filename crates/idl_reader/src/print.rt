@@ -6,7 +6,7 @@ ghost use Rattle.idl_reader.specs.Tree.{type_tree, field_tree, param_tree, op_tr
 ghost use Rattle.idl_reader.specs.Spelling.{comma_joined, type_text, field_text, param_text, result_text, op_text, names_text, bases_text, decl_text, spelling};
 
 use crate::idl::{Decl, Field, Idl, IdlOp, IdlType, Param, Word};
-use hist_plain::Bytes;
+use seen_values::Bytes;
 use std::alloc::{AllocError, Global};
 use text_words::put;
 
@@ -182,7 +182,7 @@ fn put_decl(out: &mut Vec<u8>, decl: &Decl) -> Result<(), AllocError>
 }
 
 /// The declarations in their one layout: two spaces before each member, an enum's names on one
-/// line, no comments. An error is want of memory.
+/// line, no comments. Fails only if memory runs out.
 pub fn print_idl(alloc: Global, idl: &Idl) -> Result<Bytes, AllocError>
     ensures { IfOk result (λ text. text ≡ spelling (idl_tree idl.now)) }
 {

@@ -19,11 +19,11 @@ use crate::idl::{
 use crate::rest::Rest;
 use crate::token::{Token, first_token};
 use crate::why::{IdlRefused, IdlWhy};
-use hist_plain::{Items, Text};
+use seen_values::{Items, Text};
 use std::alloc::Global;
 use std::boxed::Box;
 
-/// The refusal at the first token, which keeps its own reason where it is none.
+/// The refusal at the first token; what begins no token keeps its own reason.
 #[tactic(auto, unfolding(crate::specs::Reading::refused))]
 fn refusal(rest: Rest<'_>, why: IdlWhy) -> IdlRefused
     ensures { result ≡ refused why (left rest.entry) }
@@ -657,8 +657,8 @@ fn read_all(alloc: Global, text: &[u8]) -> Result<Idl, IdlRefused>
 }
 
 /// What a text of the interface definition language declares; the language and its limits are this
-/// project's own. Refused is exactly a text that is none of the language, at the first place that
-/// is wrong, and the rest for want of memory.
+/// project's own. Fails exactly if the text is not in the language, at the first place that is
+/// wrong, or if memory runs out.
 pub fn read_idl(alloc: Global, text: &[u8]) -> Result<Idl, IdlRefused>
     requires { length text.now < 2 ^ 32 }
     // What is read is declared there.

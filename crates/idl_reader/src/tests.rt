@@ -1,7 +1,7 @@
 //! Texts with what they declare, and the places and reasons of those that declare nothing.
 
 use super::*;
-use hist_plain::Bytes;
+use seen_values::Bytes;
 use std::alloc::Global;
 use std::test::Fail;
 

@@ -62,33 +62,28 @@ fn after<'a>(rest: Rest<'a>, count: usize) -> Rest<'a>
 fn is_blank(c: u8) -> bool
     ensures { result ≡ is_blank c }
 {
-    c == b' ' || c == b'\t' || c == b'\n'
+    matches!(c, b' ' | b'\t' | b'\n')
 }
 
 fn is_sign(c: u8) -> bool
     ensures { result ≡ is_sign c }
 {
-    c == b'{'
-        || c == b'}'
-        || c == b'('
-        || c == b')'
-        || c == b'<'
-        || c == b'>'
-        || c == b':'
-        || c == b';'
-        || c == b','
+    matches!(
+        c,
+        b'{' | b'}' | b'(' | b')' | b'<' | b'>' | b':' | b';' | b','
+    )
 }
 
 fn is_letter(c: u8) -> bool
     ensures { result ≡ is_letter c }
 {
-    97 <= c && c <= 122
+    c.is_ascii_lowercase()
 }
 
 fn is_name_char(c: u8) -> bool
     ensures { result ≡ is_name_char c }
 {
-    is_letter(c) || (48 <= c && c <= 57) || c == 95
+    is_letter(c) || c.is_ascii_digit() || c == b'_'
 }
 
 /// How many bytes of a word stand at the front.

@@ -1,11 +1,11 @@
-//! Why a text is no IDL text.
+//! Why a text is not in the language.
 
 ghost use Rattle.std.specs.Prelude.{◌≡◌};
 ghost use Rattle.idl_reader.specs.Why.{word_of};
 
 use std::alloc::{AllocError, AllocFailed};
 
-/// Why a text is none of the language. The first place in the text counts.
+/// Why a text is not in the language. The first place in the text counts.
 #[derive(Clone, Copy, Debug, PartialEq, Eq)]
 pub enum IdlWhy {
     /// A byte begins no token.
@@ -35,10 +35,10 @@ impl IdlWhy {
     }
 }
 
-/// A text that is none of the language: the first place that is wrong, and why.
+/// A text that is not in the language: the first place that is wrong, and why.
 #[derive(Clone, Copy, Debug, PartialEq, Eq)]
 pub struct IdlRefused {
-    /// The offset in bytes of the first byte, token or end that is wrong; 0 where memory ran out.
+    /// The offset in bytes of the first byte, token or end that is wrong; 0 if memory ran out.
     pub place: u32,
     /// The reason.
     pub why: IdlWhy,

@@ -10,12 +10,16 @@ use Rattle.std.proofs.lemmas.Grind.{flat_map-append}
 use Rattle.std.proofs.lemmas.Option.{slice_get_within, get_or_from_slice_get, slice_get-get_or}
 use Rattle.std.proofs.lemmas.Slice.Eq.{bytes_eq-Decides}
 use Rattle.idl_reader.specs.declared.idl.Word.{Word}
-use Rattle.idl_reader.specs.Tree.{DeclTree, StructOf, EnumOf, InterfaceOf}
-use Rattle.idl_check.specs.Names.{decl_name, is_interface, has_name, bases_of, parts_of}
-use Rattle.idl_check.specs.Reach.{at, direct, direct_row, ranks_of}
-use Rattle.idl_check.specs.Verdict.{repeat_in, first_failing, declares_interface, unfit}
-use Rattle.idl_check.proofs.Reaching.{rank_falls, rank_below, no_repeat, no_wrong_base}
+use Rattle.idl_reader.specs.Tree.{DeclTree, EnumOf}
+use Rattle.idl_check.specs.Names.{decl_name, is_interface, has_name, bases_of}
+use Rattle.idl_check.specs.Reach.{ranks_of}
+use Rattle.idl_check.specs.Verdict.{repeat_in, first_failing, declares_interface}
+use Rattle.idl_check.specs.FitsTogether.{Refers, Directly}
+use Rattle.idl_check.proofs.NameTests.{named}
 use Rattle.idl_check.proofs.Apart.{names_apart, bases_pass}
+use Rattle.idl_check.proofs.Ranks.{rank_falls, rank_below}
+use Rattle.idl_check.proofs.Clashing.{made_of_inherited}
+use Rattle.idl_check.proofs.Exactly.{AreSettled, acyclic_of}
 use Rattle.idl_tables.specs.Lines.{spot, base_spots, all_spots, merged, joined_line, lines_of}
 use Rattle.idl_tables.specs.Tables.{Operation, own_of, own_at, line_table, tables_of, table_named}
 use Rattle.idl_tables.specs.Rule.{table_of, inherited, each_once, FollowBases}
@@ -23,47 +27,35 @@ use Rattle.idl_tables.proofs.Stable.{Falls, line_is, length-lines_to, each_same}
 use Rattle.idl_tables.proofs.Operations.{merged_operations}
 
 -- a declaration stands at a place, and has this name
-record Stands (ds : List DeclTree) (i : ℕ) (name : List ℕ) : Type 0 where
-  decl : DeclTree
-  there : slice_get ds i ≡ Some decl
-  named : (decl_name decl).text ≡ name
+pub record Stands (ds : List DeclTree) (i : ℕ) (name : List ℕ) : Type 0 where
+  pub decl : DeclTree
+  pub there : slice_get ds i ≡ Some decl
+  pub named : (decl_name decl).text ≡ name
 
 abbrev stands_later : (d : DeclTree) (ds : List DeclTree) (i : ℕ) (name : List ℕ) → Stands ds i name → Stands (d ∷ ds) (i + 1) name
 stands_later d ds i name s = record { decl = s.decl; there = ap (λ n. slice_get (d ∷ ds) n) (add-one i) ∙ s.there; named = s.named }
 
 -- a declaration of the name stands at its spot
-spot_stands : (ds : List DeclTree) (name : List ℕ) → spot ds name < length ds → Stands ds (spot ds name) name
+pub spot_stands : (ds : List DeclTree) (name : List ℕ) → spot ds name < length ds → Stands ds (spot ds name) name
 spot_stands [] name below = absurd (omega arith)
 spot_stands (d ∷ ds) name below = cases (bytes_eq (decl_name d).text name) refl below (spot_stands ds name) where
   cases : (b : Bool) → bytes_eq (decl_name d).text name ≡ b → cond b 0 (spot ds name + 1) < suc (length ds) → (spot ds name < length ds → Stands ds (spot ds name) name) → Stands (d ∷ ds) (cond b 0 (spot ds name + 1)) name
   cases true e low later = record { decl = d; there = refl; named = (bytes_eq-Decides (decl_name d).text name).0 e }
   cases false e low later = stands_later d ds (spot ds name) name (later (omega arith))
 
-bases_are_parts : (d : DeclTree) (name : List ℕ) → has_name name (bases_of d) ≡ true → has_name name (parts_of d) ≡ true
-bases_are_parts (StructOf n fields) name h = absurd cc
-bases_are_parts (EnumOf n names) name h = absurd cc
-bases_are_parts (InterfaceOf n bases ops) name h = h
-
--- a declaration is made of its bases
-made_of : (decls : List DeclTree) (i j : ℕ) (d e : DeclTree) → slice_get decls i ≡ Some d → slice_get decls j ≡ Some e → has_name (decl_name e).text (bases_of d) ≡ true → at (direct decls) i j ≡ true
-unfolding direct_row
-made_of decls i j d e here there h =
-    let row : get_or (direct decls) i [] ≡ direct_row decls d = get_or-map (λ d. direct_row decls d) decls i d [] (slice_get_within decls i d here) ∙ ap (λ x. direct_row decls x) (get_or_from_slice_get decls i d d here) in
-    let answer : get_or (direct_row decls d) j false ≡ has_name (decl_name e).text (parts_of d) = get_or-map (λ x. has_name (decl_name x).text (parts_of d)) decls j e false (slice_get_within decls j e there) ∙ ap (λ x. has_name (decl_name x).text (parts_of d)) (get_or_from_slice_get decls j e e there) in
-    ap (λ r. get_or r j false) row ∙ answer ∙ bases_are_parts d (decl_name e).text h
-
 abbrev rank : List DeclTree → ℕ → ℕ
 rank decls i = get_or (ranks_of decls) i 0
 
 -- each of some words, which are among the bases, has a smaller number
-each_falls : (decls : List DeclTree) (i : ℕ) (d : DeclTree) → unfit decls ≡ None → slice_get decls i ≡ Some d → (words : List Word) → ((name : List ℕ) → has_name name words ≡ true → has_name name (bases_of d) ≡ true)
+each_falls : (decls : List DeclTree) (i : ℕ) (d : DeclTree) → AreSettled decls → slice_get decls i ≡ Some d → (words : List Word) → ((name : List ℕ) → has_name name words ≡ true → has_name name (bases_of d) ≡ true)
     → AllByRecursion (λ b. b < length decls → rank decls b < rank decls i) (map (λ base. spot decls base.text) words)
 each_falls decls i d fit here [] among = tt
 each_falls decls i d fit here (w ∷ words) among = (
   (λ below.
       let s = spot_stands decls w.text below in
       let is : has_name (decl_name s.decl).text (w ∷ words) ≡ true = ap (λ t. t || has_name (decl_name s.decl).text words) ((bytes_eq-Decides w.text (decl_name s.decl).text).1 (sym s.named)) in
-      rank_falls decls fit i (spot decls w.text) (made_of decls i (spot decls w.text) d s.decl here s.there (among (decl_name s.decl).text is))),
+      let refers : Refers bases_of decls i (spot decls w.text) = record { from = d; from_at = here; to = s.decl; to_at = s.there; named = named (decl_name s.decl).text (bases_of d) (among (decl_name s.decl).text is) } in
+      rank_falls decls (acyclic_of decls fit) i (spot decls w.text) (made_of_inherited decls i (spot decls w.text) (Directly i (spot decls w.text) refers))),
   each_falls decls i d fit here words (λ name h. among name (or_second (bytes_eq w.text name) (has_name name words) h)),
 ) where
   or_second : (a b : Bool) → b ≡ true → (a || b) ≡ true
@@ -76,7 +68,7 @@ spots_at decls i d here = get_or-map (λ d. base_spots decls d) decls i d [] (sl
 abbrev nobody : DeclTree
 nobody = EnumOf (record { text = []; place = 0 }) []
 
-falls : (decls : List DeclTree) → unfit decls ≡ None → Falls (rank decls) (all_spots decls)
+falls : (decls : List DeclTree) → AreSettled decls → Falls (rank decls) (all_spots decls)
 unfolding base_spots
 falls decls fit = record {
   falls = λ i below.
@@ -89,12 +81,12 @@ falls decls fit = record {
 }
 
 -- the line of each declaration is those of its bases, each declaration once, and then itself
-line_follows : (decls : List DeclTree) → unfit decls ≡ None → (i : ℕ) (d : DeclTree) → slice_get decls i ≡ Some d → get_or (lines_of decls) i [] ≡ merged (lines_of decls) [] (base_spots decls d) ++ i ∷ []
+pub line_follows : (decls : List DeclTree) → AreSettled decls → (i : ℕ) (d : DeclTree) → slice_get decls i ≡ Some d → get_or (lines_of decls) i [] ≡ merged (lines_of decls) [] (base_spots decls d) ++ i ∷ []
 unfolding joined_line
 line_follows decls fit i d here =
     let n : length (all_spots decls) ≡ length decls = length-map decls (λ d. base_spots decls d) in
     let below = slice_get_within decls i d here in
-    let low = rank_below decls fit i below in
+    let low = rank_below decls (acyclic_of decls fit) i below in
     line_is (rank decls) (all_spots decls) (falls decls fit) (length decls) i (omega arith) low
     ∙ ap (λ l. merged (lines_of decls) [] l ++ i ∷ []) (spots_at decls i d here)
 
@@ -115,7 +107,7 @@ interface_found (d ∷ ds) word h = cases (or_cases (is_interface d && bytes_eq 
       (0, record { stands = record { decl = d; there = refl; named = (bytes_eq-Decides (decl_name d).text word.text).0 both.1 }; face = both.0 })
   cases (inr is) later = found_later d ds word.text (later is)
 
-spot_within : (ds : List DeclTree) (name : List ℕ) (i : ℕ) → Stands ds i name → spot ds name < length ds
+pub spot_within : (ds : List DeclTree) (name : List ℕ) (i : ℕ) → Stands ds i name → spot ds name < length ds
 spot_within [] name i s = let at = s.there in absurd cc
 spot_within (d ∷ ds) name zero s =
     let at = s.there in
@@ -128,7 +120,7 @@ spot_within (d ∷ ds) name (suc i) s = cases (bytes_eq (decl_name d).text name)
   cases true low = omega arith
   cases false low = omega arith
 
-table_found : (tables : List (List Operation)) (k : ℕ) (ds : List DeclTree) (name : List ℕ) (d : DeclTree) → slice_get ds (spot ds name) ≡ Some d → is_interface d ≡ true → table_named tables k ds name ≡ Some (get_or tables (k + spot ds name) [])
+pub table_found : (tables : List (List Operation)) (k : ℕ) (ds : List DeclTree) (name : List ℕ) (d : DeclTree) → slice_get ds (spot ds name) ≡ Some d → is_interface d ≡ true → table_named tables k ds name ≡ Some (get_or tables (k + spot ds name) [])
 table_found tables k [] name d there face = absurd cc
 table_found tables k (x ∷ ds) name d there face = cases (bytes_eq (decl_name x).text name) there (λ h. table_found tables (k + 1) ds name d h face) where
   cases : (b : Bool) → slice_get (x ∷ ds) (cond b 0 (spot ds name + 1)) ≡ Some d → (slice_get ds (spot ds name) ≡ Some d → table_named tables (k + 1) ds name ≡ Some (get_or tables (k + 1 + spot ds name) []))
@@ -153,7 +145,7 @@ named_at_spot decls none tables word h =
     let none_before : 0 + spot decls word.text ≡ spot decls word.text = omega arith in
     ap (λ o. unwrap_or o []) (table_found tables 0 decls word.text found.1.stands.decl there found.1.face) ∙ ap (λ n. get_or tables n []) none_before
 
-table_at : (decls : List DeclTree) (lines : List (List ℕ)) (i : ℕ) → get_or (map (λ line. line_table decls line) lines) i [] ≡ line_table decls (get_or lines i [])
+pub table_at : (decls : List DeclTree) (lines : List (List ℕ)) (i : ℕ) → get_or (map (λ line. line_table decls line) lines) i [] ≡ line_table decls (get_or lines i [])
 unfolding line_table
 table_at decls [] i = refl
 table_at decls (line ∷ lines) zero = refl
@@ -179,14 +171,14 @@ line_and_own decls line i d here =
     flat_map-append (λ k. own_at (slice_get decls k)) line (i ∷ [])
     ∙ ap (λ l. line_table decls line ++ l) (append-nil (own_at (slice_get decls i)) ∙ ap (λ o. own_at o) here)
 
-inherited_is : (decls : List DeclTree) → unfit decls ≡ None → (i : ℕ) (d : DeclTree) → slice_get decls i ≡ Some d → line_table decls (merged (lines_of decls) [] (base_spots decls d)) ≡ inherited decls (tables_of decls) d
+inherited_is : (decls : List DeclTree) → AreSettled decls → (i : ℕ) (d : DeclTree) → slice_get decls i ≡ Some d → line_table decls (merged (lines_of decls) [] (base_spots decls d)) ≡ inherited decls (tables_of decls) d
 unfolding base_spots
 inherited_is decls fit i d here =
-    let none = no_repeat decls fit in
+    let none = fit.different in
     merged_operations decls none (lines_of decls) (base_spots decls d)
-    ∙ ap (λ l. each_once [] l) (by_name decls none (bases_of d) (bases_pass (λ word. declares_interface decls word) decls (no_wrong_base decls fit) i d here))
+    ∙ ap (λ l. each_once [] l) (by_name decls none (bases_of d) (bases_pass (λ word. declares_interface decls word) decls fit.faces i d here))
 
-pub tables_follow : (decls : List DeclTree) → unfit decls ≡ None → FollowBases decls (tables_of decls)
+pub tables_follow : (decls : List DeclTree) → AreSettled decls → FollowBases decls (tables_of decls)
 tables_follow decls fit =
     let tall : length (lines_of decls) ≡ length decls = length-lines_to (length decls) (all_spots decls) ∙ length-map decls (λ d. base_spots decls d) in
     let tables_tall : length (tables_of decls) ≡ length decls = length-map (lines_of decls) (λ line. line_table decls line) ∙ tall in
@@ -215,20 +207,20 @@ bases_same decls none one other (w ∷ words) h same = cases (declares_interface
       let first : table_of decls one w.text ≡ table_of decls other w.text = named_at_spot decls none one w e ∙ same.0 ∙ sym (named_at_spot decls none other w e) in
       ap (λ l. l ++ flat_map (λ base. table_of decls one base.text) words) first ∙ ap (λ l. table_of decls other w.text ++ l) (later h')
 
-same_below : (decls : List DeclTree) → unfit decls ≡ None → (one other : List (List Operation)) → FollowBases decls one → FollowBases decls other → (m i : ℕ) → i < length decls → rank decls i < m → get_or one i [] ≡ get_or other i []
+same_below : (decls : List DeclTree) → AreSettled decls → (one other : List (List Operation)) → FollowBases decls one → FollowBases decls other → (m i : ℕ) → i < length decls → rank decls i < m → get_or one i [] ≡ get_or other i []
 same_below decls fit one other p q zero i below low = absurd (omega arith)
 same_below decls fit one other p q (suc m) i below low =
     let d = get_or decls i nobody in
     let here = slice_get-get_or decls i nobody below in
     let spots : List ℕ = map (λ base. spot decls base.text) (bases_of d) in
     let same = each_same one other (length decls) (rank decls i) (rank decls) spots p.all q.all (λ x within lower. same_below decls fit one other p q m x within (omega arith)) (each_falls decls i d fit here (bases_of d) (λ name h. h)) in
-    let bases = bases_same decls (no_repeat decls fit) one other (bases_of d) (bases_pass (λ word. declares_interface decls word) decls (no_wrong_base decls fit) i d here) same in
+    let bases = bases_same decls fit.different one other (bases_of d) (bases_pass (λ word. declares_interface decls word) decls fit.faces i d here) same in
     get_or_from_slice_get one i (inherited decls one d ++ own_of d) [] (p.each i d here)
     ∙ ap (λ l. each_once [] l ++ own_of d) bases
     ∙ sym (get_or_from_slice_get other i (inherited decls other d ++ own_of d) [] (q.each i d here))
 
 -- so there are no two
-pub one_rule : (decls : List DeclTree) → unfit decls ≡ None → (one other : List (List Operation)) → FollowBases decls one → FollowBases decls other → one ≡ other
+pub one_rule : (decls : List DeclTree) → AreSettled decls → (one other : List (List Operation)) → FollowBases decls one → FollowBases decls other → one ≡ other
 one_rule decls fit one other p q =
     let long = p.all in
-    ext_get_or [] one other (p.all ∙ sym q.all) (λ i below. same_below decls fit one other p q (length decls) i (omega arith) (rank_below decls fit i (omega arith)))
+    ext_get_or [] one other (p.all ∙ sym q.all) (λ i below. same_below decls fit one other p q (length decls) i (omega arith) (rank_below decls (acyclic_of decls fit) i (omega arith)))

@@ -1,4 +1,5 @@
--- Whose operations an interface has: those of its bases in order, each once, then its own.
+-- Whose operations an interface has, as they are found: those of its bases in order, each once, then its own. The rule of the
+-- tables stands in Rule.
 use Rattle.std.specs.Prelude.{ℕ, zero, suc, ◌+◌, ◌==◌, List, [], ◌∷◌, ◌++◌, length, Bool, map, get_or, if◌then◌else◌}
 use Rattle.std.specs.List.{list_any}
 use Rattle.std.specs.Str.{bytes_eq}

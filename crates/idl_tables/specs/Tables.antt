@@ -1,5 +1,5 @@
 -- The operations of the interfaces, and their numbers.
-use Rattle.std.specs.Prelude.{ℕ, ◌+◌, ◌&&◌, List, [], ◌∷◌, ◌++◌, codes, map, get_or, slice_get, nat_lt, if◌then◌else◌, Option, Some, None}
+use Rattle.std.specs.Prelude.{ℕ, ◌+◌, ◌&&◌, List, [], ◌∷◌, ◌++◌, codes, map, get_or, slice_get, if◌then◌else◌, Option, Some, None}
 use Rattle.std.specs.List.{flat_map}
 use Rattle.std.specs.Fmt.{decimal}
 use Rattle.std.specs.Str.{bytes_eq}
@@ -43,11 +43,6 @@ table_named tables i (d ∷ ds) name = if is_interface d && bytes_eq (decl_name 
 abbrev pub number_in : List ℕ → Option (List Operation) → Option ℕ
 number_in name None = None
 number_in name (Some table) = number_from 0 name table
-
--- a number that 16 bits hold
-abbrev pub in_16_bits : Option ℕ → Option ℕ
-in_16_bits None = None
-in_16_bits (Some n) = if nat_lt n 65536 then Some n else None
 
 -- each operation on a line: its number, its name and its declarer
 abbrev pub numbered : ℕ → List Operation → List ℕ

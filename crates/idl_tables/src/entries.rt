@@ -5,7 +5,7 @@ ghost use Rattle.std.specs.Option.{option_map};
 ghost use Rattle.idl_reader.specs.Tree.{op_tree, decl_tree};
 ghost use Rattle.idl_check.specs.Names.{decl_name, is_interface};
 ghost use Rattle.idl_tables.specs.Entries.{operation};
-ghost use Rattle.idl_tables.specs.Tables.{own_of, own_at, line_table, tables_of, number_from, table_named};
+ghost use Rattle.idl_tables.specs.Tables.{own_of, own_at, line_table, tables_of, number_from, number_in, table_named};
 
 use crate::entry::Entry;
 use crate::lines::lines_of;
@@ -95,7 +95,7 @@ pub fn table_at<'b, 'a>(tables: &'b [Vec<Entry<'a>>], i: usize) -> &'b [Entry<'a
 }
 
 /// The table of the interface of this name.
-pub fn table_named<'b, 'a>(
+fn table_named<'b, 'a>(
     decls: &[Decl],
     tables: &'b [Vec<Entry<'a>>],
     name: &str,
@@ -110,8 +110,21 @@ pub fn table_named<'b, 'a>(
     None
 }
 
+/// The number of the operation of this name in the table of the interface of that name.
+pub fn number_in(
+    decls: &[Decl],
+    tables: &[Vec<Entry<'_>>],
+    interface: &str,
+    name: &str,
+) -> Option<usize>
+    ensures { result ≡ number_in name.now (table_named (map (λ t. map (λ e. operation e) t.items) tables.now) 0 (map (λ d. decl_tree d) decls.now) interface.now) }
+{
+    let table = table_named(decls, tables, interface)?;
+    number_of(table, name)
+}
+
 /// The number of the first operation of this name.
-pub fn number_of(table: &[Entry<'_>], name: &str) -> Option<usize>
+fn number_of(table: &[Entry<'_>], name: &str) -> Option<usize>
     ensures { result ≡ number_from 0 name.now (map (λ e. operation e) table.now) }
 {
     for (i, entry) in table.iter().enumerate() {

@@ -3,12 +3,13 @@
 
 mod entries;
 mod entry;
+mod laws;
 mod lines;
 mod print;
 mod table_set;
 
 pub use entry::Entry;
-pub use lines::{lines_and_bases, tables_follow_bases};
+pub use laws::{clashes_show, lines_and_bases, tables_are_few, tables_follow_bases};
 pub use table_set::{TableSet, print_tables, tables};
 
 #[cfg(test)]

@@ -1,13 +1,8 @@
 //! Whose operations an interface has.
 
-ghost use Rattle.std.specs.Prelude.{◌≡◌, IfOk, OnOk, map, [], ◌++◌, ◌∷◌, get_or, length, ◌<◌, List, ℕ, None};
-ghost use Rattle.std.specs.List.{AllByRecursion};
-ghost use Rattle.idl_reader.specs.Tree.{DeclTree, decl_tree};
-ghost use Rattle.idl_check.specs.Names.{bases_of};
-ghost use Rattle.idl_check.specs.Verdict.{unfit};
+ghost use Rattle.std.specs.Prelude.{◌≡◌, IfOk, OnOk, map, [], ◌++◌, ◌∷◌, get_or};
+ghost use Rattle.idl_reader.specs.Tree.{decl_tree};
 ghost use Rattle.idl_tables.specs.Lines.{spot, base_spots, all_spots, has_spot, once_after, merged, joined_line, next_from, lines_to, lines_of};
-ghost use Rattle.idl_tables.specs.Tables.{Operation, tables_of};
-ghost use Rattle.idl_tables.specs.Rule.{FollowBases};
 
 use idl_check::decl_name;
 use idl_reader::{Decl, Word};
@@ -144,17 +139,3 @@ pub fn lines_of(alloc: Global, decls: &[Decl]) -> Result<Vec<Vec<usize>>, AllocE
     }
     Ok(lines)
 }
-
-/// Where declarations fit together, each has the operations of its bases in order, each once, and
-/// then its own; and no other tables are so.
-pub fn tables_follow_bases()
-    ensures rule { (decls : List DeclTree) → unfit decls ≡ None → FollowBases decls (tables_of decls) }
-    ensures only { (decls : List DeclTree) → unfit decls ≡ None → (one other : List (List Operation)) → FollowBases decls one → FollowBases decls other → one ≡ other }
-{}
-
-/// Where some numbers fall from each declaration to its bases, and are less than the number of
-/// declarations, bases are followed to their end: a line is those of the bases in order, each
-/// declaration once, and then the declaration itself.
-pub fn lines_and_bases()
-    ensures { (rank : ℕ → ℕ) (decls : List DeclTree) → ((i : ℕ) → i < length (all_spots decls) → AllByRecursion (λ b. b < length (all_spots decls) → rank b < rank i) (get_or (all_spots decls) i [])) → (i : ℕ) → i < length (all_spots decls) → rank i < length decls → get_or (lines_of decls) i [] ≡ joined_line (lines_of decls) (get_or (all_spots decls) i []) i }
-{}

@@ -8,10 +8,10 @@ ghost use Rattle.idl_tables.specs.Tables.{numbered, interface_text, tables_text}
 
 use crate::entries::table_at;
 use crate::entry::Entry;
-use hist_plain::Bytes;
 use idl_check::{decl_name, is_interface};
 use idl_reader::Decl;
 use itoa::Buffer;
+use seen_values::Bytes;
 use std::alloc::{AllocError, Global};
 use text_words::put_line;
 

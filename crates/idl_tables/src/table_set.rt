@@ -1,18 +1,19 @@
 //! The tables of a text.
 
-ghost use Rattle.std.specs.Prelude.{◌≡◌, IfOk};
+ghost use Rattle.std.specs.Prelude.{◌≡◌, ◌≤◌, ◌*◌, ◌↔◌, ℕ, IfOk, Some, All, length};
 ghost use Rattle.idl_reader.specs.Tree.{idl_tree};
-ghost use Rattle.idl_tables.specs.TableSet.{IsTabled};
+ghost use Rattle.idl_tables.specs.Differ.{HaveOwnNames};
+ghost use Rattle.idl_tables.specs.TableSet.{IsTabled, IsNumberOf};
 ghost use Rattle.idl_tables.specs.Rule.{FollowBases};
-ghost use Rattle.idl_tables.specs.Tables.{tables_of, in_16_bits, table_named, number_in, tables_text};
+ghost use Rattle.idl_tables.specs.Tables.{tables_of, tables_text};
 
-use crate::entries::{number_of, table_named, tables_of};
+use crate::entries::{number_in, tables_of};
 use crate::entry::Entry;
-use crate::lines::tables_follow_bases;
+use crate::laws::{tables_are_few, tables_follow_bases};
 use crate::print::tables_text;
-use hist_plain::Bytes;
 use idl_check::Checked;
-use idl_reader::Idl;
+use idl_reader::{Idl, MAX_DECLS, MAX_MEMBERS};
+use seen_values::Bytes;
 use std::alloc::{AllocError, Global};
 use std::marker::Model;
 
@@ -58,26 +59,29 @@ impl<'a> TableSet<'a> {
         &self.ranks
     }
 
-    /// The number of an operation of an interface, by their names, counted from 0. `None` where
-    /// there is no such interface or operation, or where 16 bits do not hold the number.
+    /// The number of an operation in the table of its interface, counted from 0, by the names of
+    /// the interface and of the operation. `None` if the set has no such interface or operation.
     pub fn op_number(&self, interface: &str, name: &str) -> Option<u16>
-        ensures { result ≡ in_16_bits (number_in name.now (table_named self.now.tables 0 (idl_tree self.now.idl) interface.now)) }
+        ensures { (number : ℕ) → (result ≡ Some number) ↔ IsNumberOf self.now interface.now name.now number }
     {
-        let table = table_named(self.idl.decls.as_slice(), &self.tables, interface)?;
-        let number = number_of(table, name)?;
-        u16::try_from(number).ok()
+        let decls = self.idl.decls.as_slice();
+        let number = number_in(decls, &self.tables, interface, name)?;
+        Some(number as u16)
     }
 }
 
 /// The operations of the interfaces: those of the bases in order, each once, then an interface's
-/// own. An error is want of memory.
+/// own. Fails only if memory runs out.
 pub fn tables<'a>(alloc: Global, checked: &Checked<'a>) -> Result<TableSet<'a>, AllocError>
     ensures idl { IfOk result (λ set. set.idl ≡ checked.now.idl) }
     ensures ranks { IfOk result (λ set. set.ranks ≡ checked.now.ranks) }
     ensures tables { IfOk result (λ set. set.tables ≡ tables_of (idl_tree checked.now.idl)) }
     ensures rule { IfOk result (λ set. FollowBases (idl_tree checked.now.idl) set.tables) }
+    ensures differ { IfOk result (λ set. All HaveOwnNames set.tables) }
+    ensures few { IfOk result (λ set. All (λ table. length table ≤ MAX_DECLS * MAX_MEMBERS) set.tables) }
 {
     tables_follow_bases();
+    tables_are_few();
     let idl = checked.idl();
     let ranks = Vec::from_slice(alloc, checked.ranks())?;
     let tables = tables_of(alloc, idl.decls.as_slice())?;
@@ -85,8 +89,8 @@ pub fn tables<'a>(alloc: Global, checked: &Checked<'a>) -> Result<TableSet<'a>, 
 }
 
 /// For each interface in the order of the text a line `interface NAME`, and then for each of its
-/// operations a line with its number, its name and the interface that declares it. An error is
-/// want of memory.
+/// operations a line with its number, its name and the interface that declares it. Fails only if
+/// memory runs out.
 pub fn print_tables(alloc: Global, set: &TableSet<'_>) -> Result<Bytes, AllocError>
     ensures { IfOk result (λ text. text ≡ tables_text set.now.tables 0 (idl_tree set.now.idl)) }
 {

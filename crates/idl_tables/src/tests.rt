@@ -1,5 +1,9 @@
 //! Numbers of operations, and printed tables.
 
+ghost use Rattle.std.specs.Prelude.{IfOk};
+ghost use Rattle.idl_reader.specs.Grammar.{AreDecls};
+ghost use Rattle.idl_reader.specs.Tree.{idl_tree};
+
 use super::*;
 use idl_check::check;
 use idl_reader::{Idl, IdlRefused, IdlWhy, read_idl};
@@ -18,7 +22,9 @@ interface pager { bytes page_in(); void page_out(); void write_out(); void sync(
 interface cache { bytes flush_back(); bytes deny_writes(); bytes write_back(); void delete_range(); void zero_fill(); void destroy_cache(); };";
 
 /// Reads a text that is short enough to have places.
-fn read(alloc: Global, text: &[u8]) -> Result<Idl, IdlRefused> {
+fn read(alloc: Global, text: &[u8]) -> Result<Idl, IdlRefused>
+    ensures { IfOk result (λ idl. AreDecls (idl_tree idl)) }
+{
     if text.len() > 1_000_000 {
         return Err(IdlRefused {
             place: 0,

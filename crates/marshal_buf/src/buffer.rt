@@ -11,7 +11,7 @@ use std::alloc::{AllocError, Global};
 use std::marker::Model;
 
 /// Bytes and doors, each put behind the ones before. There are at most 4,294,967,295 bytes and as many doors.
-/// Each error is want of memory, and leaves the bytes and the doors as they were.
+/// Each call fails only if memory runs out, and then leaves the bytes and the doors as they were.
 #[derive(Debug, Drop)]
 pub struct Buf {
     bytes: Vec<u8>,
@@ -53,6 +53,25 @@ impl Buf {
         ensures { result ≡ length self.now.doors }
     {
         self.doors.len() as u32
+    }
+
+    /// Lends its bytes.
+    pub fn as_slice(&self) -> &[u8]
+        ensures value { result.now ≡ self.now.bytes }
+        ensures few { length result.now < 2 ^ 32 }
+    {
+        &self.bytes
+    }
+
+    /// Empties it, and keeps its room.
+    pub fn clear(&mut self)
+        ensures bytes { self.new.bytes ≡ [] }
+        ensures doors { self.new.doors ≡ [] }
+        ensures spare { self.old.spare + length self.old.bytes ≤ self.new.spare }
+        ensures spare_doors { self.old.spare_doors + length self.old.doors ≤ self.new.spare_doors }
+    {
+        self.bytes.clear();
+        self.doors.clear();
     }
 
     /// A buffer with equal bytes and doors.

@@ -1,62 +1,24 @@
 -- Declarations that fit together have ranks, so that no name lies deeper than there are declarations.
-use Rattle.std.proofs.Common.{◌≡◌, ℕ, zero, suc, ◌+◌, ◌<◌, ◌≤◌, Bool, true, false, cond, ◌||◌, List, [], ◌∷◌, ◌++◌, length, map, get_or, Option, Some, None, IsSome, is_some, ◌⊎◌, inl, inr, refl, sym, ap, ◌∙◌, subst, arith}
-use Rattle.std.specs.List.{flat_map}
+use Rattle.std.proofs.Common.{◌≡◌, ℕ, suc, ◌+◌, ◌<◌, Bool, true, false, cond, List, [], ◌∷◌, ◌++◌, length, map, get_or, Some, IsSome, is_some, refl, sym, ap, ◌∙◌, subst, arith, add-one}
+use Rattle.std.specs.Prelude.{slice_get}
 use Rattle.std.specs.Str.{bytes_eq}
-use Rattle.std.proofs.lemmas.Slice.Eq.{bytes_eq-Decides}
-use Rattle.std.proofs.lemmas.Bool.{or_cases, cases_lt}
-use Rattle.std.proofs.lemmas.List.{get_or-map, get_or_past, length-map}
-use Rattle.idl_reader.specs.declared.idl.Word.{Word}
-use Rattle.idl_reader.specs.Tree.{TypeTree, OfBool, OfU8, OfU32, OfU64, OfString, OfBytes, SequenceOf, OfName, FieldTree, DeclTree, StructOf, EnumOf, InterfaceOf, type_tree, field_tree}
 use Rattle.idl_reader.specs.declared.idl.Field.{Field}
-use Rattle.idl_check.specs.declared.why.UnfitWhy.{UnfitWhy}
-use Rattle.idl_check.specs.declared.why.IdlUnfit.{IdlUnfit}
-use Rattle.idl_check.specs.Names.{decl_name, has_name, type_names, field_types, uses, parts_of}
-use Rattle.idl_check.specs.Reach.{at, direct_row, direct, Reaches, Step, Onward, reached}
-use Rattle.idl_check.specs.Verdict.{first_failing, declares, first_unknown, cycle_from, first_cycle, or_unfit, unfit}
-use Rattle.idl_check.proofs.Reaching.{reached_sound, reached_complete}
-use Rattle.marshal_value.specs.Types.{Fields, IsNamed, AreNamed, IsRanked}
+use Rattle.idl_reader.specs.declared.idl.Word.{Word}
+use Rattle.idl_reader.specs.Tree.{TypeTree, OfBool, OfU8, OfU32, OfU64, OfString, OfBytes, SequenceOf, OfName, FieldTree, DeclTree, StructOf, EnumOf, InterfaceOf, idl_tree, type_tree, field_tree}
+use Rattle.idl_check.specs.FitsTogether.{HasName, IsDeclared as IsDeclaredName, Directly, FitsTogether}
+use Rattle.idl_check.specs.Names.{decl_name, type_names, field_types, uses, parts_of}
+use Rattle.idl_check.specs.Reach.{ranks_of}
+use Rattle.idl_check.proofs.Lists.{any_here, any_later, any_at, at_any, any_flat_map}
+use Rattle.idl_check.proofs.Ranks.{rank_below as decl_rank_below, rank_falls}
+use Rattle.idl_tables.specs.Lines.{spot}
+use Rattle.idl_tables.proofs.Rule.{spot_stands, spot_within}
 use Rattle.marshal_value.specs.Decls.{kind_of, find_kind, is_found}
-
--- ---- counting
-
-abbrev pub trues : List Bool → ℕ
-trues [] = 0
-trues (true ∷ xs) = suc (trues xs)
-trues (false ∷ xs) = trues xs
-
-count_le : (xs ys : List Bool) → ((k : ℕ) → get_or xs k false ≡ true → get_or ys k false ≡ true) → trues xs ≤ trues ys
-count_le [] ys h = omega arith
-count_le (true ∷ xs) [] h = let e : false ≡ true = h 0 refl in absurd cc
-count_le (false ∷ xs) [] h = omega (arith, count_le xs [] (λ k. h (suc k)))
-count_le (true ∷ xs) (true ∷ ys) h = omega (arith, count_le xs ys (λ k. h (suc k)))
-count_le (true ∷ xs) (false ∷ ys) h = let e : false ≡ true = h 0 refl in absurd cc
-count_le (false ∷ xs) (true ∷ ys) h = omega (arith, count_le xs ys (λ k. h (suc k)))
-count_le (false ∷ xs) (false ∷ ys) h = omega (arith, count_le xs ys (λ k. h (suc k)))
-
-count_lt : (xs ys : List Bool) (m : ℕ) → ((k : ℕ) → get_or xs k false ≡ true → get_or ys k false ≡ true) → get_or xs m false ≡ false → get_or ys m false ≡ true → trues xs < trues ys
-count_lt xs [] m h there_is_none there_is = absurd cc
-count_lt [] (true ∷ ys) m h there_is_none there_is = omega arith
-count_lt [] (false ∷ ys) zero h there_is_none there_is = absurd cc
-count_lt [] (false ∷ ys) (suc m) h there_is_none there_is = omega (arith, count_lt [] ys m (λ k. h (suc k)) refl there_is)
-count_lt (true ∷ xs) (b ∷ ys) zero h there_is_none there_is = absurd cc
-count_lt (false ∷ xs) (true ∷ ys) zero h there_is_none there_is = omega (arith, count_le xs ys (λ k. h (suc k)))
-count_lt (false ∷ xs) (false ∷ ys) zero h there_is_none there_is = absurd cc
-count_lt (true ∷ xs) (true ∷ ys) (suc m) h there_is_none there_is = omega (arith, count_lt xs ys m (λ k. h (suc k)) there_is_none there_is)
-count_lt (true ∷ xs) (false ∷ ys) (suc m) h there_is_none there_is = let e : false ≡ true = h 0 refl in absurd cc
-count_lt (false ∷ xs) (true ∷ ys) (suc m) h there_is_none there_is = omega (arith, count_lt xs ys m (λ k. h (suc k)) there_is_none there_is)
-count_lt (false ∷ xs) (false ∷ ys) (suc m) h there_is_none there_is = omega (arith, count_lt xs ys m (λ k. h (suc k)) there_is_none there_is)
+use Rattle.marshal_value.specs.Laws.{DeclaredWithin}
+use Rattle.marshal_value.specs.Lookup.{table_of, depth_of}
+use Rattle.marshal_value.specs.Types.{Fields, IsNamed, AreNamed, IsDeclared, IsRanked}
+use Rattle.marshal_value.proofs.Ranks.{IsNamed-map, declared_by_rank}
 
 -- ---- words
-
-or_true : (a : Bool) → (a || true) ≡ true
-or_true true = refl
-or_true false = refl
-
-or_second : (a b : Bool) → b ≡ true → (a || b) ≡ true
-or_second a b e = ap (λ (x : Bool). a || x) e ∙ or_true a
-
-or_first : (a b : Bool) → a ≡ true → (a || b) ≡ true
-or_first a b e = ap (λ (x : Bool). x || b) e
 
 abbrev Each : (List ℕ → Type 0) → List Word → Type 0
 Each P [] = Unit {0}
@@ -66,11 +28,11 @@ each_split : (P : List ℕ → Type 0) (ws vs : List Word) → Each P (ws ++ vs)
 each_split P [] vs h = (tt, h)
 each_split P (w ∷ ws) vs h = let rest = each_split P ws vs h.1 in ((h.0, rest.0), rest.1)
 
-each_in : (P : List ℕ → Type 0) (words : List Word) → ((name : List ℕ) → has_name name words ≡ true → P name) → Each P words
+each_in : (P : List ℕ → Type 0) (words : List Word) → ((name : List ℕ) → HasName name words → P name) → Each P words
 each_in P [] h = tt
 each_in P (w ∷ ws) h = (
-  h w.text (or_first (bytes_eq w.text w.text) (has_name w.text ws) ((bytes_eq-Decides w.text w.text).1 refl)),
-  each_in P ws (λ name here. h name (or_second (bytes_eq w.text name) (has_name name ws) here)),
+  h w.text (any_here (λ (v : Word). v.text ≡ w.text) w ws refl),
+  each_in P ws (λ name here. h name (any_later (λ (v : Word). v.text ≡ name) w ws here)),
 )
 
 named_each : (P : List ℕ → Type 0) (ty : TypeTree) → Each P (type_names ty) → IsNamed P ty
@@ -87,200 +49,78 @@ fields_each : (P : List ℕ → Type 0) (fields : List FieldTree) → Each P (fi
 fields_each P [] h = tt
 fields_each P (f ∷ fs) h = let both = each_split P (type_names f.ty) (field_types fs) h in (named_each P f.ty both.0, fields_each P fs both.1)
 
-either_first : (a b c : Bool) → (a || b) ≡ true → (b ≡ true → c ≡ true) → (a || c) ≡ true
-either_first true b c h f = refl
-either_first false b c h f = f h
+-- ---- what a name stands for
 
-name_in_first : (name : List ℕ) (ws vs : List Word) → has_name name ws ≡ true → has_name name (ws ++ vs) ≡ true
-name_in_first name [] vs h = absurd cc
-name_in_first name (w ∷ ws) vs h = either_first (bytes_eq w.text name) (has_name name ws) (has_name name (ws ++ vs)) h (λ rest. name_in_first name ws vs rest)
-
-name_in_second : (name : List ℕ) (ws vs : List Word) → has_name name vs ≡ true → has_name name (ws ++ vs) ≡ true
-name_in_second name [] vs h = h
-name_in_second name (w ∷ ws) vs h = or_second (bytes_eq w.text name) (has_name name (ws ++ vs)) (name_in_second name ws vs h)
-
--- a declaration at an index; beyond the end one that nothing names
-abbrev none_such : DeclTree
-none_such = EnumOf (record { text = []; place = 0 }) []
-
-abbrev decl_at : List DeclTree → ℕ → DeclTree
-decl_at decls i = get_or decls i none_such
-
-used_in_all : (decls : List DeclTree) (i : ℕ) (name : List ℕ) → i < length decls → has_name name (uses (decl_at decls i)) ≡ true → has_name name (flat_map (λ d. uses d) decls) ≡ true
-used_in_all [] i name lt h = absurd (omega arith)
-used_in_all (d ∷ ds) zero name lt h = name_in_first name (uses d) (flat_map (λ d. uses d) ds) h
-used_in_all (d ∷ ds) (suc i) name lt h = name_in_second name (uses d) (flat_map (λ d. uses d) ds) (used_in_all ds i name (omega arith) h)
-
--- where there_is_none word fails, each passes
-all_pass : (decls : List DeclTree) (words : List Word) → first_failing (λ word. declares decls word) words ≡ None → (name : List ℕ) → has_name name words ≡ true → has_name name (map (λ d. decl_name d) decls) ≡ true
-all_pass decls [] none name h = absurd cc
-all_pass decls (w ∷ ws) none name h = by_test (declares decls w) refl none (or_cases (bytes_eq w.text name) (has_name name ws) h) (λ rest. all_pass decls ws rest name)
+-- it stands for the declaration at its spot
+kind_is : (decls : List DeclTree) (name : List ℕ) (d : DeclTree) → slice_get decls (spot decls name) ≡ Some d → find_kind decls name ≡ Some (kind_of d)
+kind_is [] name d at = absurd cc
+kind_is (e ∷ es) name d at = by_test (bytes_eq (decl_name e).text name) at (λ h. kind_is es name d h)
   where
-    by_test : (b : Bool) → declares decls w ≡ b → cond b (first_failing (λ word. declares decls word) ws) (Some w.place) ≡ None → (bytes_eq w.text name ≡ true) ⊎ (has_name name ws ≡ true) →
-        (first_failing (λ word. declares decls word) ws ≡ None → has_name name ws ≡ true → has_name name (map (λ d. decl_name d) decls) ≡ true) → has_name name (map (λ d. decl_name d) decls) ≡ true
-    by_test false is none which others = absurd cc
-    by_test true is none (inl first) others = subst (λ (n : List ℕ). has_name n (map (λ d. decl_name d) decls) ≡ true) ((bytes_eq-Decides w.text name).0 first) is
-    by_test true is none (inr rest) others = others none rest
+    by_test : (b : Bool) → slice_get (e ∷ es) (cond b 0 (spot es name + 1)) ≡ Some d → (slice_get es (spot es name) ≡ Some d → find_kind es name ≡ Some (kind_of d)) → cond b (Some (kind_of e)) (find_kind es name) ≡ Some (kind_of d)
+    by_test true h rest = let same : e ≡ d = cc in ap (λ x. Some (kind_of x)) same
+    by_test false h rest = rest (sym (ap (λ n. slice_get (e ∷ es) n) (add-one (spot es name))) ∙ h)
 
--- ---- places
-
-abbrev pub index_of : List DeclTree → List ℕ → ℕ
-index_of [] name = 0
-index_of (d ∷ ds) name = cond (bytes_eq (decl_name d).text name) 0 (suc (index_of ds name))
-
-declared_some : (decls : List DeclTree) (name : List ℕ) → has_name name (map (λ d. decl_name d) decls) ≡ true → IsSome (find_kind decls name)
-declared_some [] name h = absurd cc
-declared_some (d ∷ ds) name h = by_test (bytes_eq (decl_name d).text name) h (λ rest. declared_some ds name rest)
+kind_within : (decls : List DeclTree) (name : List ℕ) → IsSome (find_kind decls name) → spot decls name < length decls
+kind_within [] name some = absurd cc
+kind_within (d ∷ ds) name some = by_test (bytes_eq (decl_name d).text name) some (λ h. kind_within ds name h)
   where
-    by_test : (b : Bool) → (b || has_name name (map (λ d. decl_name d) ds)) ≡ true → (has_name name (map (λ d. decl_name d) ds) ≡ true → IsSome (find_kind ds name)) → IsSome (cond b (Some (kind_of d)) (find_kind ds name))
-    by_test true h others = refl
-    by_test false h others = others h
+    by_test : (b : Bool) → IsSome (cond b (Some (kind_of d)) (find_kind ds name)) → (IsSome (find_kind ds name) → spot ds name < length ds) → cond b 0 (spot ds name + 1) < suc (length ds)
+    by_test true h rest = omega arith
+    by_test false h rest = let below = rest h in omega arith
 
-record StandsAt (decls : List DeclTree) (name : List ℕ) (i : ℕ) : Type 0 where
-  within : i < length decls
-  named : (decl_name (decl_at decls i)).text ≡ name
-  kind : find_kind decls name ≡ Some (kind_of (decl_at decls i))
-
-stands : (decls : List DeclTree) (name : List ℕ) → IsSome (find_kind decls name) → StandsAt decls name (index_of decls name)
-stands [] name some = absurd cc
-stands (d ∷ ds) name some = by_test (bytes_eq (decl_name d).text name) refl some (λ rest. stands ds name rest)
-  where
-    by_test : (b : Bool) → bytes_eq (decl_name d).text name ≡ b → IsSome (cond b (Some (kind_of d)) (find_kind ds name)) → (IsSome (find_kind ds name) → StandsAt ds name (index_of ds name)) → StandsAt (d ∷ ds) name (cond b 0 (suc (index_of ds name)))
-    by_test true is some others = record {
-      within = omega arith;
-      named = (bytes_eq-Decides (decl_name d).text name).0 is;
-      kind = ap (λ (b : Bool). cond b (Some (kind_of d)) (find_kind ds name)) is;
-    }
-    by_test false is some others = let rest = others some in record {
-      within = omega (arith, rest.within);
-      named = rest.named;
-      kind = ap (λ (b : Bool). cond b (Some (kind_of d)) (find_kind ds name)) is ∙ rest.kind;
-    }
+declared_some : (decls : List DeclTree) (word : Word) → IsDeclaredName decls word → IsSome (find_kind decls word.text)
+declared_some decls word a =
+    let found = at_any (λ (d : DeclTree). (decl_name d).text ≡ word.text) decls a in
+    let s = spot_stands decls word.text (spot_within decls word.text found.0 (record { decl = found.1; there = found.2; named = found.3 })) in
+    ap is_some (kind_is decls word.text s.decl s.there)
 
 -- ---- ranks
 
-abbrev pub row : List DeclTree → ℕ → List Bool
-row decls i = get_or (reached decls) i []
-
 abbrev pub rank_of : List DeclTree → List ℕ → ℕ
-rank_of decls name = trues (row decls (index_of decls name))
+rank_of decls name = get_or (ranks_of decls) (spot decls name) 0
 
-no_cycle_from : (rows : List (List Bool)) (start : ℕ) (decls : List DeclTree) → cycle_from rows start decls ≡ None → (k : ℕ) → k < length decls → at rows (start + k) (start + k) ≡ false
-no_cycle_from rows start [] none k lt = absurd (omega arith)
-no_cycle_from rows start (d ∷ ds) none k lt = by_test (at rows start start) refl none k lt (λ rest j below. no_cycle_from rows (start + 1) ds rest j below)
-  where
-    by_test : (b : Bool) → at rows start start ≡ b → cond b (Some (decl_name d).place) (cycle_from rows (start + 1) ds) ≡ None → (k : ℕ) → k < length (d ∷ ds) →
-        (cycle_from rows (start + 1) ds ≡ None → (j : ℕ) → j < length ds → at rows ((start + 1) + j) ((start + 1) + j) ≡ false) → at rows (start + k) (start + k) ≡ false
-    by_test true is none k lt others = absurd cc
-    by_test false is none zero lt others =
-        let same : start + zero ≡ start = omega arith in
-        ap (λ (n : ℕ). at rows n n) same ∙ is
-    by_test false is none (suc j) lt others =
-        let same : start + suc j ≡ (start + 1) + j = omega arith in
-        ap (λ (n : ℕ). at rows n n) same ∙ others none j (omega arith)
+module _ (decls : List DeclTree) (fits : FitsTogether decls) where
+  -- a name that a declaration uses is declared
+  used_some : (i : ℕ) (d : DeclTree) → slice_get decls i ≡ Some d → (name : List ℕ) → HasName name (uses d) → IsSome (find_kind decls name)
+  used_some i d at name used =
+      let a = any_flat_map (λ (w : Word). w.text ≡ name) (λ d. uses d) decls (any_at (λ (x : DeclTree). HasName name (uses x)) decls i d at used) in
+      let declared : IsDeclaredName decls a.1 = subst (λ (w : Word). IsDeclaredName decls w) a.3 (fits.declared a.0 a.1 a.2) in
+      subst (λ (t : List ℕ). IsSome (find_kind decls t)) a.4 (declared_some decls a.1 declared)
 
--- a declaration is made of those whose names it has
-made_of : (decls : List DeclTree) (i j : ℕ) → i < length decls → j < length decls → has_name (decl_name (decl_at decls j)).text (parts_of (decl_at decls i)) ≡ true → at (direct decls) i j ≡ true
-unfolding direct_row
-made_of decls i j below within h =
-    ap (λ (answers : List Bool). get_or answers j false) (get_or-map (λ d. direct_row decls d) decls i none_such [] below)
-    ∙ get_or-map (λ e. has_name (decl_name e).text (parts_of (decl_at decls i))) decls j none_such false within
-    ∙ h
+  field_falls : (name : List ℕ) (d : DeclTree) → slice_get decls (spot decls name) ≡ Some d → (field : List ℕ) → HasName field (parts_of d) → IsSome (find_kind decls field) → rank_of decls field < rank_of decls name
+  field_falls name d at field part some =
+      let i = spot decls name in
+      let j = spot decls field in
+      let s = spot_stands decls field (kind_within decls field some) in
+      let named : HasName (decl_name s.decl).text (parts_of d) = subst (λ (t : List ℕ). HasName t (parts_of d)) (sym s.named) part in
+      rank_falls decls fits.acyclic i j (Directly i j (record { from = d; from_at = at; to = s.decl; to_at = s.there; named = named }))
 
--- only declarations are reached
-no_answer : (decls : List DeclTree) (i j : ℕ) → length decls ≤ j → at (direct decls) i j ≡ false
-unfolding direct_row
-no_answer decls i j beyond =
-    elim (cases_lt i (length decls)) [
-      | inl below ↦
-          ap (λ (answers : List Bool). get_or answers j false) (get_or-map (λ d. direct_row decls d) decls i none_such [] below)
-          ∙ get_or_past (map (λ e. has_name (decl_name e).text (parts_of (decl_at decls i))) decls) j false (omega (arith, length-map decls (λ e. has_name (decl_name e).text (parts_of (decl_at decls i)))))
-      | inr past ↦ ap (λ (answers : List Bool). get_or answers j false) (get_or_past (direct decls) i [] (omega (arith, length-map decls (λ d. direct_row decls d))))
-    ]
+  struct_ranked : (name : List ℕ) (d : DeclTree) → slice_get decls (spot decls name) ≡ Some d → (tys : List TypeTree) → kind_of d ≡ Fields tys → AreNamed (λ field. IsSome (find_kind decls field) × (rank_of decls field < rank_of decls name)) tys
+  struct_ranked name (StructOf n fields) at tys e =
+      let same : map (λ field. field.ty) fields ≡ tys = cc in
+      subst (λ (ts : List TypeTree). AreNamed (λ field. IsSome (find_kind decls field) × (rank_of decls field < rank_of decls name)) ts) same
+      (fields_each (λ field. IsSome (find_kind decls field) × (rank_of decls field < rank_of decls name)) fields
+      (each_in (λ field. IsSome (find_kind decls field) × (rank_of decls field < rank_of decls name)) (field_types fields)
+      (λ field part. let some = used_some (spot decls name) (StructOf n fields) at field part in (some, field_falls name (StructOf n fields) at field part some))))
+  struct_ranked name (EnumOf n names) at tys e = absurd cc
+  struct_ranked name (InterfaceOf n bases ops) at tys e = absurd cc
 
-step_within : (decls : List DeclTree) (i j : ℕ) → at (direct decls) i j ≡ true → j < length decls
-step_within decls i j there_is =
-    elim (cases_lt j (length decls)) [
-      | inl within ↦ within
-      | inr beyond ↦ let there_is_none = no_answer decls i j beyond in absurd cc
-    ]
+  pub ranked : IsRanked (find_kind decls) (rank_of decls)
+  ranked name tys is =
+      let s = spot_stands decls name (kind_within decls name (ap is_some is)) in
+      let both : Some (kind_of s.decl) ≡ Some (Fields tys) = sym (kind_is decls name s.decl s.there) ∙ is in
+      let kind : kind_of s.decl ≡ Fields tys = cc in
+      struct_ranked name s.decl s.there tys kind
 
-reach_within : (decls : List DeclTree) (i j : ℕ) → Reaches (direct decls) i j → j < length decls
-reach_within decls i j (Step i' j' there_is) = step_within decls i' j' there_is
-reach_within decls i j (Onward i' m j' there_is rest) = reach_within decls m j' rest
+  pub rank_below : (name : List ℕ) → IsSome (find_kind decls name) → rank_of decls name < length decls
+  rank_below name some = decl_rank_below decls fits.acyclic (spot decls name) (kind_within decls name some)
 
-or_unfit_none : (why : UnfitWhy) (place : Option ℕ) (other : Option IdlUnfit) → or_unfit why place other ≡ None → (place ≡ None) × (other ≡ None)
-or_unfit_none why None other e = (refl, e)
-or_unfit_none why (Some place) other e = absurd cc
-
-record NoReason (decls : List DeclTree) : Type 0 where
-  unknown : first_unknown decls ≡ None
-  cycle : first_cycle decls ≡ None
-
-no_reason : (decls : List DeclTree) → unfit decls ≡ None → NoReason decls
-unfolding unfit
-no_reason decls e =
-    let a = or_unfit_none _ _ _ e in
-    let b = or_unfit_none _ _ _ a.1 in
-    let c = or_unfit_none _ _ _ b.1 in
-    let d = or_unfit_none _ _ _ c.1 in
-    record { unknown = b.0; cycle = d.0 }
-
-no_cycle : (decls : List DeclTree) → NoReason decls → (i : ℕ) → i < length decls → at (reached decls) i i ≡ false
-no_cycle decls fit i below =
-    let same : zero + i ≡ i = omega arith in
-    subst (λ (n : ℕ). at (reached decls) n n ≡ false) same (no_cycle_from (reached decls) 0 decls fit.cycle i below)
-
-parts_used : (d : DeclTree) (tys : List TypeTree) (name : List ℕ) → kind_of d ≡ Fields tys → has_name name (parts_of d) ≡ true → has_name name (uses d) ≡ true
-parts_used (StructOf n fields) tys name e h = h
-parts_used (EnumOf n names) tys name e h = absurd cc
-parts_used (InterfaceOf n bases ops) tys name e h = absurd cc
-
-struct_named : (P : List ℕ → Type 0) (d : DeclTree) (tys : List TypeTree) → kind_of d ≡ Fields tys → ((name : List ℕ) → has_name name (parts_of d) ≡ true → P name) → AreNamed P tys
-struct_named P (StructOf n fields) tys e h =
-    let same : map (λ field. field.ty) fields ≡ tys = cc in
-    subst (λ (ts : List TypeTree). AreNamed P ts) same (fields_each P fields (each_in P (field_types fields) h))
-struct_named P (EnumOf n names) tys e h = absurd cc
-struct_named P (InterfaceOf n bases ops) tys e h = absurd cc
-
-pub ranked : (decls : List DeclTree) → unfit decls ≡ None → IsRanked (find_kind decls) (rank_of decls)
-ranked decls sound name tys is =
-    let fit = no_reason decls sound in
-    let i = index_of decls name in
-    let here : StandsAt decls name i = stands decls name (ap is_some is) in
-    let both : Some (kind_of (decl_at decls i)) ≡ Some (Fields tys) = sym here.kind ∙ is in
-    let kind : kind_of (decl_at decls i) ≡ Fields tys = cc in
-    struct_named (λ field. IsSome (find_kind decls field) × (rank_of decls field < rank_of decls name)) (decl_at decls i) tys kind (λ field has.
-    let some = declared_some decls field (all_pass decls (flat_map (λ d. uses d) decls) fit.unknown field (used_in_all decls i field here.within (parts_used (decl_at decls i) tys field kind has))) in
-    let j = index_of decls field in
-    let there : StandsAt decls field j = stands decls field some in
-    let there_is = made_of decls i j here.within there.within (subst (λ (n : List ℕ). has_name n (parts_of (decl_at decls i)) ≡ true) (sym there.named) has) in (
-      some,
-      count_lt (row decls j) (row decls i) j
-          (λ k on. reached_complete decls i k (Onward i j k there_is (reached_sound decls j k on)))
-          (no_cycle decls fit j there.within)
-          (reached_complete decls i j (Step i j there_is)),
-    ))
-
-all_true : (decls : List DeclTree) (k : ℕ) → k < length decls → get_or (map (λ d. true) decls) k false ≡ true
-all_true [] k lt = absurd (omega arith)
-all_true (d ∷ ds) zero lt = refl
-all_true (d ∷ ds) (suc k) lt = all_true ds k (omega arith)
-
-count_true : (decls : List DeclTree) → trues (map (λ d. true) decls) ≡ length decls
-count_true [] = refl
-count_true (d ∷ ds) = omega (arith, count_true ds)
-
-pub rank_below : (decls : List DeclTree) → unfit decls ≡ None → (name : List ℕ) → IsSome (find_kind decls name) → rank_of decls name < length decls
-rank_below decls sound name some =
-    let fit = no_reason decls sound in
-    let i = index_of decls name in
-    let here : StandsAt decls name i = stands decls name some in
-    let below = count_lt (row decls i) (map (λ d. true) decls) i
-    (λ k on. all_true decls k (reach_within decls i k (reached_sound decls i k on)))
-    (no_cycle decls fit i here.within)
-    (all_true decls i here.within) in
-    omega (arith, below, count_true decls)
+-- the names of a type are declared no deeper than there are declarations
+pub declared_within : DeclaredWithin
+declared_within set tabled ty named =
+    let decls = idl_tree set.idl in
+    IsNamed-map (λ name. IsSome (table_of set name)) (IsDeclared (table_of set) (depth_of set))
+    (λ name some. declared_by_rank (table_of set) (rank_of decls) (ranked decls tabled.fits) (depth_of set) name some (rank_below decls tabled.fits name some)) ty named
 
 -- ---- the test whether the names of a type are declared
 

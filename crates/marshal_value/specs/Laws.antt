@@ -1,9 +1,11 @@
 -- What holds of every value of a type.
-use Rattle.std.specs.Prelude.{◌≡◌, ◌<◌, ℕ, ◌^◌, ◌++◌, List, length, Ok}
+use Rattle.std.specs.Prelude.{◌≡◌, ◌<◌, ℕ, ◌^◌, ◌++◌, List, length, Ok, IsSome}
 use Rattle.marshal_buf.specs.declared.door.Door.{Door}
 use Rattle.marshal_buf.specs.Held.{Held, Puts}
 use Rattle.marshal_buf.specs.Reading.{Reading}
 use Rattle.idl_reader.specs.Tree.{TypeTree}
+use Rattle.idl_tables.specs.TableSet.{Tabled, IsTabled}
+use Rattle.marshal_value.specs.Lookup.{table_of, depth_of}
 use Rattle.marshal_value.specs.Tree.{Tree}
 use Rattle.marshal_value.specs.Spelling.{spelling, doors_of}
 use Rattle.marshal_value.specs.Types.{Table, IsOf, IsNamed, IsDeclared}
@@ -18,6 +20,10 @@ pub record IsOne (doors : ℕ) (v w : Tree) (more others : List ℕ) : Type 0 wh
 
 abbrev pub OneSpelling : Type 0
 OneSpelling = (table : Table) (ty : TypeTree) (doors : ℕ) (v w : Tree) (more others : List ℕ) → IsOf table ty v → IsOf table ty w → spelling doors v ++ more ≡ spelling doors w ++ others → IsOne doors v w more others
+
+-- if a set declares the names of a type, they lie no deeper than there are declarations, and so do those of the fields
+abbrev pub DeclaredWithin : Type 0
+DeclaredWithin = (set : Tabled) → IsTabled set → (ty : TypeTree) → IsNamed (λ name. IsSome (table_of set name)) ty → IsNamed (IsDeclared (table_of set) (depth_of set)) ty
 
 -- a reading that stands where the value was put
 pub record StandsBefore (old new : Held) (more : List ℕ) (more_doors : List Door) (r : Reading) : Type 0 where

@@ -19,7 +19,7 @@ mod why;
 
 pub use check::is_value_of;
 pub use kind::declares;
-pub use laws::{one_spelling, written_is_read};
+pub use laws::{declared_within, one_spelling, written_is_read};
 pub use put::{fits, put_value};
 pub use read::get_value;
 pub use value::Value;

@@ -87,7 +87,7 @@ pub fn fits(value: &Value, buf: &Buf) -> bool
 }
 
 /// Puts a value of a type, all of it or nothing. The set and the type are named for the condition alone, since a
-/// value's spelling does not depend on them. An error is want of memory, and none comes where there is room.
+/// value's spelling does not depend on them. Fails only if memory runs out, and never if there is room.
 pub fn put_value(
     _set: &TableSet<'_>,
     _ty: &IdlType,

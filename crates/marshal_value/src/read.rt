@@ -21,7 +21,7 @@ use idl_tables::TableSet;
 use marshal_buf::Reader;
 use std::alloc::Global;
 
-/// Reads a value of a type whose names the set declares. It may be refused for want of memory; else the refusal
+/// Reads a value of a type whose names the set declares. It may run out of memory; else the refusal
 /// names the first part, in the order of the bytes, that cannot stand. A refused call leaves the reader where it
 /// stood.
 pub fn get_value(
@@ -128,10 +128,7 @@ fn read_named(
         }
         Some(NameKind::Names { number }) => read_enum(number, from),
         Some(NameKind::Object) => read_reference(from),
-        None => Err(BadValue {
-            at: 0,
-            why: ValueWhy::Memory,
-        }),
+        None => unreachable!(),
     }
 }
 

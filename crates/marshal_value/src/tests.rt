@@ -1,11 +1,15 @@
 //! Each public call, at values and bytes worked out by hand.
 
+ghost use Rattle.std.specs.Prelude.{IfOk};
+ghost use Rattle.idl_reader.specs.Grammar.{AreDecls};
+ghost use Rattle.idl_reader.specs.Tree.{idl_tree};
+
 use super::*;
-use hist_plain::{Bytes, Text};
 use idl_check::check;
 use idl_reader::{Idl, IdlRefused, IdlType, IdlWhy, Word, read_idl};
 use idl_tables::{TableSet, tables};
 use marshal_buf::{Buf, Door, Reader};
+use seen_values::{Bytes, Text};
 use std::alloc::{AllocError, Global};
 use std::boxed::Box;
 use std::test::Fail;
@@ -38,7 +42,9 @@ interface i { };
 ";
 
 /// The declarations of the text.
-fn read_text(alloc: Global) -> Result<Idl, IdlRefused> {
+fn read_text(alloc: Global) -> Result<Idl, IdlRefused>
+    ensures { IfOk result (λ idl. AreDecls (idl_tree idl)) }
+{
     if TEXT.len() > 65_536 {
         return Err(IdlRefused {
             place: 0,
@@ -140,6 +146,7 @@ fn put_and_get(rt: HostRuntime) -> Result<(), Fail> {
     assert!(rt; reader.rest().is_empty());
     let again = spelled(alloc, &set, &ty, &value)?;
     assert_eq!(rt; again.reader().rest(), ALL.as_slice());
+    declared_within();
     one_spelling();
     written_is_read();
     Ok(())

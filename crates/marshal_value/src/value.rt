@@ -1,7 +1,7 @@
 //! A value.
 
-use hist_plain::{Bytes, Text};
 use marshal_buf::Door;
+use seen_values::{Bytes, Text};
 
 /// A value of a type of an interface: what a call passes, or answers.
 #[derive(Debug, Drop)]

@@ -32,7 +32,7 @@ pub enum ValueWhy {
 #[error("{why} at byte {at}")]
 pub struct BadValue {
     /// Where that part begins, in bytes from the input's start; the length of the whole input where it is too
-    /// short, and 0 where memory ran out.
+    /// short, and 0 if memory ran out.
     pub at: u32,
     /// Why it cannot stand.
     pub why: ValueWhy,

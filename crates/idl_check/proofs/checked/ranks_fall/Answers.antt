@@ -1,8 +1,8 @@
-use Rattle.idl_check.proofs.Reaching.{rank_falls, rank_below}
+use Rattle.idl_check.proofs.Ranks.{rank_below, rank_falls}
 use Rattle.idl_check.proofs.checked.ranks_fall.Goals as goal
 
 pub returns-clause-below : goal.returns-clause-below
-returns-clause-below c = rank_below
+returns-clause-below c decls f = rank_below decls f.acyclic
 
 pub returns-clause-fall : goal.returns-clause-fall
-returns-clause-fall c = rank_falls
+returns-clause-fall c decls f = rank_falls decls f.acyclic

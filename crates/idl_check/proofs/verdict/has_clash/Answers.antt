@@ -1,12 +1,12 @@
-use Rattle.std.proofs.Common.{◌<◌, map, length, sym, subst, ◌∙◌}
+use Rattle.std.proofs.Common.{rules, tests, arith, map, length, sym, ◌∙◌, ap}
 use Rattle.std.proofs.lemmas.List.{length-map}
-use Rattle.idl_check.specs.Verdict.{clashes_with}
-use Rattle.idl_check.proofs.Below.{any_below_true}
+use Rattle.std.proofs.lemmas.Iterator.{YieldsList-from_range}
+use Rattle.std.proofs.lemmas.Iterator.Search.{any_from_yields_List}
+use Rattle.idl_check.specs.Verdict.{any_below, clashes_with}
 use Rattle.idl_check.proofs.verdict.has_clash.Goals as goal
 
-pub returns-then-clashes_with : goal.returns-then-clashes_with
-returns-then-clashes_with c =
-    let rows = map (λ row. row.items) c.args.rows.now in
-    let shared = map (λ row. row.items) c.args.shared.now in
-    let below : c.loop-k.k < length rows = subst (λ n. c.loop-k.k < n) (sym (length-map c.args.rows.now (λ row. row.items))) c.loop-k-test.true in
-    sym (any_below_true (length rows) c.loop-k.k (clashes_with rows shared c.args.i) below (sym c.clashes_with.ensures ∙ c.if-clashes_with.true))
+pub returns : goal.returns
+returns c =
+    any_from_yields_List (clashes_with (map (λ row. row.items) c.args.rows.now) (map (λ row. row.items) c.args.shared.now) c.args.i) _ _ _ c.any.ensures.ran
+    (YieldsList-from_range 0 (length c.args.rows.now) (length c.args.rows.now) (cc) (omega arith)) (λ x b q k. search (rules, tests))
+    ∙ ap (λ n. any_below n (clashes_with (map (λ row. row.items) c.args.rows.now) (map (λ row. row.items) c.args.shared.now) c.args.i)) (sym (length-map c.args.rows.now (λ row. row.items)))

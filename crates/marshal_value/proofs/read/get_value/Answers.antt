@@ -1,13 +1,10 @@
-use Rattle.std.proofs.Common.{ℕ, IsSome, sym, ◌∙◌, subst}
+use Rattle.std.proofs.Common.{ℕ, sym, ◌∙◌, subst}
 use Rattle.std.proofs.lemmas.Result.{err_from_is_err_and}
 use Rattle.marshal_buf.specs.Reading.{Reading, IsReader}
 use Rattle.marshal_value.specs.Tree.{tree_of}
-use Rattle.idl_reader.specs.Tree.{TypeTree, type_tree}
-use Rattle.marshal_value.specs.Lookup.{table_of, depth_of}
-use Rattle.idl_reader.specs.Tree.{idl_tree}
-use Rattle.idl_tables.specs.TableSet.{Tabled, IsTabled}
-use Rattle.marshal_value.proofs.Fitting.{rank_of, ranked, rank_below}
-use Rattle.marshal_value.proofs.Ranks.{IsNamed-map, declared_by_rank}
+use Rattle.idl_reader.specs.Tree.{type_tree}
+use Rattle.marshal_value.specs.Lookup.{table_of}
+use Rattle.marshal_value.proofs.Fitting.{declared_within}
 use Rattle.marshal_value.specs.Types.{IsNamed, IsDeclared}
 use Rattle.marshal_value.specs.Reading.{ComesNext, IsRead}
 use Rattle.marshal_value.proofs.Again.{value_again}
@@ -19,16 +16,9 @@ use Rattle.marshal_value.proofs.read.get_value.Goals as goal
 sound : (r : Reading) → IsReader r → IsSound r
 sound r reader = record { bytes = reader.bytes; doors = reader.few }
 
--- the names of a type are declared no deeper than there are declarations
-all_declared : (set : Tabled) (ty : TypeTree) → IsTabled set → IsNamed (λ name. IsSome (table_of set name)) ty → IsNamed (IsDeclared (table_of set) (depth_of set)) ty
-all_declared set ty fit h =
-    let decls = idl_tree set.idl in
-    IsNamed-map (λ name. IsSome (table_of set name)) (IsDeclared (table_of set) (depth_of set))
-    (λ name some. declared_by_rank (table_of set) (rank_of decls) (ranked decls fit.sound) (depth_of set) name some (rank_below decls fit.sound name some)) ty h
-
 pub read_value-requires : goal.read_value-requires
 read_value-requires c =
-    subst (λ (n : ℕ). IsNamed (IsDeclared (table_of c.args.set.now) n) (type_tree c.args.ty.now)) (sym c.depth_of.ensures.depth) (all_declared c.args.set.now (type_tree c.args.ty.now) c.depth_of.ensures.tabled c.requires)
+    subst (λ (n : ℕ). IsNamed (IsDeclared (table_of c.args.set.now) n) (type_tree c.args.ty.now)) (sym c.depth_of.ensures.depth) (declared_within c.args.set.now c.depth_of.ensures.tabled (type_tree c.args.ty.now) c.requires)
 
 pub returns-clause-of : goal.returns-clause-of
 returns-clause-of c =
@@ -42,7 +32,7 @@ returns-clause-read c =
 pub returns-clause-only : goal.returns-clause-only
 returns-clause-only c = λ v more more_doors of next.
     let table = table_of c.args.set.now in
-    let known = subst (λ (n : ℕ). IsNamed (IsDeclared table n) (type_tree c.args.ty.now)) (sym c.depth_of.ensures.depth) (all_declared c.args.set.now (type_tree c.args.ty.now) c.depth_of.ensures.tabled c.requires) in
+    let known = subst (λ (n : ℕ). IsNamed (IsDeclared table n) (type_tree c.args.ty.now)) (sym c.depth_of.ensures.depth) (declared_within c.args.set.now c.depth_of.ensures.tabled (type_tree c.args.ty.now) c.requires) in
     let there = subst (λ (r : Reading). ComesNext v more more_doors r) (sym c.copy-ahead.ensures.same) next in
     let again = value_again table c.depth_of.result (type_tree c.args.ty.now) known c.copy-ahead.result v more more_doors c.copy-ahead.ensures.reader.few of there in
     (read_is (tree_of c.in_ok-value.value) v c.read_value.new.from _ (sym c.in_ok-value.ensures ∙ again)).0
@@ -51,7 +41,7 @@ pub returns-in_err-value-clause-only : goal.returns-in_err-value-clause-only
 returns-in_err-value-clause-only c = λ v more more_doors of next.
     let table = table_of c.args.set.now in
     let p = err_from_is_err_and c.from_residual.result c.from_residual.ensures.1 in
-    let known = subst (λ (n : ℕ). IsNamed (IsDeclared table n) (type_tree c.args.ty.now)) (sym c.depth_of.ensures.depth) (all_declared c.args.set.now (type_tree c.args.ty.now) c.depth_of.ensures.tabled c.requires) in
+    let known = subst (λ (n : ℕ). IsNamed (IsDeclared table n) (type_tree c.args.ty.now)) (sym c.depth_of.ensures.depth) (declared_within c.args.set.now c.depth_of.ensures.tabled (type_tree c.args.ty.now) c.requires) in
     let there = subst (λ (r : Reading). ComesNext v more more_doors r) (sym c.copy-ahead.ensures.same) next in
     let again = value_again table c.depth_of.result (type_tree c.args.ty.now) known c.copy-ahead.result v more more_doors c.copy-ahead.ensures.reader.few of there in
     rw (p.1, p.2) (refuses_only c.in_err-value.field-0.0.why c.in_err-value.field-0.0.at (λ refused. absurd cc) c.in_err-value.ensures)
