@@ -1,5 +1,5 @@
 -- The rows of the table, of which the first that is met counts.
-use Rattle.std.proofs.Common.{◌≡◌, ℕ, Bool, true, false, ◌==◌, List, [], ◌∷◌, ◌++◌, Option, Some, None, Ok, Err, refl, sym, ap}
+use Rattle.std.proofs.Common.{◌≡◌, ℕ, Bool, true, false, ◌==◌, List, [], ◌∷◌, ◌++◌, Option, Some, None, Ok, Err, refl, sym, ap, ◌∙◌}
 use Rattle.disk_format.specs.declared.shape.ImageShape.{ImageShape}
 use Rattle.disk_format.specs.declared.image.Image.{Image}
 use Rattle.disk_format.specs.declared.image.Header.{Header}
@@ -7,7 +7,7 @@ use Rattle.disk_format.specs.declared.why.BadImage.{BadImage}
 use Rattle.disk_format.specs.declared.why.ImageWhy.{ImageWhy}
 use Rattle.disk_format.specs.Table.{Row, wants, found, first_met, unless}
 use Rattle.disk_format.specs.VersionOne.{header_in, map_in, image_at, header_rows, map_rows, entries_in, number_at, long_number_at, is_generation}
-use Rattle.disk_format.specs.declared.why.ImageWhy.TheVariants.{Magic, Version, PageSize, Pages, Generation}
+use Rattle.disk_format.specs.declared.why.ImageWhy.TheVariants.{Magic, Version, PageSize, Pages, Generation, Pad, Memory}
 
 pub met-after : (a b : List Row) → first_met a ≡ None → first_met (a ++ b) ≡ first_met b
 met-after [] b h = refl
@@ -34,6 +34,39 @@ unless-ok (Some bad) x y h = cc
 pub unless-err : {X : Type 0} (o : Row) (x : X) (bad : BadImage) → unless o x ≡ Err bad → o ≡ Some bad
 unless-err None x bad h = cc
 unless-err (Some b) x bad h = cc
+
+-- no row of a header is met for want of memory
+
+abbrev IsOther : Row → Type 0
+IsOther None = Unit {0}
+IsOther (Some bad) = bad.why ≡ Memory → ⊥
+
+abbrev AllOther : List Row → Type 0
+AllOther [] = Unit {0}
+AllOther (row ∷ rows) = IsOther row × AllOther rows
+
+same-bad : (a b : BadImage) → Some a ≡ Some b → a ≡ b
+same-bad a b h = cc
+
+met-other : (rows : List Row) (bad : BadImage) → AllOther rows → first_met rows ≡ Some bad → bad.why ≡ Memory → ⊥
+met-other [] bad h e m = cc
+met-other (Some x ∷ rows) bad h e m = h.0 (ap (λ (b : BadImage). b.why) (same-bad x bad e) ∙ m)
+met-other (None ∷ rows) bad h e m = met-other rows bad h.1 e m
+
+wants-other : (t : Bool) (why : ImageWhy) (place : ℕ) → (why ≡ Memory → ⊥) → IsOther (wants t why place)
+wants-other true why place h = tt
+wants-other false why place h = h
+
+found-other : (why : ImageWhy) (place : Option ℕ) → (why ≡ Memory → ⊥) → IsOther (found why place)
+found-other why None h = tt
+found-other why (Some place) h = h
+
+pub header-other : (shape : ImageShape) (block : List ℕ) (bad : BadImage) → header_in shape block ≡ Err bad → bad.why ≡ Memory → ⊥
+header-other shape block bad e =
+    met-other (header_rows shape block) bad (
+      wants-other _ Magic 0 (λ m. cc),
+      (wants-other _ Version 4 (λ m. cc), (wants-other _ PageSize 8 (λ m. cc), (wants-other _ Pages 12 (λ m. cc), (wants-other _ Generation 16 (λ m. cc), (found-other Pad _ (λ m. cc), tt))))),
+    ) (unless-err (first_met (header_rows shape block)) _ bad e)
 
 -- a header that is none makes no image
 pub image-no_header : (shape : ImageShape) (block map : List ℕ) (bad : BadImage) → header_in shape block ≡ Err bad → image_at shape block map ≡ Err bad

@@ -7,7 +7,7 @@ use Rattle.disk_format.specs.declared.why.BadImage.{BadImage}
 abbrev pub Row : Type 0
 Row = Option BadImage
 
--- a row of one place, which is met where something does not hold there
+-- a row of one place, which is met if something does not hold there
 abbrev pub wants : Bool → ImageWhy → ℕ → Row
 wants holds why place = if holds then None else Some (record { place = place; why = why })
 
@@ -22,7 +22,7 @@ first_met [] = None
 first_met (Some bad ∷ rows) = Some bad
 first_met (None ∷ rows) = first_met rows
 
--- what is read where no row is met
+-- what is read if no row is met
 abbrev pub unless : {X : Type 0} → Row → X → Result X BadImage
 unless None x = Ok x
 unless (Some bad) x = Err bad

@@ -37,7 +37,7 @@ header_rows shape block =
     ∷ found Pad (first_place 1 (λ b. not (b == 0)) 24 (drop 24 block))
     ∷ []
 
--- the header that a block stands for, or where and why it is none
+-- the header that a block stands for, or where and why it is no header
 abbrev pub header_in : ImageShape → List ℕ → Result Header BadImage
 header_in shape block = unless (first_met (header_rows shape block)) (record { generation = long_number_at 16 block })
 
@@ -45,7 +45,7 @@ header_in shape block = unless (first_met (header_rows shape block)) (record { g
 abbrev pub entry_of : List ℕ → ℕ → ℕ
 entry_of map page = number_at (4 * page) map
 
--- the entries of so many pages
+-- the entries of the first n pages
 abbrev pub entries_in : ℕ → List ℕ → List ℕ
 entries_in zero map = []
 entries_in (suc n) map = number_at 0 map ∷ entries_in n (drop 4 map)
@@ -65,7 +65,7 @@ map_rows shape map entries =
     ∷ found Tail (first_place 1 (λ b. not (b == 0)) (shape.page_size + 4 * shape.pages) (drop (4 * shape.pages) map))
     ∷ []
 
--- the entries that the bytes of the map stand for, or where and why they are none
+-- the entries that the bytes of the map stand for, or where and why they are no map
 abbrev pub map_in : ImageShape → List ℕ → Result (List ℕ) BadImage
 map_in shape map = unless (first_met (map_rows shape map (entries_in shape.pages map))) (entries_in shape.pages map)
 

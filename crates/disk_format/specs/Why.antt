@@ -17,7 +17,12 @@ word_of Twice = codes "twice"
 word_of Tail = codes "tail"
 word_of Memory = codes "memory"
 
+-- a refusal: what reading gives; or memory ran out, which has no place
+pub record Refuses {X : Type 0} (bad : BadImage) (read : Result X BadImage) : Type 0 where
+  pub fault : (bad.why ≡ Memory → ⊥) → read ≡ Err bad
+  pub memory : bad.why ≡ Memory → bad.place ≡ 0
+
 -- what was answered is what reading gives, unless memory ran out
 abbrev pub Answers : {X : Type 0} → Result X BadImage → Result X BadImage → Type 0
 Answers (Ok x) read = read ≡ Ok x
-Answers (Err bad) read = (bad.why ≡ Memory → ⊥) → read ≡ Err bad
+Answers (Err bad) read = Refuses bad read

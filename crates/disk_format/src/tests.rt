@@ -40,7 +40,7 @@ fn changed(
     Ok(header)
 }
 
-/// What a check of bytes answers, where they are as many as the header and the map have.
+/// What a check of bytes answers, if they are as many as the header and the map have.
 fn check(alloc: Global, shape: &ImageShape, bytes: &[u8]) -> Option<Result<Image, BadImage>>
     requires { IsShape shape.now }
 {
@@ -50,7 +50,7 @@ fn check(alloc: Global, shape: &ImageShape, bytes: &[u8]) -> Option<Result<Image
     Some(check_image(alloc, shape, bytes))
 }
 
-/// What a read of a header answers, where there are as many bytes as a block has.
+/// What a read of a header answers, if there are at least as many bytes as a block has.
 fn header_in(shape: &ImageShape, bytes: &[u8]) -> Option<Result<Header, BadImage>>
     requires { IsShape shape.now }
 {
@@ -150,5 +150,6 @@ fn what_an_image_says(rt: HostRuntime) -> Result<(), Fail> {
         header_in(&shape, &bytes),
         Some(Ok(Header { generation: 257 }))
     );
+    written_header_is_read();
     Ok(())
 }

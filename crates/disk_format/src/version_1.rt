@@ -1,7 +1,8 @@
 //! Version 1 of the format: the header in block 0, and the map in the blocks after it.
 
-ghost use Rattle.std.specs.Prelude.{◌≡◌, ◌+◌, ◌-◌, ◌*◌, ◌^◌, ◌<◌, ◌≤◌, ◌==◌, ◌++◌, [], length, take, drop, not, IsTrue, IfOk, None};
+ghost use Rattle.std.specs.Prelude.{◌≡◌, ℕ, Ok, ◌+◌, ◌-◌, ◌*◌, ◌^◌, ◌<◌, ◌≤◌, ◌==◌, ◌++◌, [], length, take, drop, not, IsTrue, IfOk, None};
 ghost use Rattle.byteorder.specs.Endian.{big_bytes};
+ghost use Rattle.disk_format.specs.declared.shape.ImageShape.{ImageShape};
 ghost use Rattle.disk_format.specs.Shape.{IsShape, map_blocks, front_length};
 ghost use Rattle.disk_format.specs.Why.{Answers};
 ghost use Rattle.disk_format.specs.Table.{first_place, again_place};
@@ -73,7 +74,7 @@ pub fn write_header(shape: &ImageShape, generation: u64, out: &mut [u8])
     out[24..].fill(0);
 }
 
-/// The place of the first byte that is not zero, where the bytes begin at a place.
+/// The place of the first byte that is not zero; `from` is the place of the first byte.
 fn nonzero_place(bytes: &[u8], from: u32) -> Option<u32>
     requires { from + length bytes.now < 2 ^ 32 }
     ensures { result ≡ first_place 1 (λ b. not (b == 0)) from bytes.now }
@@ -86,7 +87,8 @@ fn nonzero_place(bytes: &[u8], from: u32) -> Option<u32>
     None
 }
 
-/// Reads the header in a block: what it says, or the first place where it is none of this shape.
+/// Reads the header in a block: what it says, or the first place at which it is no header of this
+/// shape.
 #[tactic(auto, using(crate::proofs::ShapeLaws::sizes))]
 pub fn read_header(shape: &ImageShape, block: &[u8]) -> Result<Header, BadImage>
     requires shape { IsShape shape.now }
@@ -111,6 +113,12 @@ pub fn read_header(shape: &ImageShape, block: &[u8]) -> Result<Header, BadImage>
     };
     Err(BadImage { place, why })
 }
+
+/// A law: a header that was written is read again, with its generation.
+pub fn written_header_is_read()
+    ensures { (shape : ImageShape) (generation : ℕ) → IsShape shape → 1 ≤ generation → generation < 2 ^ 63
+        → header_in shape (header shape generation) ≡ Ok (record { generation = generation }) }
+{}
 
 /// The entry of a page in the bytes of the map: 0 for a hole, else the number of its data block.
 pub fn map_entry(map: &[u8], page: u32) -> u32
@@ -175,7 +183,8 @@ fn repeated_entry(
     Ok(None)
 }
 
-/// Reads the bytes of the map: the entries, or the first place where they are none of this shape.
+/// Reads the bytes of the map: the entries, or the first place at which they are no map of this
+/// shape.
 #[tactic(auto, using(crate::proofs::ShapeLaws::sizes))]
 fn read_map(alloc: Global, shape: &ImageShape, map: &[u8]) -> Result<Entries, BadImage>
     requires shape { IsShape shape.now }
@@ -197,7 +206,8 @@ fn read_map(alloc: Global, shape: &ImageShape, map: &[u8]) -> Result<Entries, Ba
 }
 
 /// Reads the header and the map of an image, in the bytes of block 0 and of the map's blocks: what
-/// they say, or the first place where they are no image of this shape.
+/// they say, or the first place at which they are no image of this shape; place 0 if memory ran
+/// out.
 #[tactic(auto, using(crate::proofs::ShapeLaws::sizes))]
 pub fn check_image(alloc: Global, shape: &ImageShape, bytes: &[u8]) -> Result<Image, BadImage>
     requires shape { IsShape shape.now }

@@ -55,7 +55,7 @@ impl ImageWhy {
 #[derive(Clone, Copy, Debug, PartialEq, Eq, Error)]
 #[error("no image at byte {place}")]
 pub struct BadImage {
-    /// The fault's place, in bytes from the image's start; 0 where memory ran out.
+    /// The fault's place, in bytes from the image's start; 0 if memory ran out.
     pub place: u32,
     /// The first reason.
     pub why: ImageWhy,

@@ -1,5 +1,5 @@
 -- A disk: an image on a store.
-use Rattle.std.specs.Prelude.{◌≡◌, ◌≢◌, ℕ, zero, suc, List, [], ◌∷◌, drop, take, get_or, replicate, slice_index, slice_set, true, Option, Some, None, IfSome, Ok, if◌then◌else◌, ◌==◌}
+use Rattle.std.specs.Prelude.{◌≡◌, ◌≢◌, ℕ, zero, suc, List, [], ◌∷◌, drop, take, get_or, replicate, slice_index, slice_set, true, Option, Some, IfSome, Ok, if◌then◌else◌, ◌==◌}
 use Rattle.std.specs.Option.{option_map}
 use Rattle.std.specs.List.{concat}
 use Rattle.spr_io.specs.Content.{Content, HasShape, written, flushed}
@@ -45,10 +45,7 @@ seen_of d = record {
   page_size = d.shape.page_size;
   number = d.shape.pages;
   pages = pages_on d;
-  kept = λ n. if n == d.disk then kept_on d else None;
-  live = d.disk ∷ [];
-  faults = λ n. if n == d.disk then d.faults else 0;
-  opened = λ n. if n == d.disk then d.opened else 0;
+  disks = record { disk = d.disk; live = true; kept = kept_on d; faults = d.faults; opened = d.opened } ∷ [];
 }
 
 -- another count of faults, and nothing else
@@ -63,7 +60,7 @@ headed generation d = record d { generation = generation; content = written 0 (h
 abbrev pub settled : Disk → Disk
 settled d = record d { content = flushed d.content }
 
--- a page has the block that it had, or the lowest free one where it was a hole
+-- a page has the block that it had, or the lowest free one if it was a hole
 pub record Placed (before : Disk) (page : ℕ) (after : Disk) : Type 0 where
   pub block : ℕ
   pub entries : after.entries ≡ slice_set before.entries page block
@@ -78,7 +75,7 @@ pub record SameBut (before after : Disk) : Type 0 where
   pub kept : kept_on after ≡ kept_on before
   pub opened : after.opened ≡ before.opened
 
--- the blocks of a store after the first so many of a fresh image were written: those of the map from the lowest, and
+-- the blocks of a store after the first `n` of a fresh image were written: those of the map from the lowest, and
 -- then the header
 abbrev pub laid : ImageShape → ℕ → List (List ℕ) → List (List ℕ)
 laid shape zero blocks = blocks

@@ -1,25 +1,47 @@
 -- What lies under a file tells contracts, and what each call of it keeps.
-use Rattle.std.specs.Prelude.{◌≡◌, ◌⊎◌, ℕ, ◌<◌, ◌≤◌, List, length, slice_get, slice_set, Option, Some, IfSome, Contains}
+use Rattle.std.specs.Prelude.{◌≡◌, ◌⊎◌, ℕ, ◌<◌, ◌≤◌, ◌==◌, if◌then◌else◌, Bool, List, [], ◌∷◌, length, slice_get, slice_set, Option, Some, None, IfSome, Contains}
 use Rattle.std.specs.Option.{option_map}
 use Rattle.disk_format.specs.Image.{Imaged}
 use Rattle.disk_layer.specs.declared.fault.StoreFault.{StoreFault}
+
+-- one disk: its number, whether it is live, what the blocks that it kept stand for, if they are told, and the count
+-- of faults of its store, now and when the disk was opened
+pub record DiskSeen : Type 0 where
+  pub disk : ℕ
+  pub live : Bool
+  pub kept : Option (Option Imaged)
+  pub faults : ℕ
+  pub opened : ℕ
 
 -- the pages of a file, and the disks that hold them
 pub record Seen : Type 0 where
   -- the bytes of a page, and how many pages there are
   pub page_size : ℕ
   pub number : ℕ
-  -- the pages, where they are told
+  -- the pages, if they are told
   pub pages : Option (List (List ℕ))
-  -- what the blocks that a disk kept stand for, where they are told
-  pub kept : ℕ → Option (Option Imaged)
-  -- the disks that are live
-  pub live : List ℕ
-  -- the count of faults of a disk's store, now and when the disk was opened
-  pub faults : ℕ → ℕ
-  pub opened : ℕ → ℕ
+  pub disks : List DiskSeen
 
--- a page was read, where the pages are told
+-- what disk `n` kept, if that is told
+abbrev pub kept_in : List DiskSeen → ℕ → Option (Option Imaged)
+kept_in [] n = None
+kept_in (d ∷ ds) n = if n == d.disk then d.kept else kept_in ds n
+
+-- how many faults disk `n` has had, and how many it had when it was opened
+abbrev pub faults_in : List DiskSeen → ℕ → ℕ
+faults_in [] n = 0
+faults_in (d ∷ ds) n = if n == d.disk then d.faults else faults_in ds n
+
+abbrev pub opened_in : List DiskSeen → ℕ → ℕ
+opened_in [] n = 0
+opened_in (d ∷ ds) n = if n == d.disk then d.opened else opened_in ds n
+
+-- the numbers of the live disks
+abbrev pub live_in : List DiskSeen → List ℕ
+live_in [] = []
+live_in (d ∷ ds) = if d.live then d.disk ∷ live_in ds else live_in ds
+
+-- a page was read, if the pages are told
 abbrev pub ReadsPage : Option (List (List ℕ)) → ℕ → List ℕ → Type 0
 ReadsPage pages page bytes = IfSome pages (λ ps. slice_get ps page ≡ Some bytes)
 
@@ -31,13 +53,13 @@ with_page page bytes pages = option_map {T = List (List ℕ)} (λ ps. slice_set 
 abbrev pub pages_in : Option (Option Imaged) → Option (Option (List (List ℕ)))
 pages_in kept = option_map {T = Option Imaged} (λ i. option_map {T = Imaged} (λ v. v.pages) i) kept
 
--- where both are told, what was kept stands for these pages
+-- if both are told, what was kept stands for these pages
 abbrev pub KeptAt : Option (Option Imaged) → Option (List (List ℕ)) → Type 0
 KeptAt kept pages = IfSome kept (λ i. IfSome pages (λ ps. option_map {T = Imaged} (λ v. v.pages) i ≡ Some ps))
 
 -- each live disk kept these pages
 abbrev pub AllKept : Seen → Option (List (List ℕ)) → Type 0
-AllKept seen pages = (d : ℕ) → Contains seen.live d → KeptAt (seen.kept d) pages
+AllKept seen pages = (d : ℕ) → Contains (live_in seen.disks) d → KeptAt (kept_in seen.disks d) pages
 
 -- What every call keeps, also a refused one.
 pub record Keeps (before after : Seen) : Type 0 where
@@ -45,19 +67,25 @@ pub record Keeps (before after : Seen) : Type 0 where
   pub same_number : after.number ≡ before.number
   pub many : IfSome after.pages (λ ps. length ps ≡ after.number)
   -- a live disk has kept what it had kept before, or the pages from the call's start
-  pub kept : (d : ℕ) → Contains after.live d → (pages_in (after.kept d) ≡ pages_in (before.kept d)) ⊎ KeptAt (after.kept d) before.pages
+  pub kept : (d : ℕ) → Contains (live_in after.disks) d → (pages_in (kept_in after.disks d) ≡ pages_in (kept_in before.disks d)) ⊎ KeptAt (kept_in after.disks d) before.pages
   -- no disk gets live, some disk is live, and a disk that is so no more has failed in the call
-  pub live : (d : ℕ) → Contains after.live d → Contains before.live d
-  pub some : 0 < length after.live
-  pub lost : (d : ℕ) → Contains before.live d → Contains after.live d ⊎ (before.faults d < after.faults d)
+  pub live : (d : ℕ) → Contains (live_in after.disks) d → Contains (live_in before.disks) d
+  pub some : 0 < length (live_in after.disks)
+  pub lost : (d : ℕ) → Contains (live_in before.disks) d → Contains (live_in after.disks) d ⊎ (faults_in before.disks d < faults_in after.disks d)
   -- the counts never fall, and the disks were opened before
-  pub later : (d : ℕ) → before.faults d ≤ after.faults d
-  pub same_opened : (d : ℕ) → after.opened d ≡ before.opened d
-  pub since : (d : ℕ) → before.opened d ≤ before.faults d
+  pub later : (d : ℕ) → faults_in before.disks d ≤ faults_in after.disks d
+  pub same_opened : (d : ℕ) → opened_in after.disks d ≡ opened_in before.disks d
+  pub since : (d : ℕ) → opened_in before.disks d ≤ faults_in before.disks d
+
+-- A call that did what it was asked: on a disk that is still live no fault happened in it.
+pub record IsCalm (before after : Seen) : Type 0 where
+  pub disk : ℕ
+  pub live : Contains (live_in after.disks) disk
+  pub same : faults_in after.disks disk ≡ faults_in before.disks disk
 
 -- A call that failed: each live disk failed in it, and it names one of them, with the count after a fault in the call.
 pub record IsFault (before after : Seen) (fault : StoreFault) : Type 0 where
-  pub named : Contains before.live fault.disk
-  pub above : before.faults fault.disk < fault.count
-  pub within : fault.count ≤ after.faults fault.disk
-  pub all : (d : ℕ) → Contains before.live d → before.faults d < after.faults d
+  pub named : Contains (live_in before.disks) fault.disk
+  pub above : faults_in before.disks fault.disk < fault.count
+  pub within : fault.count ≤ faults_in after.disks fault.disk
+  pub all : (d : ℕ) → Contains (live_in before.disks) d → faults_in before.disks d < faults_in after.disks d

@@ -3,14 +3,14 @@ use Rattle.std.specs.Prelude.{◌≡◌, ℕ, List, Option, Some, None, Bool, tr
 use Rattle.std.specs.Option.{option_map}
 use Rattle.spr_io.specs.Content.{Content, zeros}
 
--- what lies there, where it is told: nothing, or a content; whether its store was taken and not given back;
+-- what lies there, if it is told: nothing, or a content; whether its store was taken and not given back;
 -- and the count of faults of its store, as it was when it was taken last or given back last
 pub record Berth : Type 0 where
   pub holds : Option (Option Content)
   pub out : Bool
   pub faults : ℕ
 
--- what a store that is taken holds: what lay there, and zeros where nothing did
+-- what a store that is taken holds: what lay there, or zeros if nothing did
 abbrev pub Opens : ℕ → ℕ → Option (Option Content) → Option Content → Type 0
 Opens size number None content = Unit {0}
 Opens size number (Some None) content = content ≡ Some (zeros size number)
@@ -24,7 +24,7 @@ taken b = record { holds = option_map {T = Option Content} (λ _. None) b.holds;
 abbrev pub given : Option Content → ℕ → Berth → Berth
 given content faults b = record { holds = option_map {T = Option Content} (λ _. content) b.holds; out = false; faults = faults }
 
--- the berth after a store was refused: it is lost, and its count is noted where it had been taken
+-- the berth after a store was refused: it is lost, and its count is noted if it had been taken
 abbrev pub lost : ℕ → Berth → Berth
 lost faults b = by_out b.out where
   by_out : Bool → Berth
@@ -34,6 +34,11 @@ lost faults b = by_out b.out where
 -- the berths by disk and file
 abbrev pub Berths : Type 0
 Berths = List ℕ → List ℕ → Berth
+
+-- what a bay tells: its berths, and the count of its own faults
+pub record BaySeen : Type 0 where
+  pub berths : Berths
+  pub faults : ℕ
 
 -- no berth but this one changes
 abbrev pub SameElsewhere : List ℕ → List ℕ → Berths → Berths → Type 0

@@ -1,4 +1,4 @@
--- What a store holds, where it is told.
+-- What a store holds, if it is told.
 use Rattle.std.specs.Prelude.{◌≡◌, ℕ, List, length, replicate, slice_get, slice_set, Option, Some, IfSome, All}
 use Rattle.std.specs.Option.{option_map}
 
@@ -7,7 +7,7 @@ pub record Content : Type 0 where
   pub blocks : List (List ℕ)
   pub kept : List (List ℕ)
 
--- so many blocks of this size, and as many kept
+-- this number of blocks of this size, and as many kept
 pub record HasShape (size number : ℕ) (content : Content) : Type 0 where
   pub blocks : length content.blocks ≡ number
   pub kept : length content.kept ≡ number

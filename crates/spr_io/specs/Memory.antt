@@ -20,7 +20,7 @@ new_store size blocks reads writes flushes = record { size = size; content = zer
 abbrev pub after_read : Mem → Mem
 after_read s = record s { reads = one_more s.reads; count = count_after s.reads s.count }
 
--- the store after a write of a block, which changes none where it fails
+-- the store after a write of a block, which changes none if it fails
 abbrev pub after_write : ℕ → List ℕ → Mem → Mem
 after_write block bytes s = record s {
   content = if fails s.writes s.count then s.content else record s.content { blocks = slice_set s.content.blocks block bytes };
@@ -28,7 +28,7 @@ after_write block bytes s = record s {
   count = count_after s.writes s.count;
 }
 
--- the store after a flush, which keeps nothing more where it fails
+-- the store after a flush, which keeps nothing more if it fails
 abbrev pub after_flush : Mem → Mem
 after_flush s = record s {
   content = if fails s.flushes s.count then s.content else record s.content { kept = s.content.blocks };

@@ -13,7 +13,7 @@ pub record NamedText : Type 0 where
 abbrev pub is_named : List ℕ → NamedText → Bool
 is_named name t = bytes_eq t.name name
 
--- the text of a name among some
+-- the text of this name among these
 abbrev pub text_in : List NamedText → List ℕ → Option (List ℕ)
 text_in texts name = option_map {T = NamedText} (λ t. t.text) (find (is_named name) texts)
 
@@ -27,7 +27,7 @@ pub record Texts : Type 0 where
 abbrev pub text_of : Texts → List ℕ → Option (List ℕ)
 text_of shelf name = text_in shelf.texts name
 
--- whether there is a text of at most so many bytes
+-- whether there is a text, and it has at most `limit` bytes
 abbrev pub is_at_most : ℕ → Option (List ℕ) → Bool
 is_at_most limit None = false
 is_at_most limit (Some text) = nat_le (length text) limit

@@ -87,7 +87,7 @@ fn list(listed: &mut Vec<u32>, was_dirty: bool, block: u32, number: usize)
     ensures room { number ≤ vec_capacity listed.new }
 {
     if !was_dirty && listed.len() < number {
-        let _ = listed.push(block);
+        listed.push_reserved(block);
     }
 }
 

@@ -2,7 +2,7 @@
 //!
 //! They are the trusted edge: they tell nothing of what a file holds.
 
-ghost use Rattle.std.specs.Prelude.{◌≡◌, ◌+◌, IfOk, IsErr, None, length, take};
+ghost use Rattle.std.specs.Prelude.{◌≡◌, ◌+◌, IfOk, OnOk, IsErr, None, length, take};
 ghost use Rattle.spr_io.specs.Causes.{Counts};
 
 use crate::ordinals::count_fault;
@@ -39,9 +39,7 @@ impl<R: Files + Drop> HostShelf<R> {
 }
 
 impl<R: Files + Drop> Shelf for HostShelf<R> {
-    ghost text = { λ _ _. None };
-
-    ghost faults = { λ s. s.faults };
+    ghost told = { λ s. record { texts = λ _. None; faults = s.faults } };
 
     fn read(&mut self, name: &str, limit: u32, out: &mut Vec<u8>) -> Result<(), ShelfErr> {
         match self.append(name, limit, out) {
@@ -71,9 +69,7 @@ impl<R: Print + Drop> StdSink<R> {
 }
 
 impl<R: Print + Drop> Sink for StdSink<R> {
-    ghost written = { λ _. None };
-
-    ghost faults = { λ s. s.faults };
+    ghost told = { λ s. record { written = None; faults = s.faults } };
 
     fn write(&mut self, bytes: &[u8]) -> Result<usize, Failed> {
         match self.rt.write_some(bytes) {
@@ -140,9 +136,13 @@ impl<F: Read + Write + Seek + OpenFile + Drop> HostStore<F> {
 }
 
 impl<F> HostStore<F> {
-    /// Answers what the host did, and counts a fault; where the count stands at its end there is none any more.
+    /// Answers what the host did, and counts a fault.
+    ///
+    /// A store fails only if its count rises, so that each failure has a count of its own. A count that stands at its
+    /// end cannot rise: such a store answers as if the host had done what it was asked.
     fn answer(&mut self, outcome: io::Result<()>) -> Result<(), Failed>
         ensures counted { Counts self.old.count self.new.count (IsErr result) }
+        ensures calm { OnOk result (self.new.count ≡ self.old.count) }
         ensures same { (self.new.size ≡ self.old.size) × (self.new.blocks ≡ self.old.blocks) }
     {
         let count = self.count;

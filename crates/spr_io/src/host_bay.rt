@@ -52,7 +52,7 @@ impl Entry {
         self.disk.as_str() == disk && self.file.as_str() == file
     }
 
-    /// Opens the store's host file, where the store is not out.
+    /// Opens the store's host file, if the store is not out.
     fn take<R: Files>(
         &mut self,
         rt: &R,
@@ -75,7 +75,7 @@ impl Entry {
         }
     }
 
-    /// Notes that the store is back, with its count of faults, where it was out.
+    /// Notes that the store is back, with its count of faults, if it was out.
     fn give(&mut self, count: u64) -> bool
         ensures answer { result ≡ self.old.out }
         ensures given { self.old.out ≡ true → self.new ≡ record self.old { out = false; count = count } }
@@ -90,7 +90,7 @@ impl Entry {
     }
 }
 
-/// Opens a host file of so many bytes; one that is missing or empty is made of zeros.
+/// Opens a host file of `len` bytes; one that is missing or empty is made of zeros.
 fn open_image<R: Files>(rt: &R, path: &str, len: u64) -> io::Result<R::File> {
     let mut how = OpenOptions::new();
     how.read(true);
@@ -113,7 +113,7 @@ fn place_of(entries: &[Entry], disk: &str, file: &str) -> Option<usize>
     entries.iter().position(|e| e.is_of(disk, file))
 }
 
-/// Adds an entry of a disk and a file, where there is none.
+/// Adds an entry of a disk and a file, if there is none.
 fn enter(alloc: Global, entries: &mut Vec<Entry>, disk: &str, file: &str) -> Result<(), AllocError>
     ensures { SameBerths (berth_in entries.old.items) (berth_in entries.new.items) }
 {
@@ -123,7 +123,7 @@ fn enter(alloc: Global, entries: &mut Vec<Entry>, disk: &str, file: &str) -> Res
     Ok(())
 }
 
-/// Takes the store of an entry, where it is not out and its host file can be opened.
+/// Takes the store of an entry, if it is not out and its host file can be opened.
 fn take<R: Files>(
     rt: &R,
     entries: &mut [Entry],
@@ -148,7 +148,7 @@ fn take<R: Files>(
     }
 }
 
-/// Notes that the store of an entry is back, where it was out.
+/// Notes that the store of an entry is back, if it was out.
 fn give(entries: &mut [Entry], disk: &str, file: &str, count: u64) -> bool
     ensures answer { result ≡ (berth_in entries.old disk.now file.now).out }
     ensures given { result ≡ true → berth_in entries.new disk.now file.now ≡ given None count (berth_in entries.old disk.now file.now) }
@@ -200,9 +200,7 @@ where
 {
     type Store = HostStore<R::File>;
 
-    ghost berth = { λ b disk file. berth_in b.entries disk file };
-
-    ghost faults = { λ b. b.faults };
+    ghost told = { λ b. record { berths = berth_in b.entries; faults = b.faults } };
 
     fn take(
         &mut self,

@@ -114,6 +114,7 @@ impl Store for MemStore {
         ensures out { OnErr result (out.new ≡ out.old) }
         ensures shape { KeepsShape self.old.size (length self.old.content.blocks) self.new.size (length self.new.content.blocks) (Some self.new.content) }
         ensures cause { Counts self.old.count self.new.count (IsErr result) }
+        ensures calm { OnOk result (self.new.count ≡ self.old.count) }
     {
         if refuses(&mut self.reads, &mut self.count) {
             return Err(Failed);
@@ -129,6 +130,7 @@ impl Store for MemStore {
         ensures after { self.new ≡ after_write block bytes.now self.old }
         ensures shape { KeepsShape self.old.size (length self.old.content.blocks) self.new.size (length self.new.content.blocks) (Some self.new.content) }
         ensures cause { Counts self.old.count self.new.count (IsErr result) }
+        ensures calm { OnOk result (self.new.count ≡ self.old.count) }
     {
         if refuses(&mut self.writes, &mut self.count) {
             return Err(Failed);
@@ -142,6 +144,7 @@ impl Store for MemStore {
         ensures after { self.new ≡ after_flush self.old }
         ensures shape { KeepsShape self.old.size (length self.old.content.blocks) self.new.size (length self.new.content.blocks) (Some self.new.content) }
         ensures cause { Counts self.old.count self.new.count (IsErr result) }
+        ensures calm { OnOk result (self.new.count ≡ self.old.count) }
     {
         if refuses(&mut self.flushes, &mut self.count) {
             return Err(Failed);

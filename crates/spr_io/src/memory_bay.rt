@@ -59,7 +59,7 @@ impl Slot {
         self.store.as_ref()
     }
 
-    /// Takes the store out, where it is there and has this shape.
+    /// Takes the store out, if it is there and has this shape.
     fn take(&mut self, size: u32, blocks: u32) -> Option<MemStore>
         ensures some { IfSome result (λ store. (self.old.store ≡ Some store) × (fits_shape size blocks store ≡ true) × (self.new ≡ record self.old { store = None; count = store.count })) }
         ensures shape { IfSome result (λ store. HasShape store.size (length store.content.blocks) store.content) }
@@ -82,7 +82,7 @@ impl Slot {
         self.store = Some(store);
     }
 
-    /// Puts a store in, where the slot is empty and the store is not refused; a refused one is lost.
+    /// Puts a store in, if the slot is empty and the store is not refused; a refused one is lost.
     fn give(&mut self, store: MemStore, refused: bool) -> bool
         ensures answer { result ≡ (is_none self.old.store && not refused) }
         ensures given { result ≡ true → self.new ≡ record self.old { store = Some store; count = store.count } }
@@ -167,7 +167,7 @@ fn make(
     Ok(store)
 }
 
-/// Takes the store of a disk and a file, or one of zeros where there is none.
+/// Takes the store of a disk and a file, or one of zeros if there is none.
 fn take(
     alloc: Global,
     slots: &mut Vec<Slot>,
@@ -199,7 +199,7 @@ fn take(
     }
 }
 
-/// Puts a store back, where one of this name is out and it is not refused.
+/// Puts a store back, if one of this name is out and it is not refused.
 fn give(slots: &mut Vec<Slot>, disk: &str, file: &str, store: MemStore, refused: bool) -> bool
     ensures answer { result ≡ (is_out (slot_of slots.old.items disk.now file.now) && not refused) }
     ensures given { result ≡ true → SetsSlot disk.now file.now (Some store) store.count slots.old.items slots.new.items }
@@ -247,7 +247,7 @@ impl MemBay {
         })
     }
 
-    /// Sets the store of a disk and a file; for want of memory it gives the store back.
+    /// Sets the store of a disk and a file; if memory runs out it gives the store back.
     pub fn put(
         &mut self,
         alloc: Global,
@@ -276,13 +276,10 @@ impl MemBay {
 impl Bay for MemBay {
     type Store = MemStore;
 
-    ghost berth = { λ b disk file. berth_of b disk file };
-
-    ghost faults = { λ b. b.faults };
+    ghost told = { λ b. record { berths = berth_of b; faults = b.faults } };
 
     fn take(&mut self, disk: &str, file: &str, size: u32, blocks: u32) -> Result<MemStore, BayErr>
         ensures failed { result ≡ Err BayErr.Failed ↔ IsTrue (take_fails self.old disk.now file.now size blocks) }
-        ensures memory { result ≡ Err BayErr.Memory → stored self.old disk.now file.now ≡ None }
         ensures store { IfOk result (λ store. store ≡ taken_store size blocks (stored self.old disk.now file.now)) }
         ensures slots { IfOk result (λ store. SetsSlot disk.now file.now None store.count self.old.slots self.new.slots) }
         ensures err { OnErr result (self.new.slots ≡ self.old.slots) }
@@ -296,6 +293,8 @@ impl Bay for MemBay {
         ensures others { OnOk result (SameElsewhere disk.now file.now (berth_of self.old) (berth_of self.new)) }
         ensures refused { OnErr result (SameBerths (berth_of self.old) (berth_of self.new)) }
         ensures cause { HasCause self.old.faults self.new.faults (result ≡ Err BayErr.Failed) }
+        ensures calm { OnOk result (self.new.faults ≡ self.old.faults) }
+        ensures memory { result ≡ Err BayErr.Memory → (stored self.old disk.now file.now ≡ None) × (self.new.faults ≡ self.old.faults) }
     {
         if self.takes.next_fails() {
             count_fault(&mut self.faults);
@@ -323,6 +322,7 @@ impl Bay for MemBay {
         ensures refused { OnErr result (berth_of self.new disk.now file.now ≡ lost store.count (berth_of self.old disk.now file.now)) }
         ensures others { SameElsewhere disk.now file.now (berth_of self.old) (berth_of self.new) }
         ensures cause { HasCause self.old.faults self.new.faults (IsErr result) }
+        ensures calm { OnOk result (self.new.faults ≡ self.old.faults) }
     {
         let refused = self.gives.next_fails();
         if give(&mut self.slots, disk, file, store, refused) {

@@ -48,14 +48,14 @@ impl Named {
     }
 }
 
-/// Where the text of a name stands.
+/// Where the text `name` stands.
 fn place_of(texts: &[Named], name: &str) -> Option<usize>
     ensures { result ≡ position (is_named name.now) texts.now }
 {
     texts.iter().position(|t| t.is_named(name))
 }
 
-/// The text of a name.
+/// The text `name`.
 fn find_text<'a>(texts: &'a [Named], name: &str) -> Option<&'a Named>
     ensures { option_copied result ≡ find (is_named name.now) texts.now }
 {
@@ -90,7 +90,7 @@ impl MemShelf {
         })
     }
 
-    /// Sets the text of a name.
+    /// Sets the text `name`.
     pub fn put(&mut self, alloc: Global, name: &str, text: &[u8]) -> Result<(), AllocError>
         ensures set { OnOk result (text_of self.new name.now ≡ Some text.now) }
         ensures others { OnOk result ((other : List ℕ) → (other ≡ name.now → ⊥) → text_of self.new other ≡ text_of self.old other) }
@@ -113,9 +113,7 @@ impl MemShelf {
 }
 
 impl Shelf for MemShelf {
-    ghost text = { λ s name. Some (text_of s name) };
-
-    ghost faults = { λ s. s.faults };
+    ghost told = { λ s. record { texts = λ name. Some (text_of s name); faults = s.faults } };
 
     fn read(&mut self, name: &str, limit: u32, out: &mut Vec<u8>) -> Result<(), ShelfErr>
         ensures failed { result ≡ Err ShelfErr.Failed ↔ IsTrue (read_fails self.old name.now limit) }
@@ -124,6 +122,8 @@ impl Shelf for MemShelf {
         ensures err { OnErr result (out.new.items ≡ out.old.items) }
         ensures before { take (length out.old.items) out.new.items ≡ out.old.items }
         ensures cause { HasCause self.old.faults self.new.faults (result ≡ Err ShelfErr.Failed) }
+        ensures calm { OnOk result (self.new.faults ≡ self.old.faults) }
+        ensures memory { result ≡ Err ShelfErr.Memory → self.new.faults ≡ self.old.faults }
     {
         let fails = self.reads.next_fails();
         match find_text(&self.texts, name) {
@@ -185,9 +185,7 @@ impl MemSink {
 }
 
 impl Sink for MemSink {
-    ghost written = { λ s. Some s.bytes };
-
-    ghost faults = { λ s. s.faults };
+    ghost told = { λ s. record { written = Some s.bytes; faults = s.faults } };
 
     fn write(&mut self, bytes: &[u8]) -> Result<usize, Failed>
         ensures ok { IfOk result (λ n. (n ≡ min (length bytes.now) self.old.most) × (self.new.bytes ≡ self.old.bytes ++ take n bytes.now) × (self.new.faults ≡ self.old.faults)) }
@@ -198,6 +196,7 @@ impl Sink for MemSink {
         ensures same { (self.new.most ≡ self.old.most) × (self.old.room ≤ self.new.room) }
         ensures cause { HasCause self.old.faults self.new.faults (IsErr result) }
         ensures nothing { result ≡ Ok 0 → 0 < length bytes.now → Rose self.old.faults self.new.faults }
+        ensures calm { IfOk result (λ n. 0 < n → self.new.faults ≡ self.old.faults) }
     {
         let count = bytes.len().min(self.most as usize);
         let fails = self.writes.next_fails();

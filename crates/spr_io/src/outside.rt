@@ -1,12 +1,12 @@
 //! What the program asks of the world outside of it: five traits.
 //!
-//! A value of each tells contracts what it holds, where that is known, and counts its faults.
+//! A value of each tells contracts what it holds, if that is known, and counts its faults.
 
 ghost use Rattle.std.specs.Prelude.{◌≡◌, ◌<◌, ◌≤◌, ℕ, List, Option, IfOk, OnOk, OnErr, IsErr, length, take, true, false};
 ghost use Rattle.spr_io.specs.Causes.{Rose, HasCause, Counts};
 ghost use Rattle.spr_io.specs.Content.{Content, ReadsBlock, IsShaped, KeepsShape, written, flushed};
-ghost use Rattle.spr_io.specs.Berth.{Berth, Berths, Opens, taken, given, lost, SameElsewhere, SameBerths};
-ghost use Rattle.spr_io.specs.Texts.{Appends, after_write};
+ghost use Rattle.spr_io.specs.Berth.{Berth, Berths, BaySeen, Opens, taken, given, lost, SameElsewhere, SameBerths};
+ghost use Rattle.spr_io.specs.Texts.{ShelfSeen, SinkSeen, Appends, after_write};
 
 use hist_plain::Event;
 use thiserror::Error;
@@ -22,7 +22,7 @@ pub enum ShelfErr {
     /// The text is missing or longer than the limit, or the shelf failed.
     #[error("the text is missing, too long, or cannot be read")]
     Failed,
-    /// Memory for the text is wanting.
+    /// Out of memory for the text.
     #[error("out of memory for the text")]
     Memory,
 }
@@ -33,7 +33,7 @@ pub enum BayErr {
     /// The store is out or has another shape, or the bay failed.
     #[error("the store is out, has another shape, or cannot be taken")]
     Failed,
-    /// Memory for the store, or for its return, is wanting.
+    /// Out of memory for the store, or for its return.
     #[error("out of memory for the store")]
     Memory,
 }
@@ -42,20 +42,19 @@ pub enum BayErr {
 ///
 /// Its count of faults ends at `u64::MAX`; there it counts as risen.
 pub trait Shelf {
-    /// The text of a name, where it is told: there is none, or the text.
-    ghost text: { Self → List ℕ → Option (Option (List ℕ)) };
+    /// The texts by name, if they are told, and how many faults there were.
+    ghost told: { Self → ShelfSeen };
 
-    /// How many faults there were.
-    ghost faults: { Self → ℕ };
-
-    /// Appends the text of a name to `out`, at most `limit` bytes.
+    /// Appends the text `name` to `out`, at most `limit` bytes.
     ///
     /// A missing or longer text is a fault. After an error `out` may have gained bytes.
     fn read(&mut self, name: &str, limit: u32, out: &mut Vec<u8>) -> Result<(), ShelfErr>
-        ensures ok { OnOk result (Appends (text self.old name.now) limit out.old.items out.new.items) }
+        ensures ok { OnOk result (Appends ((told self.old).texts name.now) limit out.old.items out.new.items) }
         ensures before { take (length out.old.items) out.new.items ≡ out.old.items }
-        ensures same { (other : List ℕ) → text self.new other ≡ text self.old other }
-        ensures cause { HasCause (faults self.old) (faults self.new) (result ≡ Err ShelfErr.Failed) };
+        ensures same { (other : List ℕ) → (told self.new).texts other ≡ (told self.old).texts other }
+        ensures cause { HasCause (told self.old).faults (told self.new).faults (result ≡ Err ShelfErr.Failed) }
+        ensures calm { OnOk result ((told self.new).faults ≡ (told self.old).faults) }
+        ensures memory { result ≡ Err ShelfErr.Memory → (told self.new).faults ≡ (told self.old).faults };
 }
 
 /// Blocks of one size, which are kept at a flush.
@@ -63,7 +62,7 @@ pub trait Shelf {
 /// A refused call changes no block. No call changes the block size or the number of blocks. A store counts
 /// at most `u64::MAX` faults, and then fails no more.
 pub trait Store: Send + Drop {
-    /// The blocks as read, and as kept, where they are told.
+    /// The blocks as read, and as kept, if they are told.
     ghost content: { Self → Option Content };
 
     /// The bytes of a block.
@@ -82,7 +81,8 @@ pub trait Store: Send + Drop {
         ensures bytes { OnOk result (ReadsBlock (content self.old) block out.new) }
         ensures same { content self.new ≡ content self.old }
         ensures shape { KeepsShape (size self.old) (number self.old) (size self.new) (number self.new) (content self.new) }
-        ensures cause { Counts (faults self.old) (faults self.new) (IsErr result) };
+        ensures cause { Counts (faults self.old) (faults self.new) (IsErr result) }
+        ensures calm { OnOk result (faults self.new ≡ faults self.old) };
 
     /// Writes a block, which is not kept before the next flush.
     fn write(&mut self, block: u32, bytes: &[u8]) -> Result<(), Failed>
@@ -91,14 +91,16 @@ pub trait Store: Send + Drop {
         ensures ok { OnOk result (content self.new ≡ written block bytes.now (content self.old)) }
         ensures err { OnErr result (content self.new ≡ content self.old) }
         ensures shape { KeepsShape (size self.old) (number self.old) (size self.new) (number self.new) (content self.new) }
-        ensures cause { Counts (faults self.old) (faults self.new) (IsErr result) };
+        ensures cause { Counts (faults self.old) (faults self.new) (IsErr result) }
+        ensures calm { OnOk result (faults self.new ≡ faults self.old) };
 
     /// Keeps every block as it is read.
     fn flush(&mut self) -> Result<(), Failed>
         ensures ok { OnOk result (content self.new ≡ flushed (content self.old)) }
         ensures err { OnErr result (content self.new ≡ content self.old) }
         ensures shape { KeepsShape (size self.old) (number self.old) (size self.new) (number self.new) (content self.new) }
-        ensures cause { Counts (faults self.old) (faults self.new) (IsErr result) };
+        ensures cause { Counts (faults self.old) (faults self.new) (IsErr result) }
+        ensures calm { OnOk result (faults self.new ≡ faults self.old) };
 
     /// The count of faults.
     fn count(&self) -> u64
@@ -118,11 +120,8 @@ pub trait Bay {
     /// A store of the bay.
     type Store: Store;
 
-    /// What the bay has under a disk and a file.
-    ghost berth: { Self → Berths };
-
-    /// How many faults of the bay itself there were.
-    ghost faults: { Self → ℕ };
+    /// What lies under each disk and file, and how many faults of the bay itself there were.
+    ghost told: { Self → BaySeen };
 
     /// Takes the store of a disk and a file, of `size` bytes a block; one that is not there starts as zeros.
     ///
@@ -136,49 +135,51 @@ pub trait Bay {
         blocks: u32,
     ) -> Result<Self::Store, BayErr>
         ensures shape { IfOk result (λ store. KeepsShape size blocks (Self.Store.size store) (Self.Store.number store) (Self.Store.content store)) }
-        ensures content { IfOk result (λ store. Opens size blocks (berth self.old disk.now file.now).holds (Self.Store.content store)) }
-        ensures count { IfOk result (λ store. Self.Store.faults store ≡ (berth self.old disk.now file.now).faults) }
-        ensures was_in { OnOk result ((berth self.old disk.now file.now).out ≡ false) }
-        ensures taken { OnOk result (berth self.new disk.now file.now ≡ taken (berth self.old disk.now file.now)) }
-        ensures others { OnOk result (SameElsewhere disk.now file.now (berth self.old) (berth self.new)) }
-        ensures refused { OnErr result (SameBerths (berth self.old) (berth self.new)) }
-        ensures cause { HasCause (faults self.old) (faults self.new) (result ≡ Err BayErr.Failed) };
+        ensures content { IfOk result (λ store. Opens size blocks ((told self.old).berths disk.now file.now).holds (Self.Store.content store)) }
+        ensures count { IfOk result (λ store. Self.Store.faults store ≡ ((told self.old).berths disk.now file.now).faults) }
+        ensures was_in { OnOk result (((told self.old).berths disk.now file.now).out ≡ false) }
+        ensures taken { OnOk result ((told self.new).berths disk.now file.now ≡ taken ((told self.old).berths disk.now file.now)) }
+        ensures others { OnOk result (SameElsewhere disk.now file.now (told self.old).berths (told self.new).berths) }
+        ensures refused { OnErr result (SameBerths (told self.old).berths (told self.new).berths) }
+        ensures cause { HasCause (told self.old).faults (told self.new).faults (result ≡ Err BayErr.Failed) }
+        ensures calm { OnOk result ((told self.new).faults ≡ (told self.old).faults) }
+        ensures memory { result ≡ Err BayErr.Memory → (told self.new).faults ≡ (told self.old).faults };
 
     /// Gives a store back, without memory.
     ///
     /// A store that was not taken is a fault. A store that is refused is lost.
     fn give(&mut self, disk: &str, file: &str, store: Self::Store) -> Result<(), Failed>
-        ensures was_out { OnOk result ((berth self.old disk.now file.now).out ≡ true) }
-        ensures given { OnOk result (berth self.new disk.now file.now ≡ given (Self.Store.content store) (Self.Store.faults store) (berth self.old disk.now file.now)) }
-        ensures refused { OnErr result (berth self.new disk.now file.now ≡ lost (Self.Store.faults store) (berth self.old disk.now file.now)) }
-        ensures others { SameElsewhere disk.now file.now (berth self.old) (berth self.new) }
-        ensures cause { HasCause (faults self.old) (faults self.new) (IsErr result) };
+        ensures was_out { OnOk result (((told self.old).berths disk.now file.now).out ≡ true) }
+        ensures given { OnOk result ((told self.new).berths disk.now file.now ≡ given (Self.Store.content store) (Self.Store.faults store) ((told self.old).berths disk.now file.now)) }
+        ensures refused { OnErr result ((told self.new).berths disk.now file.now ≡ lost (Self.Store.faults store) ((told self.old).berths disk.now file.now)) }
+        ensures others { SameElsewhere disk.now file.now (told self.old).berths (told self.new).berths }
+        ensures cause { HasCause (told self.old).faults (told self.new).faults (IsErr result) }
+        ensures calm { OnOk result ((told self.new).faults ≡ (told self.old).faults) };
 }
 
 /// Where bytes go.
 ///
 /// Its count of faults ends at `u64::MAX`; there it counts as risen.
 pub trait Sink {
-    /// The bytes written, where they are told.
-    ghost written: { Self → Option (List ℕ) };
-
-    /// How many faults there were.
-    ghost faults: { Self → ℕ };
+    /// The bytes written, if they are told, and how many faults there were.
+    ghost told: { Self → SinkSeen };
 
     /// Takes some of the first bytes of a piece, and answers how many.
     ///
     /// A write that takes nothing of a piece that is not empty is a fault.
     fn write(&mut self, bytes: &[u8]) -> Result<usize, Failed>
         ensures within { IfOk result (λ n. n ≤ length bytes.now) }
-        ensures ok { IfOk result (λ n. written self.new ≡ after_write n bytes.now (written self.old)) }
-        ensures err { OnErr result (written self.new ≡ written self.old) }
-        ensures cause { HasCause (faults self.old) (faults self.new) (IsErr result) }
-        ensures nothing { result ≡ Ok 0 → 0 < length bytes.now → Rose (faults self.old) (faults self.new) };
+        ensures ok { IfOk result (λ n. (told self.new).written ≡ after_write n bytes.now (told self.old).written) }
+        ensures err { OnErr result ((told self.new).written ≡ (told self.old).written) }
+        ensures cause { HasCause (told self.old).faults (told self.new).faults (IsErr result) }
+        ensures nothing { result ≡ Ok 0 → 0 < length bytes.now → Rose (told self.old).faults (told self.new).faults }
+        ensures calm { IfOk result (λ n. 0 < n → (told self.new).faults ≡ (told self.old).faults) };
 }
 
 /// What may happen between two steps of a caller; it tells nothing.
 pub trait Gate: Sync {
-    /// Is called after each event of `caller` in a file, while no lock is held.
+    /// Is called after each hold that entered one other event on the way to an access of `caller` in a file, with that
+    /// event, while no lock is held.
     fn between(&self, caller: u32, file: u32, event: &Event);
 }
 
