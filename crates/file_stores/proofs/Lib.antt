@@ -1,9 +1,6 @@
 pub mod Lists
-pub mod ShapeLaws
-pub mod BerthLaws
-pub mod StockLaws
-pub mod SpreadLaws
+pub mod KeyLaws
 pub mod HeldLaws
-pub mod BackLaws
-pub mod WriteLaws
-pub mod TestLaws
+pub mod ReturnLaws
+pub mod StopLaws
+pub mod StackLaws

@@ -1,8 +1,7 @@
--- Items of a list by their numbers.
-use Rattle.std.proofs.Common.{◌≡◌, ◌⊎◌, ⊎_elim, inl, inr, ℕ, zero, suc, ◌+◌, ◌<◌, Bool, true, false, is_some, List, [], ◌∷◌, ◌++◌, length, Option, Some, None, refl, sym, ap, subst, arith}
+-- Items of a list by their places.
+use Rattle.std.proofs.Common.{◌≡◌, ◌⊎◌, ⊎_elim, inl, inr, ℕ, zero, suc, ◌+◌, ◌<◌, List, [], ◌∷◌, ◌++◌, length, map, take, Some, refl, sym, ap, subst, arith}
 use Rattle.std.specs.Prelude.{slice_get}
-use Rattle.file_stores.specs.Losses.{gone_at}
-use Rattle.file_stores.specs.Held.{EachAt}
+use Rattle.file_stores.specs.Keys.{EachAt}
 
 pub some-is : {A : Type 0} (x y : A) → Some x ≡ Some y → x ≡ y
 some-is x y e = cc
@@ -10,7 +9,7 @@ some-is x y e = cc
 pub no-item : {A : Type 0} (k : ℕ) (x : A) → slice_get {X = A} [] k ≡ Some x → ⊥
 no-item k x e = cc
 
--- what stands at a number of a list with one more item
+-- what stands at a place of a list with one more item
 pub at-more : {A : Type 0} (xs : List A) (x y : A) (k : ℕ) → slice_get (xs ++ x ∷ []) k ≡ Some y → (slice_get xs k ≡ Some y) ⊎ ((k ≡ length xs) × (x ≡ y))
 at-more [] x y zero e = inr (refl, some-is x y e)
 at-more [] x y (suc k) e = absurd (no-item k y e)
@@ -34,29 +33,39 @@ pub length-more : {A : Type 0} (xs : List A) (x : A) → length (xs ++ x ∷ [])
 length-more [] x = refl
 length-more (y ∷ xs) x = let e = length-more xs x in omega (arith, e)
 
-pub gone-before : (gone : List Bool) (g : Bool) (k : ℕ) → k < length gone → gone_at (gone ++ g ∷ []) k ≡ gone_at gone k
-gone-before [] g k lt = absurd (omega arith)
-gone-before (x ∷ xs) g zero lt = refl
-gone-before (x ∷ xs) g (suc k) lt = gone-before xs g k (omega arith)
-
-pub gone-last : (gone : List Bool) (g : Bool) → gone_at (gone ++ g ∷ []) (length gone) ≡ g
-gone-last [] g = refl
-gone-last (x ∷ xs) g = gone-last xs g
-
 -- what stands in a list stands there in a longer one
 pub at-longer : {A : Type 0} (xs ys : List A) (k : ℕ) (x : A) → slice_get xs k ≡ Some x → slice_get (xs ++ ys) k ≡ Some x
 at-longer [] ys k x e = absurd (no-item k x e)
 at-longer (y ∷ xs) ys zero x e = e
 at-longer (y ∷ xs) ys (suc k) x e = at-longer xs ys k x e
 
+-- what stands in the first items stands in the list
+pub at-taken : {A : Type 0} (n : ℕ) (xs : List A) (k : ℕ) (x : A) → slice_get (take n xs) k ≡ Some x → slice_get xs k ≡ Some x
+at-taken zero xs k x e = absurd (no-item k x e)
+at-taken (suc n) [] k x e = absurd (no-item k x e)
+at-taken (suc n) (y ∷ xs) zero x e = e
+at-taken (suc n) (y ∷ xs) (suc k) x e = at-taken n xs k x e
+
 pub at-last : {A : Type 0} (xs : List A) (x : A) → slice_get (xs ++ x ∷ []) (length xs) ≡ Some x
 at-last [] x = refl
 at-last (y ∷ xs) x = at-last xs x
 
-pub is-none : {A : Type 0} (o : Option A) (b : Bool) → b ≡ is_some o → b ≡ false → o ≡ None
-is-none None b e f = refl
-is-none (Some x) b e f = absurd cc
+-- the item whose image stands in the list of images
+pub from-map : {A B : Type 0} (f : A → B) (xs : List A) (k : ℕ) (y : B) → slice_get (map f xs) k ≡ Some y → (x : A) × (slice_get xs k ≡ Some x) × (f x ≡ y)
+from-map f [] k y e = absurd (no-item k y e)
+from-map f (x ∷ xs) zero y e = (x, refl, some-is (f x) y e)
+from-map f (x ∷ xs) (suc k) y e = from-map f xs k y e
 
-pub is-some : {A : Type 0} (o : Option A) (b : Bool) → b ≡ is_some o → b ≡ true → o ≡ None → ⊥
-is-some None b e t n = cc
-is-some (Some x) b e t n = cc
+pub to-map : {A B : Type 0} (f : A → B) (xs : List A) (k : ℕ) (x : A) → slice_get xs k ≡ Some x → slice_get (map f xs) k ≡ Some (f x)
+to-map f [] k x e = absurd (no-item k x e)
+to-map f (y ∷ xs) zero x e = ap (λ z. Some (f z)) (some-is y x e)
+to-map f (y ∷ xs) (suc k) x e = to-map f xs k x e
+
+pub map-more : {A B : Type 0} (f : A → B) (xs : List A) (x : A) → map f (xs ++ x ∷ []) ≡ map f xs ++ f x ∷ []
+map-more f [] x = refl
+map-more f (y ∷ xs) x = ap (λ l. f y ∷ l) (map-more f xs x)
+
+pub map-take : {A B : Type 0} (f : A → B) (n : ℕ) (xs : List A) → map f (take n xs) ≡ take n (map f xs)
+map-take f zero xs = refl
+map-take f (suc n) [] = refl
+map-take f (suc n) (x ∷ xs) = ap (λ l. f x ∷ l) (map-take f n xs)

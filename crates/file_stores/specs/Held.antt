@@ -1,108 +1,83 @@
--- The stores of the files while they are out of the bay: taken, and given back.
-use Rattle.std.specs.Prelude.{◌≡◌, ℕ, ◌<◌, ◌≤◌, List, [], ◌∷◌, length, slice_get, Option, Some, Bool, false, vec_capacity}
+-- Stores while they are out of the bay.
+use Rattle.std.specs.Prelude.{◌≡◌, ℕ, ◌≤◌, List, [], ◌∷◌, ◌++◌, length, map, filter, slice_get, Some, IfSome, IsSome, if◌then◌else◌, Bool, vec_capacity}
 use Rattle.std.specs.Global.{Vec}
-use Rattle.run_defs.specs.declared.setting.Setting.{Setting}
-use Rattle.spr_io.specs.Content.{Content, KeepsShape}
-use Rattle.spr_io.specs.Berth.{Berths, Opens, taken, SameElsewhere}
-use Rattle.spr_io.specs.Causes.{Rose}
-use Rattle.spr_io.specs.declared.outside.BayErr.{BayErr}
-use Rattle.spr_io.specs.declared.outside.BayErr.TheVariants as bay_errs
+use Rattle.stack_accept.specs.Mount.{Mount}
+use Rattle.run_defs.specs.declared.store.StoreKey.{StoreKey}
+use Rattle.run_defs.specs.Stack.{disk_name, file_name}
+use Rattle.spr_io.specs.Content.{KeepsShape}
+use Rattle.spr_io.specs.Berth.{BaySeen, taken, SameElsewhere}
 use Rattle.disk_format.specs.Shape.{blocks_of}
+use Rattle.file_stores.specs.Keys.{EachAt, image_shape, berth_of, is_lost, SameOthers}
+use Rattle.file_stores.specs.State.{StoreState, Lay, BackFrom, RoseBy}
 use Rattle.file_stores.specs.declared.stop.Stop.{Stop}
 use Rattle.file_stores.specs.declared.stop.Stop.TheVariants as stops
-use Rattle.file_stores.specs.Berths.{image_shape, berth_at, disk_of, file_name, SameOthers}
-use Rattle.file_stores.specs.Losses.{gone_at}
-use Rattle.file_stores.specs.Store.{AtBay, BackFrom}
 
--- a store that is out: the bytes of a block, how many blocks, its count of faults, and what it holds, where that is told
+-- a store that is out: which one, the bytes of a block, how many blocks, and its state
 pub record StoreSeen : Type 0 where
+  pub key : StoreKey
   pub size : ℕ
   pub number : ℕ
-  pub faults : ℕ
-  pub content : Option Content
+  pub state : StoreState
 
--- an empty list with room for so many
+-- an empty list with room for this number
 abbrev pub IsRoom : {A : Type 0} → ℕ → Vec A → Type 0
 IsRoom {A = A} number list = (list.items ≡ []) × (number ≤ vec_capacity list)
 
--- what holds of each number below the length, and of what stands there
-abbrev pub EachAt : {A : Type 0} → (ℕ → A → Type 0) → List A → Type 0
-EachAt {A = A} P items = (at : ℕ) (item : A) → slice_get items at ≡ Some item → P at item
+-- which stores these are
+abbrev pub keys_of : List StoreSeen → List StoreKey
+keys_of stores = map (λ store. store.key) stores
 
--- the store has the shape of a file's image
-abbrev pub IsFor : Setting → ℕ → StoreSeen → Type 0
-IsFor setting file s = KeepsShape setting.page_size (blocks_of (image_shape setting file)) s.size s.number s.content
+-- the store has the shape of its image
+abbrev pub IsFit : Mount → StoreSeen → Type 0
+IsFit mount store = KeepsShape mount.page_size (blocks_of (image_shape mount store.key)) store.size store.number store.state.content
 
--- a store was taken, of these names and this shape
-pub record Took (disk name : List ℕ) (size number : ℕ) (before now : Berths) (s : StoreSeen) : Type 0 where
-  pub was_in : (before disk name).out ≡ false
-  pub opens : Opens size number (before disk name).holds s.content
-  pub count : s.faults ≡ (before disk name).faults
-  pub berth : now disk name ≡ taken (before disk name)
-  pub shape : KeepsShape size number s.size s.number s.content
-  pub others : SameElsewhere disk name before now
+-- a store was taken
+pub record Took (mount : Mount) (before after : BaySeen) (store : StoreSeen) : Type 0 where
+  pub lay : Lay mount before store.key store.state
+  pub berth : berth_of mount store.key after.berths ≡ taken (berth_of mount store.key before.berths)
+  pub fits : IsFit mount store
+  pub others : SameElsewhere (disk_name mount store.key.disk) (file_name mount store.key.file) before.berths after.berths
+  pub calm : after.faults ≡ before.faults
 
--- the store of a file was taken
-abbrev pub TookOf : Setting → ℕ → Berths → Berths → StoreSeen → Type 0
-TookOf setting file before now s = Took (disk_of setting file) (file_name setting file) setting.page_size (blocks_of (image_shape setting file)) before now s
+-- a store lay in the bay, and is out now
+pub record IsOut (mount : Mount) (before now : BaySeen) (store : StoreSeen) : Type 0 where
+  pub lay : Lay mount before store.key store.state
+  pub berth : berth_of mount store.key now.berths ≡ taken (berth_of mount store.key before.berths)
+  pub fits : IsFit mount store
 
--- the store of a file, with this content and count of faults, lay in the bay before and is out now
-pub record IsOut (setting : Setting) (before now : Berths) (file : ℕ) (content : Option Content) (faults : ℕ) : Type 0 where
-  pub was_in : (berth_at setting file before).out ≡ false
-  pub opens : Opens setting.page_size (blocks_of (image_shape setting file)) (berth_at setting file before).holds content
-  pub count : faults ≡ (berth_at setting file before).faults
-  pub berth : berth_at setting file now ≡ taken (berth_at setting file before)
+-- these stores are out, and no other berth changed
+pub record AreOut (mount : Mount) (before now : BaySeen) (stores : List StoreSeen) : Type 0 where
+  pub each : EachAt (λ at store. IsOut mount before now store) stores
+  pub others : SameOthers mount (keys_of stores) before.berths now.berths
 
--- the stores of the first files are out, and no other berth changed
-pub record AreOut (setting : Setting) (before now : Berths) (stores : List StoreSeen) : Type 0 where
-  pub few : length stores ≤ length setting.files
-  pub each : EachAt (λ file s. IsOut setting before now file s.content s.faults) stores
-  pub fit : EachAt (IsFor setting) stores
-  pub others : SameOthers setting (length stores) before now
+-- why the next of these stores was not taken: the bay had a fault, or memory ran out and it had none
+abbrev pub IsUntaken : List StoreKey → ℕ → BaySeen → BaySeen → Stop → Type 0
+IsUntaken keys number before after (stops.Bay key) = (slice_get keys number ≡ Some key) × RoseBy 1 before.faults after.faults
+IsUntaken keys number before after stops.Memory = after.faults ≡ before.faults
+IsUntaken keys number before after stop = ⊥
 
--- why a command ends that could not take the store of a file
-abbrev pub untaken : ℕ → BayErr → Stop
-untaken file bay_errs.Failed = stops.Bay file
-untaken file bay_errs.Memory = stops.Memory
+-- a store came back, or is lost behind those lost before, by a fault of the bay; no other berth changed
+pub record Gave (mount : Mount) (before after : BaySeen) (lost lost_after : List StoreKey) (store : StoreSeen) : Type 0 where
+  pub gone : Bool
+  pub back : BackFrom (berth_of mount store.key before.berths) (berth_of mount store.key after.berths) gone store.state
+  pub list : lost_after ≡ (if gone then lost ++ store.key ∷ [] else lost)
+  pub paid : RoseBy (if gone then 1 else 0) before.faults after.faults
+  pub others : SameElsewhere (disk_name mount store.key.disk) (file_name mount store.key.file) before.berths after.berths
 
--- where the store of a file was not taken, the bay's count of faults rose, or memory lacked
-abbrev pub IsUntaken : Setting → ℕ → ℕ → ℕ → Stop → Type 0
-IsUntaken setting file faults faults_after (stops.Bay at) = (file ≡ at) × (at < length setting.files) × Rose faults faults_after
-IsUntaken setting file faults faults_after stops.Memory = Unit {0}
-IsUntaken setting file faults faults_after (stops.Store at count) = ⊥
-IsUntaken setting file faults faults_after (stops.Image at place why) = ⊥
+-- stores that were out came back, but for those that are lost, in the same order
+pub record AreGiven (mount : Mount) (before after : BaySeen) (stores : List StoreSeen) (lost : List StoreKey) : Type 0 where
+  pub each : EachAt (λ at store. BackFrom (berth_of mount store.key before.berths) (berth_of mount store.key after.berths) (is_lost lost store.key) store.state) stores
+  pub some : lost ≡ filter (is_lost lost) (keys_of stores)
+  pub paid : RoseBy (length lost) before.faults after.faults
+  pub others : SameOthers mount (keys_of stores) before.berths after.berths
 
--- a store as it was, but for more faults
-pub record IsSame (old new : StoreSeen) : Type 0 where
-  pub content : new.content ≡ old.content
+-- what became of a store while it was out
+pub record BecameOne (old new : StoreState) (Becomes : StoreState → StoreState → Type 0) : Type 0 where
+  pub becomes : Becomes old new
   pub later : old.faults ≤ new.faults
+  pub told : IfSome old.content (λ _. IsSome new.content)
 
--- the stores are as they were, each but for more faults
-abbrev pub AreSame : List StoreSeen → List StoreSeen → Type 0
-AreSame [] [] = Unit {0}
-AreSame [] (new ∷ more) = ⊥
-AreSame (old ∷ olds) [] = ⊥
-AreSame (old ∷ olds) (new ∷ more) = IsSame old new × AreSame olds more
-
--- a store was given back under these names, or lost
-pub record Gave (disk name : List ℕ) (bay : AtBay) (gone : Bool) (s : StoreSeen) : Type 0 where
-  pub back : BackFrom bay (bay.berths disk name) (bay.berths_after disk name) gone s.content s.faults
-  pub others : SameElsewhere disk name bay.berths bay.berths_after
-  pub later : bay.faults ≤ bay.faults_after
-
--- the store of a file was given back, or lost
-abbrev pub GaveOf : Setting → ℕ → AtBay → Bool → StoreSeen → Type 0
-GaveOf setting file bay gone s = Gave (disk_of setting file) (file_name setting file) bay gone s
-
--- the stores of the first files were given back, or lost
-pub record AreGiven (setting : Setting) (bay : AtBay) (stores : List StoreSeen) (gone : List Bool) : Type 0 where
-  pub flags : length gone ≡ length stores
-  pub each : EachAt (λ file s. BackFrom bay (berth_at setting file bay.berths) (berth_at setting file bay.berths_after) (gone_at gone file) s.content s.faults) stores
-  pub others : SameOthers setting (length stores) bay.berths bay.berths_after
-  pub later : bay.faults ≤ bay.faults_after
-
--- the stores came back as they were, each but for more faults, or were lost
-pub record ComeBack (setting : Setting) (bay : AtBay) (stores : List StoreSeen) (gone : List Bool) : Type 0 where
-  pub back : List StoreSeen
-  pub same : AreSame stores back
-  pub given : AreGiven setting bay back gone
+-- what became of stores while they were out
+pub record Became (olds news : List StoreSeen) (Becomes : ℕ → StoreKey → StoreState → StoreState → Type 0) : Type 0 where
+  pub keys : keys_of news ≡ keys_of olds
+  pub each : (at : ℕ) (old new : StoreSeen) → slice_get olds at ≡ Some old → slice_get news at ≡ Some new → BecameOne old.state new.state (Becomes at old.key)

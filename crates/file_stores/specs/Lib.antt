@@ -1,7 +1,6 @@
-pub mod Berths
-pub mod Stocked
-pub mod Losses
-pub mod Store
-pub mod Stop
+pub mod Keys
+pub mod State
 pub mod Held
-pub mod Writing
+pub mod Stop
+pub mod Stops
+pub mod Written

@@ -1,45 +1,51 @@
--- What a command writes that ends before its work.
-use Rattle.std.specs.Prelude.{ℕ, List, [], ◌∷◌, ◌++◌, codes, length, Bool}
+-- What a command writes that ends before its work, without the line of its status.
+use Rattle.std.specs.Prelude.{List, ℕ, [], ◌∷◌, ◌++◌, codes}
 use Rattle.std.specs.List.{flat_map}
 use Rattle.std.specs.Fmt.{decimal}
-use Rattle.run_defs.specs.declared.setting.Setting.{Setting}
-use Rattle.run_defs.specs.Line.{line}
+use Rattle.text_words.specs.Lines.{line_of}
+use Rattle.stack_accept.specs.Mount.{Mount}
+use Rattle.run_defs.specs.declared.store.StoreKey.{StoreKey}
+use Rattle.run_defs.specs.Stack.{disk_name, file_name}
 use Rattle.run_defs.specs.Report.{lost_line}
 use Rattle.spr_report.specs.declared.status.Status.{Status}
 use Rattle.spr_report.specs.declared.status.Status.TheVariants as statuses
 use Rattle.disk_format.specs.declared.why.ImageWhy.{ImageWhy}
 use Rattle.disk_format.specs.Why.{word_of}
+use Rattle.disk_layer.specs.declared.refused.OpenWhy.{OpenWhy}
+use Rattle.disk_layer.specs.declared.refused.OpenWhy.TheVariants as whys
 use Rattle.file_stores.specs.declared.stop.Stop.{Stop}
 use Rattle.file_stores.specs.declared.stop.Stop.TheVariants as stops
-use Rattle.file_stores.specs.Berths.{disk_of, file_name}
-use Rattle.file_stores.specs.Losses.{lost_at, losses}
 
--- the line of a store that holds no image of its file
-abbrev pub no_image_line : Setting → ℕ → ℕ → ImageWhy → List ℕ
-no_image_line setting file place why = line (codes "image" ∷ disk_of setting file ∷ file_name setting file ∷ decimal place ∷ word_of why ∷ [])
+-- the line of a store that holds no image
+abbrev pub no_image_line : Mount → StoreKey → ℕ → ImageWhy → List ℕ
+no_image_line mount key place why = line_of (codes "image" ∷ disk_name mount key.disk ∷ file_name mount key.file ∷ decimal place ∷ word_of why ∷ [])
 
--- the line of the cause of a stop; want of memory has none
-abbrev pub cause_text : Setting → Stop → List ℕ
-cause_text setting (stops.Bay file) = lost_line setting (lost_at (length setting.disks) file)
-cause_text setting (stops.Store file count) = line (codes "store" ∷ disk_of setting file ∷ decimal count ∷ [])
-cause_text setting (stops.Image file place why) = no_image_line setting file place why
-cause_text setting stops.Memory = []
+-- the line of a store that failed
+abbrev pub fault_line : Mount → StoreKey → ℕ → List ℕ
+fault_line mount key count = line_of (codes "store" ∷ disk_name mount key.disk ∷ decimal count ∷ [])
 
--- a line for each store that was lost
-abbrev pub lost_text : Setting → List Bool → List ℕ
-lost_text setting gone = flat_map (lost_line setting) (losses (length setting.disks) gone)
+-- the line that says why a command stopped; if memory ran out there is none
+abbrev pub cause_text : Mount → Stop → List ℕ
+cause_text mount (stops.Bay key) = lost_line mount key
+cause_text mount (stops.Store key count) = fault_line mount key count
+cause_text mount (stops.Image key place why) = no_image_line mount key place why
+cause_text mount stops.Memory = []
+
+-- a line for each store that is lost
+abbrev pub lost_text : Mount → List StoreKey → List ℕ
+lost_text mount lost = flat_map (lost_line mount) lost
+
+abbrev pub stop_text : Mount → Stop → List StoreKey → List ℕ
+stop_text mount stop lost = cause_text mount stop ++ lost_text mount lost
 
 abbrev pub stop_status : Stop → Status
-stop_status (stops.Bay file) = statuses.BayFault
-stop_status (stops.Store file count) = statuses.Faulted
-stop_status (stops.Image file place why) = statuses.BadImage
+stop_status (stops.Bay key) = statuses.BayFault
+stop_status (stops.Store key count) = statuses.Faulted
+stop_status (stops.Image key place why) = statuses.BadImage
 stop_status stops.Memory = statuses.Memory
 
-abbrev pub stop_line : Stop → List ℕ
-stop_line (stops.Bay file) = codes "status 5\n"
-stop_line (stops.Store file count) = codes "status 1\n"
-stop_line (stops.Image file place why) = codes "status 6\n"
-stop_line stops.Memory = codes "status 8\n"
-
-abbrev pub stop_text : Setting → List Bool → Stop → List ℕ
-stop_text setting gone stop = cause_text setting stop ++ (lost_text setting gone ++ stop_line stop)
+-- why a command stops that was refused the disk on a store
+abbrev pub refused : StoreKey → OpenWhy → Stop
+refused key (whys.BadImage bad) = stops.Image key bad.place bad.why
+refused key (whys.StoreFault fault) = stops.Store key fault.count
+refused key whys.Memory = stops.Memory

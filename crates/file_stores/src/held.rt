@@ -1,22 +1,23 @@
-//! The stores of the files: how they are taken and given back.
+//! Stores that are out of the bay: how they are taken and given back.
 
-ghost use Rattle.std.specs.Prelude.{◌≡◌, ◌++◌, ◌+◌, ◌<◌, ◌≤◌, [], IfOk, IfErr, OnOk, OnErr, length, vec_capacity};
-ghost use Rattle.spr_io.specs.Berth.{Opens, taken, given, lost, SameElsewhere, SameBerths};
-ghost use Rattle.spr_io.specs.Causes.{Rose, HasCause};
-ghost use Rattle.spr_io.specs.Content.{KeepsShape};
-ghost use Rattle.file_stores.specs.Store.{AtBay};
-ghost use Rattle.file_stores.specs.Stocked.{IsStocked};
-ghost use Rattle.file_stores.specs.Held.{IsRoom, IsFor, EachAt, Took, TookOf, AreOut, untaken, IsUntaken, Gave, GaveOf, AreGiven};
+ghost use Rattle.std.specs.Prelude.{◌≡◌, ◌++◌, ◌∷◌, ◌+◌, ◌<◌, ◌≤◌, [], IfOk, IfErr, OnOk, OnErr, length, take, vec_capacity};
+ghost use Rattle.stack_accept.specs.Sound.{IsMount};
+ghost use Rattle.spr_io.specs.Berth.{SameBerths};
+ghost use Rattle.file_stores.specs.Keys.{AreStores, IsStore};
+ghost use Rattle.file_stores.specs.Held.{IsRoom, keys_of, Took, AreOut, IsUntaken, Gave, AreGiven};
 
-use crate::names::{disk_of, file_name, shape_of};
+use crate::keys::shape_of;
 use crate::stop::Stop;
-use run_defs::Setting;
+use run_defs::{StoreKey, disk_name, file_name};
 use spr_io::{Bay, BayErr, Store};
+use stack_accept::Mounted;
 use std::marker::Model;
 
-/// A store that is out of the bay.
+/// A store that is out of the bay, and which one it is.
 #[derive(Drop)]
 pub struct Held<S: Store> {
+    /// Which one it is.
+    pub key: StoreKey,
     /// The store.
     pub store: S,
 }
@@ -26,76 +27,52 @@ impl<S: Store> Model for Held<S> {
 
     ghost Value = { StoreSeen };
 
-    ghost view = { λ h. record { size = S.size h.store; number = S.number h.store; faults = S.faults h.store; content = S.content h.store } };
+    ghost view = { λ h. record { key = h.key; size = S.size h.store; number = S.number h.store; state = record { content = S.content h.store; faults = S.faults h.store } } };
 }
 
-/// Takes the store of these names.
-fn take<B: Bay>(
-    bay: &mut B,
-    disk: &str,
-    name: &str,
-    size: u32,
-    number: u32,
-) -> Result<Held<B::Store>, BayErr>
-    ensures took { IfOk result (Took disk.now name.now size number (B.berth bay.old) (B.berth bay.new)) }
-    ensures refused { OnErr result (SameBerths (B.berth bay.old) (B.berth bay.new)) }
-    ensures cause { HasCause (B.faults bay.old) (B.faults bay.new) (result ≡ Err BayErr.Failed) }
-{
-    match bay.take(disk, name, size, number) {
-        Ok(store) => Ok(Held { store }),
-        Err(why) => Err(why),
-    }
-}
-
-/// Takes the store of a file, which has a block for each of its image.
+/// Takes a store, which has a block for each of its image.
 pub fn take_store<B: Bay>(
-    setting: &Setting,
+    mount: &Mounted,
     bay: &mut B,
-    file: usize,
-) -> Result<Held<B::Store>, BayErr>
-    requires stocked { IsStocked setting.now }
-    requires file { file < length setting.now.files }
-    ensures took { IfOk result (TookOf setting.now file (B.berth bay.old) (B.berth bay.new)) }
-    ensures refused { OnErr result (SameBerths (B.berth bay.old) (B.berth bay.new)) }
-    ensures cause { HasCause (B.faults bay.old) (B.faults bay.new) (result ≡ Err BayErr.Failed) }
+    key: StoreKey,
+) -> Result<Held<B::Store>, Stop>
+    requires { IsStore mount.now key }
+    ensures sound { IsMount mount.now }
+    ensures key { IfOk result (λ held. held.key ≡ key) }
+    ensures took { IfOk result (Took mount.now (B.told bay.old) (B.told bay.new)) }
+    ensures refused { OnErr result (SameBerths (B.told bay.old).berths (B.told bay.new).berths) }
+    ensures cause { IfErr result (IsUntaken (key ∷ []) 0 (B.told bay.old) (B.told bay.new)) }
 {
-    let shape = shape_of(setting, file);
-    take(
-        bay,
-        disk_of(setting, file),
-        file_name(setting, file),
-        shape.page_size,
-        shape.blocks(),
-    )
-}
-
-/// Why a command ends that could not take the store of a file.
-pub fn untaken(file: u32, why: BayErr) -> Stop
-    ensures { result ≡ untaken file why }
-{
-    match why {
-        BayErr::Failed => Stop::Bay { file },
-        BayErr::Memory => Stop::Memory,
+    let shape = shape_of(mount, key);
+    let disk = disk_name(mount, key.disk);
+    let file = file_name(mount, key.file);
+    match bay.take(disk, file, shape.page_size, shape.blocks()) {
+        Ok(store) => Ok(Held { key, store }),
+        Err(BayErr::Failed) => Err(Stop::Bay { store: key }),
+        Err(BayErr::Memory) => Err(Stop::Memory),
     }
 }
 
-/// Takes the store of each file, in order, as far as the bay gives them. The room for them is there.
+/// Takes these stores, in order, as far as the bay gives them. The room for them is there.
 pub fn take_stores<B: Bay>(
-    setting: &Setting,
+    mount: &Mounted,
     bay: &mut B,
+    keys: &[StoreKey],
     stores: &mut Vec<Held<B::Store>>,
 ) -> Result<(), Stop>
-    requires stocked { IsStocked setting.now }
-    requires room { IsRoom (length setting.now.files) stores.old }
-    ensures out { AreOut setting.now (B.berth bay.old) (B.berth bay.new) stores.new.items }
-    ensures later { B.faults bay.old ≤ B.faults bay.new }
-    ensures all { OnOk result (length stores.new.items ≡ length setting.now.files) }
-    ensures cause { IfErr result (IsUntaken setting.now (length stores.new.items) (B.faults bay.old) (B.faults bay.new)) }
+    requires keys { AreStores mount.now keys.now }
+    requires room { IsRoom (length keys.now) stores.old }
+    ensures out { AreOut mount.now (B.told bay.old) (B.told bay.new) stores.new.items }
+    ensures stores { AreStores mount.now (keys_of stores.new.items) }
+    ensures first { keys_of stores.new.items ≡ take (length stores.new.items) keys.now }
+    ensures all { OnOk result (keys_of stores.new.items ≡ keys.now) }
+    ensures calm { OnOk result ((B.told bay.new).faults ≡ (B.told bay.old).faults) }
+    ensures cause { IfErr result (IsUntaken keys.now (length stores.new.items) (B.told bay.old) (B.told bay.new)) }
 {
-    for file in 0..setting.files.as_slice().len() {
-        match take_store(setting, bay, file) {
-            Ok(store) => stores.push_reserved(store),
-            Err(why) => return Err(untaken(file as u32, why)),
+    for key in keys {
+        match take_store(mount, bay, *key) {
+            Ok(held) => stores.push_reserved(held),
+            Err(stop) => return Err(stop),
         }
     }
     Ok(())
@@ -111,37 +88,32 @@ pub fn put_behind<S: Store>(stores: &mut Vec<Held<S>>, rest: Vec<Held<S>>)
     }
 }
 
-/// Gives a store back under these names, and answers whether it is lost.
-fn give_under<B: Bay>(bay: &mut B, disk: &str, name: &str, held: Held<B::Store>) -> bool
-    ensures { Gave disk.now name.now (record { berths = B.berth bay.old; berths_after = B.berth bay.new; faults = B.faults bay.old; faults_after = B.faults bay.new }) result held }
+/// Gives a store back; one that the bay refuses is lost. The room for that is there.
+pub fn give<B: Bay>(mount: &Mounted, bay: &mut B, held: Held<B::Store>, lost: &mut Vec<StoreKey>)
+    requires { length lost.old.items < vec_capacity lost.old }
+    ensures gave { Gave mount.now (B.told bay.old) (B.told bay.new) lost.old.items lost.new.items held }
+    ensures room { vec_capacity lost.new ≡ vec_capacity lost.old }
 {
-    bay.give(disk, name, held.store).is_err()
+    let Held { key, store } = held;
+    let disk = disk_name(mount, key.disk);
+    let file = file_name(mount, key.file);
+    if bay.give(disk, file, store).is_err() {
+        lost.push_reserved(key);
+    }
 }
 
-/// Gives the store of a file back, and answers whether it is lost.
-pub fn give<B: Bay>(setting: &Setting, bay: &mut B, file: usize, held: Held<B::Store>) -> bool
-    ensures { GaveOf setting.now file (record { berths = B.berth bay.old; berths_after = B.berth bay.new; faults = B.faults bay.old; faults_after = B.faults bay.new }) result held }
-{
-    give_under(bay, disk_of(setting, file), file_name(setting, file), held)
-}
-
-/// Gives the stores of the first files back, in order, and answers by file whether it is lost. The room for that is there.
+/// Gives stores back, in order, and lists those that the bay refuses, which are lost. The room for the list is there.
 pub fn give_back<B: Bay>(
-    setting: &Setting,
+    mount: &Mounted,
     bay: &mut B,
     stores: Vec<Held<B::Store>>,
-    gone: Vec<bool>,
-) -> Vec<bool>
-    requires stocked { IsStocked setting.now }
-    requires few { length stores.items ≤ length setting.now.files }
-    requires room { IsRoom (length stores.items) gone }
-    ensures { AreGiven setting.now (record { berths = B.berth bay.old; berths_after = B.berth bay.new; faults = B.faults bay.old; faults_after = B.faults bay.new }) stores.items result.items }
+    lost: &mut Vec<StoreKey>,
+)
+    requires keys { AreStores mount.now (keys_of stores.items) }
+    requires room { IsRoom (length stores.items) lost.old }
+    ensures { AreGiven mount.now (B.told bay.old) (B.told bay.new) stores.items lost.new.items }
 {
-    let mut gone = gone;
-    for store in stores {
-        let file = gone.len();
-        let lost = give(setting, bay, file, store);
-        gone.push_reserved(lost);
+    for held in stores {
+        give(mount, bay, held, lost);
     }
-    gone
 }

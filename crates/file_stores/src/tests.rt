@@ -1,74 +1,44 @@
-//! The stores of two files, taken from a bay in memory and given back, and the texts of each stop.
+//! The stores of stacks, taken from a bay in memory and given back, and the texts of each stop.
 
-ghost use Rattle.std.specs.Prelude.{◌≡◌, ◌∷◌, [], IfOk, codes, length, true, false};
-ghost use Rattle.file_stores.specs.Stocked.{IsStocked};
+ghost use Rattle.std.specs.Prelude.{◌≤◌, IfOk, length};
+ghost use Rattle.file_stores.specs.Keys.{AreStores};
 
 use super::*;
-use disk_format::{ImageShape, ImageWhy};
-use hist_plain::{Items, Text};
-use run_defs::{FileEntry, LostStore, NodeEntry, Setting};
-use spr_io::{BayErr, MemBay, MemSink};
+use disk_format::{BadImage, ImageShape, ImageWhy};
+use disk_layer::{OpenWhy, StoreFault};
+use run_defs::StoreKey;
+use spr_io::{MemBay, MemSink};
 use spr_report::Status;
+use stack_accept::{Mounted, accept};
+use stack_text::{StackText, parse_stack};
 use std::alloc::{AllocError, Global};
 use std::test::Fail;
 
-fn file_of(alloc: Global, name: &str, pages: u32) -> Result<FileEntry, AllocError>
-    ensures { IfOk result (λ f. f ≡ record { name = name.now; pages = pages }) }
-{
-    let name = Text::of(alloc, name)?;
-    Ok(FileEntry { name, pages })
-}
-
-fn files_of(alloc: Global) -> Result<Items<FileEntry>, AllocError>
-    ensures { IfOk result (λ files. files ≡ record { name = codes "f"; pages = 2 } ∷ record { name = codes "g"; pages = 17 } ∷ []) }
-{
-    let first = file_of(alloc, "f", 2)?;
-    let second = file_of(alloc, "g", 17)?;
-    let mut files = Items::new(alloc);
-    files.push(first)?;
-    files.push(second)?;
-    Ok(files)
-}
-
-fn node_of(alloc: Global, name: &str, is_view: bool) -> Result<NodeEntry, AllocError>
-    ensures { IfOk result (λ node. node ≡ record { name = name.now; is_view = is_view }) }
-{
-    let name = Text::of(alloc, name)?;
-    Ok(NodeEntry { name, is_view })
-}
-
-fn nodes_of(alloc: Global) -> Result<Items<NodeEntry>, AllocError>
-    ensures { IfOk result (λ nodes. nodes ≡ record { name = codes "d"; is_view = false } ∷ record { name = codes "c"; is_view = true } ∷ []) }
-{
-    let ground = node_of(alloc, "d", false)?;
-    let layer = node_of(alloc, "c", true)?;
-    let mut nodes = Items::new(alloc);
-    nodes.push(ground)?;
-    nodes.push(layer)?;
-    Ok(nodes)
-}
-
-fn disks_of(alloc: Global) -> Result<Items<Text>, AllocError>
-    ensures { IfOk result (λ disks. disks ≡ codes "d" ∷ []) }
-{
-    let name = Text::of(alloc, "d")?;
-    let mut disks = Items::new(alloc);
-    disks.push(name)?;
-    Ok(disks)
-}
-
 /// The files `f` of 2 pages and `g` of 17, each of 64 bytes, on the disk `d`, and the layer `c`.
-fn setting_of(alloc: Global) -> Result<Setting, AllocError>
-    ensures stocked { IfOk result IsStocked }
-    ensures number { IfOk result (λ s. length s.files ≡ 2) }
+const ONE_DISK: &str = "page 64\nfile f 2\nfile g 17\ndisk d m\ncoherency c m d\n";
+
+/// The same files on a mirror of the disks `d` and `e`.
+const TWO_DISKS: &str =
+    "page 64\nfile f 2\nfile g 17\ndisk d m\ndisk e m\nmirror r m d e\ncoherency c m r\n";
+
+const F: StoreKey = StoreKey { file: 0, disk: 0 };
+
+const G: StoreKey = StoreKey { file: 1, disk: 0 };
+
+fn stack_of(alloc: Global, text: &str) -> Result<StackText, Fail>
+    ensures { IfOk result (λ stack. length stack.lines ≤ 128) }
 {
-    Ok(Setting {
-        page_size: 64,
-        parents: Items::from_vec(Vec::from_array(alloc, [0, 0])?),
-        files: files_of(alloc)?,
-        nodes: nodes_of(alloc)?,
-        disks: disks_of(alloc)?,
-    })
+    match parse_stack(alloc, text.as_bytes()) {
+        Ok(stack) => Ok(stack),
+        Err(_) => Err(Fail::from("the text")),
+    }
+}
+
+fn mounted(alloc: Global, text: &str) -> Result<Mounted, Fail> {
+    match accept(alloc, &stack_of(alloc, text)?) {
+        Ok(mount) => Ok(mount),
+        Err(_) => Err(Fail::from("the stack")),
+    }
 }
 
 /// What became of the stores of a bay: how many were taken, why no more, and which were lost.
@@ -76,224 +46,207 @@ fn setting_of(alloc: Global) -> Result<Setting, AllocError>
 struct Outcome {
     taken: usize,
     done: Result<(), Stop>,
-    gone: Vec<bool>,
+    lost: Vec<StoreKey>,
 }
 
-/// Takes the stores of the files and gives them back.
-fn outcome_of(alloc: Global, setting: &Setting, bay: &mut MemBay) -> Result<Outcome, AllocError>
-    requires { IsStocked setting.now }
+/// Takes the stores and gives them back.
+fn outcome_of(
+    alloc: Global,
+    mount: &Mounted,
+    keys: &[StoreKey],
+    bay: &mut MemBay,
+) -> Result<Outcome, AllocError>
+    requires { AreStores mount.now keys.now }
 {
-    let files = setting.files.as_slice().len();
-    let mut stores = Vec::with_capacity(alloc, files)?;
-    let mut all = Vec::with_capacity(alloc, files)?;
-    let gone = Vec::with_capacity(alloc, files)?;
-    let done = take_stores(setting, bay, &mut stores);
+    let mut stores = Vec::with_capacity(alloc, keys.len())?;
+    let mut lost = Vec::with_capacity(alloc, keys.len())?;
+    let done = take_stores(mount, bay, keys, &mut stores);
     let taken = stores.len();
-    put_behind(&mut all, stores);
-    let gone = give_back(setting, bay, all, gone);
-    Ok(Outcome { taken, done, gone })
+    give_back(mount, bay, stores, &mut lost);
+    Ok(Outcome { taken, done, lost })
 }
 
-/// Whether a store of this shape lies under the disk `d` and a file.
-fn lies(bay: &MemBay, file: &str, blocks: u32) -> bool {
-    match bay.look("d", file) {
+/// Whether a store of so many blocks lies under these names.
+fn lies(bay: &MemBay, disk: &str, file: &str, blocks: u32) -> bool {
+    match bay.look(disk, file) {
         Some(store) => store.has_shape(64, blocks),
         None => false,
     }
 }
 
-/// Which calls of a bay fail, counted from 1, and what becomes of the stores of the files then.
+/// Which call of a bay fails to take a store, and which to take one back, counted from 1; and what becomes of the stores then.
 #[derive(Clone, Copy)]
 struct BayRow {
     take: u64,
-    give: u64,
+    give: [u64; 2],
     taken: usize,
     done: Result<(), Stop>,
-    gone: &'static [bool],
+    lost: &'static [StoreKey],
 }
 
 const BAYS: [BayRow; 5] = [
     BayRow {
         take: 0,
-        give: 0,
+        give: [0, 0],
         taken: 2,
         done: Ok(()),
-        gone: &[false, false],
+        lost: &[],
     },
     BayRow {
         take: 1,
-        give: 0,
+        give: [0, 0],
         taken: 0,
-        done: Err(Stop::Bay { file: 0 }),
-        gone: &[],
+        done: Err(Stop::Bay { store: F }),
+        lost: &[],
     },
     BayRow {
         take: 2,
-        give: 0,
+        give: [1, 0],
         taken: 1,
-        done: Err(Stop::Bay { file: 1 }),
-        gone: &[false],
-    },
-    BayRow {
-        take: 2,
-        give: 1,
-        taken: 1,
-        done: Err(Stop::Bay { file: 1 }),
-        gone: &[true],
+        done: Err(Stop::Bay { store: G }),
+        lost: &[F],
     },
     BayRow {
         take: 0,
-        give: 2,
+        give: [2, 0],
         taken: 2,
         done: Ok(()),
-        gone: &[false, true],
+        lost: &[G],
+    },
+    BayRow {
+        take: 0,
+        give: [1, 2],
+        taken: 2,
+        done: Ok(()),
+        lost: &[F, G],
     },
 ];
 
-/// Whether the stores of the files are taken and given back as a row says, and lie in the bay afterwards.
-fn goes_as(alloc: Global, setting: &Setting, row: &BayRow) -> Result<bool, AllocError>
-    requires { IsStocked setting.now }
+/// Whether the stores are taken and given back as a row says, and lie in the bay afterwards unless they are lost.
+fn goes_as(
+    alloc: Global,
+    mount: &Mounted,
+    keys: &[StoreKey],
+    row: &BayRow,
+) -> Result<bool, AllocError>
+    requires { AreStores mount.now keys.now }
 {
-    let mut bay = MemBay::new(alloc, &[row.take], &[row.give])?;
-    let outcome = outcome_of(alloc, setting, &mut bay)?;
+    let mut bay = MemBay::new(alloc, &[row.take], &row.give)?;
+    let outcome = outcome_of(alloc, mount, keys, &mut bay)?;
     Ok(
         outcome.taken == row.taken
             && outcome.done == row.done
-            && outcome.gone.as_slice() == row.gone
-            && any_gone(row.gone) == (row.give != 0)
-            && lies(&bay, "f", 4) == (row.taken > 0 && row.give != 1)
-            && lies(&bay, "g", 20) == (row.taken > 1 && row.give != 2),
+            && outcome.lost.as_slice() == row.lost
+            && lies(&bay, "d", "f", 4) == (row.taken > 0 && !row.lost.contains(&F))
+            && lies(&bay, "d", "g", 20) == (row.taken > 1 && !row.lost.contains(&G)),
     )
 }
 
 #[test]
 fn stores_of_two_files(rt: HostRuntime) -> Result<(), Fail> {
-    let setting = setting_of(rt.alloc())?;
+    let mount = mounted(rt.alloc(), ONE_DISK)?;
+    let keys = stores_of(rt.alloc(), &mount)?;
+    assert_eq!(rt; keys.as_slice(), [F, G].as_slice());
     for (number, row) in BAYS.iter().enumerate() {
-        assert!(rt; goes_as(rt.alloc(), &setting, row)?, "row {number}");
+        assert!(rt; goes_as(rt.alloc(), &mount, &keys, row)?, "row {number}");
     }
     Ok(())
 }
 
+/// The shape of the last of some stores, if that is a file's of the stack.
+fn last_shape(mount: &Mounted, keys: &[StoreKey]) -> Option<ImageShape> {
+    match keys.last() {
+        Some(key) if (key.file as usize) < mount.files().len() => Some(shape_of(mount, *key)),
+        _ => None,
+    }
+}
+
 #[test]
-fn store_of_one_file(rt: HostRuntime) -> Result<(), Fail> {
-    let setting = setting_of(rt.alloc())?;
+fn stores_of_two_disks(rt: HostRuntime) -> Result<(), Fail> {
+    let mount = mounted(rt.alloc(), TWO_DISKS)?;
+    let keys = stores_of(rt.alloc(), &mount)?;
+    let want = [
+        F,
+        StoreKey { file: 0, disk: 1 },
+        G,
+        StoreKey { file: 1, disk: 1 },
+    ];
+    assert_eq!(rt; keys.as_slice(), want.as_slice());
     let shape = ImageShape {
         page_size: 64,
         pages: 17,
     };
-    assert_eq!(rt; shape_of(&setting, 1), shape);
-    assert_eq!(rt; pages_of(&setting, 0), 2);
-    assert_eq!(rt; disk_of(&setting, 1), "d");
-    assert_eq!(rt; file_name(&setting, 1), "g");
-    let mut bay = MemBay::new(rt.alloc(), &[2], &[])?;
-    let Ok(held) = take_store(&setting, &mut bay, 1) else {
-        return Err(Fail::from("the store"));
-    };
-    assert_eq!(rt; held.store.has_shape(64, 20), true);
-    assert_eq!(rt; give(&setting, &mut bay, 1, held), false);
-    let Err(why) = take_store(&setting, &mut bay, 1) else {
-        return Err(Fail::from("the refusal"));
-    };
-    assert_eq!(rt; untaken(1, why), Stop::Bay { file: 1 });
-    assert_eq!(rt; untaken(1, BayErr::Memory), Stop::Memory);
+    assert_eq!(rt; last_shape(&mount, &keys), Some(shape));
+    let mut bay = MemBay::new(rt.alloc(), &[], &[])?;
+    let outcome = outcome_of(rt.alloc(), &mount, &keys, &mut bay)?;
+    assert_eq!(rt; (outcome.taken, outcome.done), (4, Ok(())));
+    assert!(rt; lies(&bay, "e", "f", 4));
+    assert!(rt; lies(&bay, "e", "g", 20));
     Ok(())
 }
 
-/// The names of the stores of two files on two disks, by file and then by disk.
-const STORES: [(&str, &str, u32); 4] = [
-    ("d", "f", 2),
-    ("e", "f", 2),
-    ("d", "g", 17),
-    ("e", "g", 17),
-];
-
-#[test]
-fn stores_of_two_disks(rt: HostRuntime) -> Result<(), Fail> {
-    let mut setting = setting_of(rt.alloc())?;
-    setting.disks.push(Text::of(rt.alloc(), "e")?)?;
-    let stores = stores_of(rt.alloc(), setting)?;
-    assert_eq!(rt; stores.files.as_slice().len(), 4);
-    for (at, (disk, file, pages)) in STORES.iter().enumerate() {
-        assert_eq!(rt; disk_of(&stores, at), *disk, "store {at}");
-        assert_eq!(rt; file_name(&stores, at), *file, "store {at}");
-        assert_eq!(rt; pages_of(&stores, at), *pages, "store {at}");
-    }
-    Ok(())
-}
-
-/// A stop with the stores that were lost, the status and the text, and how many bytes of the text a sink takes first.
+/// A stop with the stores that are lost, the status and the text, and how many bytes of it a sink has taken when it refuses
+/// the second piece.
 #[derive(Clone, Copy)]
 struct StopRow {
     stop: Stop,
-    gone: &'static [bool],
+    lost: &'static [StoreKey],
     status: Status,
     text: &'static [u8],
     first: usize,
 }
 
-const STOPS: [StopRow; 6] = [
+const STOPS: [StopRow; 5] = [
     StopRow {
-        stop: Stop::Bay { file: 1 },
-        gone: &[false],
+        stop: Stop::Bay { store: G },
+        lost: &[],
         status: Status::BayFault,
         text: b"bay d g\nstatus 5\n",
         first: 4,
     },
     StopRow {
-        stop: Stop::Bay { file: 1 },
-        gone: &[true],
+        stop: Stop::Bay { store: G },
+        lost: &[F],
         status: Status::BayFault,
         text: b"bay d g\nbay d f\nstatus 5\n",
         first: 4,
     },
     StopRow {
         stop: Stop::Store {
-            file: 0,
+            store: F,
             count: 4_294_967_296,
         },
-        gone: &[true, true],
+        lost: &[F, G],
         status: Status::Faulted,
         text: b"store d 4294967296\nbay d f\nbay d g\nstatus 1\n",
         first: 6,
     },
     StopRow {
         stop: Stop::Image {
-            file: 1,
+            store: G,
             place: 1_028,
             why: ImageWhy::Twice,
         },
-        gone: &[true, false],
+        lost: &[],
         status: Status::BadImage,
-        text: b"image d g 1028 twice\nbay d f\nstatus 6\n",
-        first: 6,
-    },
-    StopRow {
-        stop: Stop::Image {
-            file: 0,
-            place: 0,
-            why: ImageWhy::Magic,
-        },
-        gone: &[],
-        status: Status::BadImage,
-        text: b"image d f 0 magic\nstatus 6\n",
+        text: b"image d g 1028 twice\nstatus 6\n",
         first: 6,
     },
     StopRow {
         stop: Stop::Memory,
-        gone: &[false, true],
+        lost: &[G],
         status: Status::Memory,
         text: b"bay d g\nstatus 8\n",
         first: 4,
     },
 ];
 
-/// Whether a stop is written as its row says, also where the sink refuses the second piece.
-fn stops_as(alloc: Global, setting: &Setting, row: &StopRow) -> Result<bool, AllocError> {
+/// Whether a stop is written as its row says, also if the sink refuses the second piece.
+fn stops_as(alloc: Global, mount: &Mounted, row: &StopRow) -> Result<bool, AllocError> {
     let mut sink = MemSink::new(alloc, 7, &[])?;
     let mut refusing = MemSink::new(alloc, 7, &[2])?;
-    let status = stopped(&mut sink, setting, row.stop, row.gone);
-    let refused = stopped(&mut refusing, setting, row.stop, row.gone);
+    let status = stopped(&mut sink, mount, row.stop, row.lost);
+    let refused = stopped(&mut refusing, mount, row.stop, row.lost);
     Ok(
         status == row.status
             && sink.bytes() == row.text
@@ -305,38 +258,37 @@ fn stops_as(alloc: Global, setting: &Setting, row: &StopRow) -> Result<bool, All
 
 #[test]
 fn stops(rt: HostRuntime) -> Result<(), Fail> {
-    let setting = setting_of(rt.alloc())?;
+    let mount = mounted(rt.alloc(), ONE_DISK)?;
     for (number, row) in STOPS.iter().enumerate() {
-        assert!(rt; stops_as(rt.alloc(), &setting, row)?, "row {number}");
+        assert!(rt; stops_as(rt.alloc(), &mount, row)?, "row {number}");
     }
     Ok(())
 }
 
 #[test]
-fn pieces(rt: HostRuntime) -> Result<(), Fail> {
-    let setting = setting_of(rt.alloc())?;
-    let mut sink = MemSink::new(rt.alloc(), 2, &[])?;
-    assert_eq!(rt; write_all(&mut sink, b"abc").is_ok(), true);
-    assert_eq!(rt;
-        write_pieces(&mut sink, &[b"", b"de", b"f\n"]).is_ok(),
-        true
-    );
-    assert_eq!(rt;
-        write_lost(&mut sink, &setting, &[false, true]).is_ok(),
-        true
-    );
-    assert_eq!(rt;
-        finish(&mut sink, &[MEMORY], Status::Memory),
-        Status::Memory
-    );
-    assert_eq!(rt; sink.bytes(), b"abcdef\nbay d g\nstatus 8\n".as_slice());
-    let room = Vec::with_capacity(rt.alloc(), 4)?;
-    let lost = list_losses(2, &[true, false, true, true], room);
-    let want = [
-        LostStore { file: 0, disk: 0 },
-        LostStore { file: 2, disk: 0 },
-        LostStore { file: 3, disk: 1 },
+fn refusals_of_a_disk(rt: HostRuntime) -> Result<(), Fail> {
+    let bad = BadImage {
+        place: 3,
+        why: ImageWhy::Magic,
+    };
+    let fault = StoreFault { disk: 0, count: 7 };
+    let rows = [
+        (
+            OpenWhy::BadImage { bad },
+            Stop::Image {
+                store: G,
+                place: 3,
+                why: ImageWhy::Magic,
+            },
+        ),
+        (
+            OpenWhy::StoreFault { fault },
+            Stop::Store { store: G, count: 7 },
+        ),
+        (OpenWhy::Memory, Stop::Memory),
     ];
-    assert_eq!(rt; lost.as_slice(), want.as_slice());
+    for (why, want) in rows {
+        assert_eq!(rt; Stop::refused(G, why), want);
+    }
     Ok(())
 }

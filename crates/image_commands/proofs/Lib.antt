@@ -1,5 +1,4 @@
-pub mod ToldLaws
 pub mod FreshLaws
-pub mod TurnLaws
-pub mod PageLaws
-pub mod DumpLaws
+pub mod LineLaws
+pub mod SaysLaws
+pub mod ReadLaws

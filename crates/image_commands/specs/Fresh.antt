@@ -1,68 +1,75 @@
 -- Stores on which a fresh image is written.
-use Rattle.std.specs.Prelude.{◌≡◌, ℕ, ◌<◌, ◌≤◌, List, length, replicate, Option, Some, None, IfSome}
-use Rattle.run_defs.specs.declared.setting.Setting.{Setting}
-use Rattle.spr_io.specs.Content.{Content, flushed}
+use Rattle.std.specs.Prelude.{◌≡◌, ℕ, ◌<◌, ◌≤◌, List, replicate, slice_get, Option, Some, None, IfSome}
+use Rattle.stack_accept.specs.Mount.{Mount}
+use Rattle.run_defs.specs.declared.store.StoreKey.{StoreKey}
+use Rattle.spr_io.specs.Content.{flushed}
 use Rattle.disk_format.specs.declared.shape.ImageShape.{ImageShape}
 use Rattle.disk_format.specs.Shape.{first_data}
 use Rattle.disk_format.specs.Image.{Imaged, image}
 use Rattle.disk_layer.specs.Disk.{formatted}
 use Rattle.file_stores.specs.declared.stop.Stop.{Stop}
 use Rattle.file_stores.specs.declared.stop.Stop.TheVariants as stops
-use Rattle.file_stores.specs.Berths.{image_shape}
-use Rattle.file_stores.specs.Held.{StoreSeen, IsSame}
-use Rattle.image_commands.specs.Turned.{Pairs}
+use Rattle.file_stores.specs.Keys.{image_shape}
+use Rattle.file_stores.specs.State.{StoreState}
+use Rattle.file_stores.specs.Held.{StoreSeen, keys_of, BecameOne, Became}
 
 -- the first image of a file: generation 1, and pages of zeros
 abbrev pub fresh_image : ImageShape → Imaged
 fresh_image shape = record { generation = 1; pages = replicate shape.pages (replicate shape.page_size 0) }
 
--- a fresh image was written on a store of this content, and flushed: what the store keeps is that image
-pub record IsFresh (shape : ImageShape) (content left : Option Content) : Type 0 where
-  pub written : left ≡ flushed (formatted shape (first_data shape) content)
-  pub kept : IfSome left (λ c. image shape c.kept ≡ Some (fresh_image shape))
+-- a fresh image was written on a store, and flushed: what the store keeps is that image. The store had no fault.
+pub record IsFresh (shape : ImageShape) (old new : StoreState) : Type 0 where
+  pub written : new.content ≡ flushed (formatted shape (first_data shape) old.content)
+  pub kept : IfSome new.content (λ c. image shape c.kept ≡ Some (fresh_image shape))
+  pub calm : new.faults ≡ old.faults
 
--- the first so many blocks of a fresh image were written on a store of this content, and nothing was flushed
-pub record IsBegun (shape : ImageShape) (content left : Option Content) : Type 0 where
+-- the first blocks of a fresh image, this many, were written on a store, and nothing was flushed
+pub record IsBegun (shape : ImageShape) (old new : StoreState) : Type 0 where
   pub many : ℕ
   pub within : many ≤ first_data shape
-  pub written : left ≡ formatted shape many content
+  pub written : new.content ≡ formatted shape many old.content
 
--- a store was formatted
-pub record BecameFresh (shape : ImageShape) (old new : StoreSeen) : Type 0 where
-  pub fresh : IsFresh shape old.content new.content
-  pub later : old.faults ≤ new.faults
+-- a store failed while it was formatted, and this is its count then
+pub record FailedAt (count : ℕ) (old new : StoreState) : Type 0 where
+  pub above : old.faults < count
+  pub is : new.faults ≡ count
 
--- a store was not formatted whole
-pub record BecameBegun (shape : ImageShape) (old new : StoreSeen) : Type 0 where
-  pub begun : IsBegun shape old.content new.content
-  pub later : old.faults ≤ new.faults
+-- a store had no fault
+abbrev pub IsCalm : StoreState → StoreState → Type 0
+IsCalm old new = new.faults ≡ old.faults
 
--- why the store of a file was not formatted: it failed, and this is its count then; or memory lacked
-abbrev pub IsBreak : ℕ → StoreSeen → StoreSeen → Stop → Type 0
-IsBreak file old new (stops.Store at count) = (at ≡ file) × (count ≡ new.faults) × (old.faults < count)
-IsBreak file old new stops.Memory = Unit {0}
-IsBreak file old new (stops.Bay at) = ⊥
-IsBreak file old new (stops.Image at place why) = ⊥
+-- a store was not formatted whole, by this cause
+abbrev pub IsHalf : ImageShape → (StoreState → StoreState → Type 0) → StoreState → StoreState → Type 0
+IsHalf shape Cause old new = IsBegun shape old new × Cause old new
 
--- what became of a store where one could not be formatted: those before it were, and those after it are as they were
-pub record Part (setting : Setting) (broken : ℕ) (stop : Stop) (at : ℕ) (old new : StoreSeen) : Type 0 where
-  pub before : at < broken → BecameFresh (image_shape setting at) old new
-  pub here : at ≡ broken → BecameBegun (image_shape setting at) old new × IsBreak at old new stop
-  pub after : broken < at → IsSame old new
+-- why a store was not formatted: it failed, or memory ran out
+abbrev pub IsBreak : ImageShape → StoreSeen → StoreSeen → Stop → Type 0
+IsBreak shape old new (stops.Store key count) = (key ≡ old.key) × BecameOne old.state new.state (IsHalf shape (FailedAt count))
+IsBreak shape old new stops.Memory = BecameOne old.state new.state (IsHalf shape IsCalm)
+IsBreak shape old new stop = ⊥
+
+-- what becomes of stores of which the one of this number could not be formatted: those before it were, and those after it come
+-- back as they were taken
+pub record Part (mount : Mount) (number : ℕ) (Cause : StoreState → StoreState → Type 0) (at : ℕ) (key : StoreKey) (old new : StoreState) : Type 0 where
+  pub before : at < number → IsFresh (image_shape mount key) old new
+  pub here : at ≡ number → IsHalf (image_shape mount key) Cause old new
+  pub after : number < at → new ≡ old
 
 -- one of the stores could not be formatted
-pub record Breaks (setting : Setting) (olds news : List StoreSeen) (stop : Stop) : Type 0 where
-  pub broken : ℕ
-  pub within : broken < length olds
-  pub parts : Pairs (Part setting broken stop) olds news
+pub record Breaks (mount : Mount) (olds news : List StoreSeen) (key : StoreKey) (Cause : StoreState → StoreState → Type 0) : Type 0 where
+  pub number : ℕ
+  pub is : slice_get (keys_of olds) number ≡ Some key
+  pub parts : Became olds news (Part mount number Cause)
 
 -- each of the stores was formatted, or one could not be
-abbrev pub Went : Setting → List StoreSeen → List StoreSeen → Option Stop → Type 0
-Went setting olds news None = Pairs (λ at old new. BecameFresh (image_shape setting at) old new) olds news
-Went setting olds news (Some stop) = Breaks setting olds news stop
+abbrev pub Went : Mount → List StoreSeen → List StoreSeen → Option Stop → Type 0
+Went mount olds news None = Became olds news (λ at key. IsFresh (image_shape mount key))
+Went mount olds news (Some (stops.Store key count)) = Breaks mount olds news key (FailedAt count)
+Went mount olds news (Some stops.Memory) = (key : StoreKey) × Breaks mount olds news key IsCalm
+Went mount olds news (Some stop) = ⊥
 
 -- what becomes of the next store: it is formatted, unless one before it could not be
-abbrev pub GoesOn : Setting → ℕ → Option Stop → StoreSeen → StoreSeen → Option Stop → Type 0
-GoesOn setting file (Some stop) old new after = IsSame old new × (after ≡ Some stop)
-GoesOn setting file None old new None = BecameFresh (image_shape setting file) old new
-GoesOn setting file None old new (Some stop) = BecameBegun (image_shape setting file) old new × IsBreak file old new stop
+abbrev pub GoesOn : Mount → Option Stop → StoreSeen → StoreSeen → Option Stop → Type 0
+GoesOn mount (Some stop) old new after = (new.state ≡ old.state) × (after ≡ Some stop)
+GoesOn mount None old new None = BecameOne old.state new.state (IsFresh (image_shape mount old.key))
+GoesOn mount None old new (Some stop) = IsBreak (image_shape mount old.key) old new stop

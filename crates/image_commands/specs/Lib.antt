@@ -1,7 +1,5 @@
-pub mod Why
-pub mod Turned
 pub mod Fresh
 pub mod Pages
 pub mod Told
-pub mod Formats
-pub mod Dumps
+pub mod Says
+pub mod Read

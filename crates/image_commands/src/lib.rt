@@ -6,11 +6,9 @@ mod formatting;
 mod fresh;
 mod pages;
 mod told;
-mod why;
 
 pub use dumping::dump_file;
 pub use formatting::format_files;
-pub use why::stop_of;
 
 #[cfg(test)]
 mod tests;

@@ -1,73 +1,33 @@
 //! The commands over stores in memory: what they write, and what their stores hold afterwards.
 
-ghost use Rattle.std.specs.Prelude.{◌≡◌, ◌<◌, ◌∷◌, [], IfOk, codes, length, true, false};
-ghost use Rattle.file_stores.specs.Stocked.{IsStocked};
+ghost use Rattle.std.specs.Prelude.{◌≤◌, IfOk, length};
 
 use super::*;
-use hist_plain::{Items, Text};
-use run_defs::{FileEntry, NodeEntry, Setting};
+use run_defs::StoreKey;
 use spr_io::{MemBay, MemSink, MemStore, Store};
 use spr_report::Status;
+use stack_accept::{Mounted, accept};
+use stack_text::{StackText, parse_stack};
 use std::alloc::{AllocError, Global};
 use std::test::Fail;
 
-fn file_of(alloc: Global, name: &str, pages: u32) -> Result<FileEntry, AllocError>
-    ensures { IfOk result (λ f. f ≡ record { name = name.now; pages = pages }) }
-{
-    let name = Text::of(alloc, name)?;
-    Ok(FileEntry { name, pages })
-}
-
-fn files_of(alloc: Global) -> Result<Items<FileEntry>, AllocError>
-    ensures { IfOk result (λ files. files ≡ record { name = codes "f"; pages = 2 } ∷ record { name = codes "g"; pages = 17 } ∷ []) }
-{
-    let first = file_of(alloc, "f", 2)?;
-    let second = file_of(alloc, "g", 17)?;
-    let mut files = Items::new(alloc);
-    files.push(first)?;
-    files.push(second)?;
-    Ok(files)
-}
-
-fn node_of(alloc: Global, name: &str, is_view: bool) -> Result<NodeEntry, AllocError>
-    ensures { IfOk result (λ node. node ≡ record { name = name.now; is_view = is_view }) }
-{
-    let name = Text::of(alloc, name)?;
-    Ok(NodeEntry { name, is_view })
-}
-
-fn nodes_of(alloc: Global) -> Result<Items<NodeEntry>, AllocError>
-    ensures { IfOk result (λ nodes. nodes ≡ record { name = codes "d"; is_view = false } ∷ record { name = codes "c"; is_view = true } ∷ []) }
-{
-    let ground = node_of(alloc, "d", false)?;
-    let layer = node_of(alloc, "c", true)?;
-    let mut nodes = Items::new(alloc);
-    nodes.push(ground)?;
-    nodes.push(layer)?;
-    Ok(nodes)
-}
-
-fn disks_of(alloc: Global) -> Result<Items<Text>, AllocError>
-    ensures { IfOk result (λ disks. disks ≡ codes "d" ∷ []) }
-{
-    let name = Text::of(alloc, "d")?;
-    let mut disks = Items::new(alloc);
-    disks.push(name)?;
-    Ok(disks)
-}
-
 /// The files `f` of 2 pages and `g` of 17, each of 64 bytes, on the disk `d`, and the layer `c`.
-fn setting_of(alloc: Global) -> Result<Setting, AllocError>
-    ensures stocked { IfOk result IsStocked }
-    ensures number { IfOk result (λ s. length s.files ≡ 2) }
+const STACK: &str = "page 64\nfile f 2\nfile g 17\ndisk d m\ncoherency c m d\n";
+
+fn stack_of(alloc: Global) -> Result<StackText, Fail>
+    ensures { IfOk result (λ stack. length stack.lines ≤ 128) }
 {
-    Ok(Setting {
-        page_size: 64,
-        parents: Items::from_vec(Vec::from_array(alloc, [0, 0])?),
-        files: files_of(alloc)?,
-        nodes: nodes_of(alloc)?,
-        disks: disks_of(alloc)?,
-    })
+    match parse_stack(alloc, STACK.as_bytes()) {
+        Ok(stack) => Ok(stack),
+        Err(_) => Err(Fail::from("the text")),
+    }
+}
+
+fn mounted(alloc: Global) -> Result<Mounted, Fail> {
+    match accept(alloc, &stack_of(alloc)?) {
+        Ok(mount) => Ok(mount),
+        Err(_) => Err(Fail::from("the stack")),
+    }
 }
 
 /// The header of an image of two pages of 64 bytes, of generation 1.
@@ -77,7 +37,7 @@ const HEADER: &[u8] =
 /// The entries of page 0 on the third block and of page 1, which is a hole.
 const MAP: &[u8] = b"\x00\x00\x00\x02\x00\x00\x00\x00";
 
-/// Begins a block of a store with some bytes, where it has as many blocks, and goes on with zeros.
+/// Begins a block of a store with some bytes, if it has the block, and goes on with zeros.
 fn put_block(store: &mut MemStore, block: u32, bytes: &[u8]) {
     let mut whole = [0u8; 64];
     if bytes.len() > 64 || block >= 4 || !store.has_shape(64, 4) {
@@ -125,22 +85,32 @@ fn is_told(told: &Told, status: Status, first: &[u8], last: &[u8]) -> bool {
 }
 
 /// What formatting the files writes, and its status.
-fn formatted(alloc: Global, setting: &Setting, bay: &mut MemBay) -> Result<Told, Fail>
-    requires { IsStocked setting.now }
-{
+fn formatted(alloc: Global, mount: &Mounted, bay: &mut MemBay) -> Result<Told, Fail> {
     let mut sink = MemSink::new(alloc, 4_096, &[])?;
-    let status = format_files(alloc, setting, bay, &mut sink);
+    let status = format_files(alloc, mount, bay, &mut sink);
+    Ok(Told { status, sink })
+}
+
+/// What printing the pages of a file writes to a sink of which these writes fail, and its status.
+fn dumped_to(
+    alloc: Global,
+    mount: &Mounted,
+    file: u32,
+    bay: &mut MemBay,
+    failing: &[u64],
+) -> Result<Told, Fail> {
+    if file as usize >= mount.files().len() || mount.disks().is_empty() {
+        return Err(Fail::from("the file"));
+    }
+    let store = StoreKey { file, disk: 0 };
+    let mut sink = MemSink::new(alloc, 4_096, failing)?;
+    let status = dump_file(alloc, mount, store, bay, &mut sink);
     Ok(Told { status, sink })
 }
 
 /// What printing the pages of a file writes, and its status.
-fn dumped(alloc: Global, setting: &Setting, file: usize, bay: &mut MemBay) -> Result<Told, Fail>
-    requires stocked { IsStocked setting.now }
-    requires file { file < length setting.now.files }
-{
-    let mut sink = MemSink::new(alloc, 4_096, &[])?;
-    let status = dump_file(alloc, setting, file, bay, &mut sink);
-    Ok(Told { status, sink })
+fn dumped(alloc: Global, mount: &Mounted, file: u32, bay: &mut MemBay) -> Result<Told, Fail> {
+    dumped_to(alloc, mount, file, bay, &[])
 }
 
 /// Whether the store of a file lies in a bay with so many blocks, and the first is kept as it is read.
@@ -164,14 +134,14 @@ const ZEROS_OF_G: &[u8] =
 
 #[test]
 fn fresh_images(rt: HostRuntime) -> Result<(), Fail> {
-    let setting = setting_of(rt.alloc())?;
+    let mount = mounted(rt.alloc())?;
     let mut bay = MemBay::new(rt.alloc(), &[], &[])?;
-    let told = formatted(rt.alloc(), &setting, &mut bay)?;
+    let told = formatted(rt.alloc(), &mount, &mut bay)?;
     assert!(rt; is_told(&told, Status::Good, b"", b"status 0\n"));
     assert!(rt; kept(&bay, "f", 4) && kept(&bay, "g", 20));
-    let told = dumped(rt.alloc(), &setting, 0, &mut bay)?;
+    let told = dumped(rt.alloc(), &mount, 0, &mut bay)?;
     assert!(rt; is_told(&told, Status::Good, b"", ZEROS));
-    let told = dumped(rt.alloc(), &setting, 1, &mut bay)?;
+    let told = dumped(rt.alloc(), &mount, 1, &mut bay)?;
     assert!(rt; is_told(&told, Status::Good, b"", ZEROS_OF_G));
     Ok(())
 }
@@ -261,34 +231,31 @@ const FORMATS: [FormatRow; 9] = [
 ];
 
 /// Whether formatting the files goes as a row says.
-fn formats_as(alloc: Global, setting: &Setting, row: &FormatRow) -> Result<bool, Fail>
-    requires stocked { IsStocked setting.now }
-    requires files { length setting.now.files ≡ 2 }
-{
+fn formats_as(alloc: Global, mount: &Mounted, row: &FormatRow) -> Result<bool, Fail> {
     let store = MemStore::new(alloc, 64, 4, &[], &[row.write], &[row.flush])?;
     let mut bay = bay_of(alloc, row.take, row.give, store)?;
-    let told = formatted(alloc, setting, &mut bay)?;
-    let after = dumped(alloc, setting, 0, &mut bay)?;
+    let told = formatted(alloc, mount, &mut bay)?;
+    let after = dumped(alloc, mount, 0, &mut bay)?;
     Ok(is_told(&told, row.status, b"", row.text) && after.sink.bytes() == row.after)
 }
 
 #[test]
 fn formats_over_failures(rt: HostRuntime) -> Result<(), Fail> {
-    let setting = setting_of(rt.alloc())?;
+    let mount = mounted(rt.alloc())?;
     for (number, row) in FORMATS.iter().enumerate() {
-        assert!(rt; formats_as(rt.alloc(), &setting, row)?, "row {number}");
+        assert!(rt; formats_as(rt.alloc(), &mount, row)?, "row {number}");
     }
     Ok(())
 }
 
 #[test]
 fn a_failure_leaves_the_later_files(rt: HostRuntime) -> Result<(), Fail> {
-    let setting = setting_of(rt.alloc())?;
+    let mount = mounted(rt.alloc())?;
     let store = MemStore::new(rt.alloc(), 64, 4, &[], &[2], &[])?;
     let mut bay = bay_of(rt.alloc(), 0, 0, store)?;
-    let told = formatted(rt.alloc(), &setting, &mut bay)?;
+    let told = formatted(rt.alloc(), &mount, &mut bay)?;
     assert!(rt; is_told(&told, Status::Faulted, b"store d 1\n", b"status 1\n"));
-    let told = dumped(rt.alloc(), &setting, 1, &mut bay)?;
+    let told = dumped(rt.alloc(), &mount, 1, &mut bay)?;
     assert!(rt;
         is_told(
             &told,
@@ -355,34 +322,29 @@ const DUMPS: [DumpRow; 7] = [
 ];
 
 /// Whether printing the pages of `f` goes as a row says.
-fn dumps_as(alloc: Global, setting: &Setting, row: &DumpRow) -> Result<bool, Fail>
-    requires stocked { IsStocked setting.now }
-    requires files { length setting.now.files ≡ 2 }
-{
+fn dumps_as(alloc: Global, mount: &Mounted, row: &DumpRow) -> Result<bool, Fail> {
     let store = image_store(alloc, 24, 0, row.read)?;
     let mut bay = bay_of(alloc, row.take, row.give, store)?;
-    let told = dumped(alloc, setting, 0, &mut bay)?;
+    let told = dumped(alloc, mount, 0, &mut bay)?;
     Ok(is_told(&told, row.status, row.first, row.last))
 }
 
 #[test]
 fn dumps_over_failures(rt: HostRuntime) -> Result<(), Fail> {
-    let setting = setting_of(rt.alloc())?;
+    let mount = mounted(rt.alloc())?;
     for (number, row) in DUMPS.iter().enumerate() {
-        assert!(rt; dumps_as(rt.alloc(), &setting, row)?, "row {number}");
+        assert!(rt; dumps_as(rt.alloc(), &mount, row)?, "row {number}");
     }
     Ok(())
 }
 
 #[test]
 fn a_sink_that_fails(rt: HostRuntime) -> Result<(), Fail> {
-    let setting = setting_of(rt.alloc())?;
+    let mount = mounted(rt.alloc())?;
     let store = image_store(rt.alloc(), 24, 0, 0)?;
     let mut bay = bay_of(rt.alloc(), 0, 0, store)?;
-    let mut sink = MemSink::new(rt.alloc(), 4_096, &[2])?;
-    let status = dump_file(rt.alloc(), &setting, 0, &mut bay, &mut sink);
-    assert!(rt; status == Status::SinkFault);
-    assert!(rt; sink.bytes() == ABCD);
+    let told = dumped_to(rt.alloc(), &mount, 0, &mut bay, &[2])?;
+    assert!(rt; is_told(&told, Status::SinkFault, ABCD, b""));
     Ok(())
 }
 
@@ -403,22 +365,19 @@ fn printed_at(place: usize) -> (Status, &'static [u8], &'static [u8]) {
 }
 
 /// Whether what is printed of an image is right whose header has ff at a place.
-fn prints_at(alloc: Global, setting: &Setting, place: usize) -> Result<bool, Fail>
-    requires stocked { IsStocked setting.now }
-    requires files { length setting.now.files ≡ 2 }
-{
+fn prints_at(alloc: Global, mount: &Mounted, place: usize) -> Result<bool, Fail> {
     let store = image_store(alloc, place, 0xff, 0)?;
     let mut bay = bay_of(alloc, 0, 0, store)?;
-    let told = dumped(alloc, setting, 0, &mut bay)?;
+    let told = dumped(alloc, mount, 0, &mut bay)?;
     let (status, first, last) = printed_at(place);
     Ok(is_told(&told, status, first, last))
 }
 
 #[test]
 fn headers_with_another_byte(rt: HostRuntime) -> Result<(), Fail> {
-    let setting = setting_of(rt.alloc())?;
+    let mount = mounted(rt.alloc())?;
     for place in 0..24 {
-        assert!(rt; prints_at(rt.alloc(), &setting, place)?, "at {place}");
+        assert!(rt; prints_at(rt.alloc(), &mount, place)?, "at {place}");
     }
     Ok(())
 }

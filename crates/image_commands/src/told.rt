@@ -1,56 +1,32 @@
-//! How a command over the stores ends that did its work.
+//! How a store command that did its work ends.
 
 ghost use Rattle.std.specs.Prelude.{◌≡◌, ◌++◌};
-ghost use Rattle.file_stores.specs.Writing.{Writes, Finishes};
-ghost use Rattle.image_commands.specs.Told.{done_status, done_line, done_text};
+ghost use Rattle.spr_report.specs.Writing.{Finishes};
+ghost use Rattle.file_stores.specs.Stop.{lost_text};
+ghost use Rattle.image_commands.specs.Told.{done_status};
 
-use file_stores::{any_gone, write_all, write_lost};
-use run_defs::Setting;
+use file_stores::finish_lost;
+use run_defs::StoreKey;
 use spr_io::{Failed, Sink};
-use spr_report::Status;
+use spr_report::{Status, write_all};
+use stack_accept::Mounted;
 
-/// The status, by the stores that were lost.
-fn done_status(gone: &[bool]) -> Status
-    ensures { result ≡ done_status gone.now }
+/// The status, by the stores that are lost.
+fn done_status(lost: &[StoreKey]) -> Status
+    ensures { result ≡ done_status lost.now }
 {
-    if any_gone(gone) {
-        Status::BayFault
-    } else {
-        Status::Good
+    match lost {
+        [] => Status::Good,
+        _ => Status::BayFault,
     }
 }
 
-/// The line of the status, by the stores that were lost.
-fn done_line(gone: &[bool]) -> &'static [u8]
-    ensures { result.now ≡ done_line gone.now }
+/// Ends a command that did its work: writes its text, a line for each store that is lost, and the status.
+pub(crate) fn tell<K: Sink>(sink: &mut K, mount: &Mounted, text: &[u8], lost: &[StoreKey]) -> Status
+    ensures { Finishes (K.told sink.old) (K.told sink.new) (text.now ++ lost_text mount.now lost.now) (done_status lost.now) result }
 {
-    if any_gone(gone) {
-        b"status 5\n"
-    } else {
-        b"status 0\n"
+    match write_all(sink, text) {
+        Ok(()) => finish_lost(sink, mount, lost, done_status(lost)),
+        Err(Failed) => Status::SinkFault,
     }
-}
-
-/// Writes a text, a line for each store that was lost, and the status.
-fn write_told<K: Sink>(
-    sink: &mut K,
-    setting: &Setting,
-    text: &[u8],
-    gone: &[bool],
-) -> Result<(), Failed>
-    ensures { Writes (K.written sink.old) (K.written sink.new) (K.faults sink.old) (K.faults sink.new) (text.now ++ done_text setting.now gone.now) result }
-{
-    write_all(sink, text)?;
-    write_lost(sink, setting, gone)?;
-    write_all(sink, done_line(gone))
-}
-
-/// Ends a command that did its work: writes its text, a line for each store that was lost, and the status.
-pub(crate) fn tell<K: Sink>(sink: &mut K, setting: &Setting, text: &[u8], gone: &[bool]) -> Status
-    ensures { Finishes (K.written sink.old) (K.written sink.new) (K.faults sink.old) (K.faults sink.new) (text.now ++ done_text setting.now gone.now) (done_status gone.now) result }
-{
-    let Ok(()) = write_told(sink, setting, text, gone) else {
-        return Status::SinkFault;
-    };
-    done_status(gone)
 }

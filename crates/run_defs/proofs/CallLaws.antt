@@ -1,5 +1,5 @@
 -- What a call at a file is for the one who called, and for others.
-use Rattle.std.proofs.Common.{◌≡◌, ◌≢◌, ℕ, suc, ◌+◌, ◌≤◌, ◌==◌, Bool, true, false, cond, List, [], ◌∷◌, ◌++◌, length, map, take, get_or, Option, Some, None, Result, Ok, Err, refl, sym, ap, subst, ◌∙◌, ◌<◌, arith}
+use Rattle.std.proofs.Common.{◌≡◌, ◌≢◌, ℕ, suc, ◌+◌, ◌≤◌, ◌==◌, true, false, cond, List, [], ◌∷◌, ◌++◌, length, map, take, get_or, Some, None, Result, Ok, Err, refl, sym, ap, subst, ◌∙◌, ◌<◌, arith}
 use Rattle.std.proofs.lemmas.List.{append-nil, take_more}
 use Rattle.std.proofs.lemmas.Bool.Decides.{nat_tests}
 use Rattle.std.specs.List.{AllByRecursion}
@@ -10,7 +10,8 @@ use Rattle.hist_plain.specs.declared.event.Event.TheVariants as events
 use Rattle.hist_plain.specs.File.{Shape, File}
 use Rattle.hist_plain.specs.Event.{caller_of}
 use Rattle.hist_plain.specs.Plain.{Told, applied, reply}
-use Rattle.hist_plain.specs.History.{Entry, is_by, replay}
+use Rattle.hist_plain.specs.History.{Entry}
+use Rattle.hist_plain.specs.declared.TheConstants.{MAX_EVENTS}
 use Rattle.script_text.specs.declared.script.CallLine.{CallLine}
 use Rattle.script_text.specs.declared.script.Said.{Said}
 use Rattle.script_text.specs.declared.script.Reply.{Reply}
@@ -19,16 +20,16 @@ use Rattle.run_defs.specs.declared.log.Logged.TheVariants.{Entered, Noted}
 use Rattle.run_defs.specs.declared.call.Answered.{Answered}
 use Rattle.run_defs.specs.declared.call.CallErr.{CallErr}
 use Rattle.run_defs.specs.declared.call.CallErr.TheVariants.{StoreFault, TrailFull, Memory}
-use Rattle.run_defs.specs.declared.object.OpenObject.{OpenObject}
-use Rattle.run_defs.specs.declared.setting.Setting.{Setting}
-use Rattle.run_defs.specs.Setting.{shape_of}
+use Rattle.stack_accept.specs.Mount.{Mount}
+use Rattle.run_defs.specs.declared.client.ClientState.{ClientState}
+use Rattle.run_defs.specs.Stack.{shape_of}
 use Rattle.run_defs.specs.declared.log.History.{History}
-use Rattle.run_defs.specs.Log.{Item, entered, noted, more, events_of, items, items_from, first_file, by_caller, file_of, place_of, history_at, IsFull}
+use Rattle.run_defs.specs.Log.{Item, entered, noted, more, items, items_from, by_caller, file_of, place_of, history_at, IsFull}
 use Rattle.run_defs.specs.Plan.{Plan, ends, calls, Request, Ask, access, sync, Asks, Made, Goes, plan}
 use Rattle.run_defs.specs.Fits.{made_on, SyncsFrom, SyncsInOrder, GoesOn, Did, Went, Worked}
-use Rattle.run_defs.specs.Calls.{IsCall, Answers, Ends, Called, CalledAt, refusal_of}
-use Rattle.run_defs.proofs.Logs.{by_caller-more, more-more, more-nil, events_of-entered}
-use Rattle.run_defs.proofs.Parts.{goes_on_same, goes_on_then, did_nothing, went_none, went_call, went_fault, went_refused, worked_more}
+use Rattle.run_defs.specs.Calls.{SyncsAt, CalledAt, refusal_of}
+use Rattle.run_defs.proofs.Logs.{by_caller-more, more-more, more-nil}
+use Rattle.run_defs.proofs.Parts.{goes_on_same, did_nothing, went_call, went_fault, went_refused, worked_more}
 
 same : (c : ℕ) → (c == c) ≡ true
 same c = grind (arith, nat_tests)
@@ -87,6 +88,11 @@ called_by shape m c request old new out r is called last syncs =
     ∙ (ap (λ (l : List Item). l ++ by_caller c (items_from shape (file_of shape b) (place_of b) called.here.last)) quiet ∙ ap (λ (l : List Item). by_caller c (items shape h) ++ l) last)))
     syncs
 
+-- a Synced that is from just this place is not from before it
+synced_from : (began : ℕ) (e : Event) → SyncsAt began e → SyncsFrom began e
+synced_from began (events.Synced caller number node from keep) is = omega arith
+synced_from began e is = tt
+
 asks_by : (c : ℕ) (ask : Ask) (e : Event) → Asks c ask e → caller_of e ≡ Some c
 asks_by c (access node life op) (events.Access by number at of wanted) h = ap Some h.0
 asks_by c (sync node keep) (events.Synced by number at from kept) h = ap Some h.0
@@ -108,37 +114,38 @@ no_item : (shape : Shape) (c : ℕ) (file : File) (place : ℕ) (last : List Log
 no_item shape c file place last is = rw is refl
 
 -- a call that was answered, and ended the line
-pub line_end : (shape : Shape) (c : ℕ) (kept : List OpenObject) (p : Plan) (request : Request) (objects : List OpenObject) (go_on : Told → Plan) (old new : List History) (out : List ℕ) (a : Answered) (said : Reply) (left : List OpenObject)
-    → p ≡ calls request objects go_on → (called : CalledAt shape c request old new out (Ok a)) → go_on called.here.ends.told ≡ ends said left → Went shape c kept p old new said left
-line_end shape c kept p request objects go_on old new out a said left is called end =
+pub line_end : (shape : Shape) (c : ℕ) (kept : ClientState) (p : Plan) (request : Request) (state : ClientState) (go_on : Told → Plan) (old new : List History) (out : List ℕ) (a : Answered) (said : Reply) (left : ClientState)
+    → p ≡ calls request state go_on → (called : CalledAt shape c request old new out (Ok a)) → go_on called.here.ends.told ≡ ends said left → Went shape c kept p old new said left
+line_end shape c kept p request state go_on old new out a said left is called end =
     let ans = called.here.ends in
     let b : History = more (history_at old request.file) (map Entered called.here.messages) in
     let e : Entry = record { place = place_of b; event = ans.event; told = reply shape (file_of shape b) ans.event } in
     let did : Did shape c old new (record { file = request.file; item = entered e } ∷ []) =
     called_by shape c c request old new out (Ok a) (entered e ∷ []) called
-    (entered_item shape c (file_of shape b) (place_of b) ans.event called.here.last ans.last_is (asks_by c request.ask ans.event ans.call.asks)) (ans.call.from, tt) in
-    went_call shape c kept p request objects go_on old new new e ans.told [] said left is did ans.call.asks ans.told_is (did_nothing shape c new new refl)
+    (entered_item shape c (file_of shape b) (place_of b) ans.event called.here.last ans.last_is (asks_by c request.ask ans.event ans.call.asks))
+    (synced_from (place_of (history_at old request.file)) ans.event ans.call.from, tt) in
+    went_call shape c kept p request state go_on old new new e ans.told [] said left is did ans.call.asks ans.told_is (did_nothing shape c new new refl)
     (subst (λ (q : Plan). Goes (IsFull new) c q [] said left) (sym end) (refl, refl))
 
 -- a call that was refused ends the line
-pub line_err : (shape : Shape) (c : ℕ) (kept : List OpenObject) (p : Plan) (request : Request) (objects : List OpenObject) (go_on : Told → Plan) (old new : List History) (out : List ℕ) (err : CallErr)
-    → p ≡ calls request objects go_on → CalledAt shape c request old new out (Err err) → Went shape c kept p old new (refusal_of err) objects
-line_err shape c kept p request objects go_on old new out (StoreFault disk count) is called =
+pub line_err : (shape : Shape) (c : ℕ) (kept : ClientState) (p : Plan) (request : Request) (state : ClientState) (go_on : Told → Plan) (old new : List History) (out : List ℕ) (err : CallErr)
+    → p ≡ calls request state go_on → CalledAt shape c request old new out (Err err) → Went shape c kept p old new (refusal_of err) state
+line_err shape c kept p request state go_on old new out (StoreFault disk count) is called =
     let b : History = more (history_at old request.file) (map Entered called.here.messages) in
-    went_fault shape c kept p request objects go_on old new disk count is
+    went_fault shape c kept p request state go_on old new disk count is
     (called_by shape c c request old new out (Err (StoreFault disk count)) (noted c disk count ∷ []) called
     (noted_item shape c c disk count (file_of shape b) (place_of b) called.here.last called.here.ends ∙ rw (same c) refl) tt)
-line_err shape c kept p request objects go_on old new out TrailFull is called =
+line_err shape c kept p request state go_on old new out TrailFull is called =
     let b : History = more (history_at old request.file) (map Entered called.here.messages) in
     let whole : history_at new request.file ≡ b =
     called.here.log ∙ (sym (more-more (history_at old request.file) (map Entered called.here.messages) called.here.last) ∙ more-nil b called.here.last called.here.ends.0) in
-    let full : IsFull new request.file = subst (λ (h : History). 4194304 ≤ place_of h) (sym whole) called.here.ends.1 in
-    went_refused shape c kept p request objects go_on old new (refusal_of TrailFull) is
+    let full : IsFull new request.file = subst (λ (h : History). MAX_EVENTS ≤ place_of h) (sym whole) called.here.ends.1 in
+    went_refused shape c kept p request state go_on old new (refusal_of TrailFull) is
     (called_by shape c c request old new out (Err TrailFull) [] called (no_item shape c (file_of shape b) (place_of b) called.here.last called.here.ends.0) tt) full
-line_err shape c kept p request objects go_on old new out Memory is called =
+line_err shape c kept p request state go_on old new out Memory is called =
     let b : History = more (history_at old request.file) (map Entered called.here.messages) in
-    went_refused shape c kept p request objects go_on old new (refusal_of Memory) is
-    (called_by shape c c request old new out (Err Memory) [] called (no_item shape c (file_of shape b) (place_of b) called.here.last called.here.ends) tt) tt
+    went_refused shape c kept p request state go_on old new (refusal_of Memory) is
+    (called_by shape c c request old new out (Err Memory) [] called (no_item shape c (file_of shape b) (place_of b) called.here.last called.here.ends.0) tt) tt
 
 -- a call of one caller is nothing for another
 pub called_other : (shape : Shape) (m c : ℕ) (request : Request) (old new : List History) (out : List ℕ) (r : Result Answered CallErr) → c ≢ m → CalledAt shape m request old new out r → Did shape c old new []
@@ -156,11 +163,11 @@ called_other shape m c request old new out (Err TrailFull) n called =
     called_by shape m c request old new out (Err TrailFull) [] called (no_item shape c (file_of shape b) (place_of b) called.here.last called.here.ends.0) tt
 called_other shape m c request old new out (Err Memory) n called =
     let b : History = more (history_at old request.file) (map Entered called.here.messages) in
-    called_by shape m c request old new out (Err Memory) [] called (no_item shape c (file_of shape b) (place_of b) called.here.last called.here.ends) tt
+    called_by shape m c request old new out (Err Memory) [] called (no_item shape c (file_of shape b) (place_of b) called.here.last called.here.ends.0) tt
 
 -- one more line of a list, by its index
-pub line_step : (setting : Setting) (c : ℕ) (objects : List OpenObject) (lines : List CallLine) (i : ℕ) (old mid new : List History) (said said' : List Said) (kept : List OpenObject) (reply : Reply) (left : List OpenObject) (d : CallLine)
-    → Worked setting c objects (take i lines) old mid said kept → Went (shape_of setting) c kept (plan setting kept (get_or lines i d).call) mid new reply left → i < length lines
-    → said' ≡ said ++ record { line = (get_or lines i d).line; reply = reply } ∷ [] → Worked setting c objects (take (i + 1) lines) old new said' left
-line_step setting c objects lines i old mid new said said' kept reply left d worked went lt is =
-    rw (take_more lines i d lt, is) (worked_more setting c objects (take i lines) old mid new said kept (get_or lines i d) reply left worked went)
+pub line_step : (mount : Mount) (c : ℕ) (state : ClientState) (lines : List CallLine) (i : ℕ) (old mid new : List History) (said said' : List Said) (kept : ClientState) (reply : Reply) (left : ClientState) (d : CallLine)
+    → Worked mount c state (take i lines) old mid said kept → Went (shape_of mount) c kept (plan mount kept (get_or lines i d).call) mid new reply left → i < length lines
+    → said' ≡ said ++ record { line = (get_or lines i d).line; reply = reply } ∷ [] → Worked mount c state (take (i + 1) lines) old new said' left
+line_step mount c state lines i old mid new said said' kept reply left d worked went lt is =
+    rw (take_more lines i d lt, is) (worked_more mount c state (take i lines) old mid new said kept (get_or lines i d) reply left worked went)

@@ -1,16 +1,16 @@
 -- Histories that stay legal.
-use Rattle.std.proofs.Common.{◌≡◌, ℕ, suc, ◌+◌, ◌*◌, ◌≤◌, ◌<◌, List, [], ◌∷◌, ◌++◌, length, refl, sym, ap, subst, ◌∙◌, arith, length-append}
+use Rattle.std.proofs.Common.{◌≡◌, ℕ, ◌+◌, ◌*◌, ◌<◌, List, [], ◌∷◌, ◌++◌, length, sym, ap, subst, ◌∙◌, arith, length-append}
 use Rattle.std.proofs.lemmas.List.{append-nil}
 use Rattle.hist_plain.specs.declared.event.Event.{Event}
-use Rattle.hist_plain.specs.File.{Shape, File}
+use Rattle.hist_plain.specs.File.{Shape}
 use Rattle.hist_plain.specs.Plain.{Suits, applied}
 use Rattle.hist_plain.specs.History.{AllSuit, replay}
+use Rattle.hist_plain.specs.declared.TheConstants.{MAX_EVENTS}
 use Rattle.hist_plain.proofs.Replay.{length-replay, AllSuit-append, replay-append}
-use Rattle.run_defs.specs.declared.log.Logged.{Logged}
 use Rattle.run_defs.specs.declared.log.Logged.TheVariants.{Entered, Noted}
 use Rattle.run_defs.specs.declared.log.Note.{Note}
 use Rattle.run_defs.specs.declared.log.History.{History}
-use Rattle.run_defs.specs.Log.{more, events_of, first_file, file_of, place_of, trail_of, IsHistory}
+use Rattle.run_defs.specs.Log.{more, first_file, file_of, place_of, trail_of, IsHistory}
 use Rattle.run_defs.proofs.Logs.{events_of-append}
 
 -- no event changes the length of the file
@@ -36,7 +36,7 @@ place_of-entered h event = ap length (trail_of-entered h event) ∙ length-appen
 pub place_of-noted : (h : History) (note : Note) → place_of (more h (Noted note ∷ [])) ≡ place_of h
 place_of-noted h note = ap length (trail_of-noted h note)
 
-pub history-entered : (shape : Shape) (pages : ℕ) (h : History) (event : Event) → IsHistory shape pages h → Suits shape (file_of shape h) event → place_of h < 4194304 → IsHistory shape pages (more h (Entered event ∷ []))
+pub history-entered : (shape : Shape) (pages : ℕ) (h : History) (event : Event) → IsHistory shape pages h → Suits shape (file_of shape h) event → place_of h < MAX_EVENTS → IsHistory shape pages (more h (Entered event ∷ []))
 history-entered shape pages h event legal suits few = record {
   size = legal.size;
   suit = subst (AllSuit shape (first_file shape h)) (sym (trail_of-entered h event)) (AllSuit-append shape (first_file shape h) (trail_of h) (event ∷ []) legal.suit (suits, tt));

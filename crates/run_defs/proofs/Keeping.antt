@@ -1,16 +1,14 @@
 -- What stays of what a store holds while the history goes on.
-use Rattle.std.proofs.Common.{◌≡◌, ◌≢◌, ℕ, suc, ◌+◌, ◌*◌, ◌<◌, ◌≤◌, ◌==◌, Bool, true, false, cond, List, [], ◌∷◌, ◌++◌, length, take, drop, Option, Some, None, refl, sym, ap, subst, ◌∙◌, arith, length-append}
+use Rattle.std.proofs.Common.{◌≡◌, ℕ, ◌<◌, ◌≤◌, ◌==◌, Bool, true, false, cond, List, [], ◌∷◌, ◌++◌, length, Some, None, refl, sym, ap, ◌∙◌, arith, length-append}
 use Rattle.std.specs.Prelude.{slice_get}
 use Rattle.std.proofs.lemmas.List.{take-append-le, take_all}
 use Rattle.std.proofs.lemmas.List.Sums.{fold-append}
-use Rattle.std.proofs.lemmas.Bool.Decides.{nat_tests}
 use Rattle.hist_plain.specs.declared.event.Event.{Event}
 use Rattle.hist_plain.specs.File.{Shape, File}
 use Rattle.hist_plain.specs.History.{replay, page_in, page_at}
 use Rattle.run_defs.specs.declared.log.Logged.{Logged}
 use Rattle.run_defs.specs.declared.log.Logged.TheVariants.{Entered, Noted}
-use Rattle.run_defs.specs.declared.log.Note.{Note}
-use Rattle.run_defs.specs.Kept.{HoldsPage, Holds, ArePages, counts_of, Rises, from_after, last_from}
+use Rattle.run_defs.specs.Kept.{Holds, counts_of, Rises, from_after, last_from}
 
 -- a page at a place stays what it was
 pub page_at-later : (shape : Shape) (file : File) (trail more : List Event) (page place : ℕ) → place ≤ length trail → page_at shape file (trail ++ more) page place ≡ page_at shape file trail page place

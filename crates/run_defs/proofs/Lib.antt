@@ -4,3 +4,5 @@ pub mod CallLaws
 pub mod Numbers
 pub mod Histories
 pub mod Keeping
+pub mod NamesLaws
+pub mod Views

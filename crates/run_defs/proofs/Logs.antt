@@ -1,15 +1,16 @@
 -- A log in two parts.
-use Rattle.std.proofs.Common.{◌≡◌, ℕ, zero, suc, ◌+◌, ◌≤◌, List, [], ◌∷◌, ◌++◌, length, map, Option, Some, None, refl, sym, ap, subst, ◌∙◌, arith, append_assoc, length-append}
+use Rattle.std.proofs.Common.{◌≡◌, ℕ, suc, ◌+◌, List, [], ◌∷◌, ◌++◌, length, map, Option, Some, refl, ap, ◌∙◌, arith, append_assoc, length-append}
 use Rattle.std.proofs.lemmas.List.{append-nil}
 use Rattle.std.proofs.lemmas.List.Elements.{filter-append}
 use Rattle.hist_plain.specs.declared.event.Event.{Event}
 use Rattle.hist_plain.specs.File.{Shape, File}
-use Rattle.hist_plain.specs.Plain.{applied, reply, fresh}
-use Rattle.hist_plain.specs.History.{Entry, replay, is_by}
+use Rattle.hist_plain.specs.Event.{caller_of}
+use Rattle.hist_plain.specs.Plain.{applied, reply}
+use Rattle.hist_plain.specs.History.{replay, is_by}
 use Rattle.run_defs.specs.declared.log.Logged.{Logged}
 use Rattle.run_defs.specs.declared.log.Logged.TheVariants.{Entered, Noted}
 use Rattle.run_defs.specs.declared.log.History.{History}
-use Rattle.run_defs.specs.Log.{more, events_of, items_from, items, first_file, file_of, place_of, Item, entered, noted, who, by_caller}
+use Rattle.run_defs.specs.Log.{more, events_of, items_from, items, first_file, file_of, place_of, Item, entered, noted, who, by, by_caller}
 
 pub events_of-append : (xs ys : List Logged) → events_of (xs ++ ys) ≡ events_of xs ++ events_of ys
 events_of-append [] ys = refl
@@ -58,3 +59,12 @@ more-nil h xs e = ap (more h) e ∙ ap (λ (l : List Logged). let k : History = 
 pub log-is : (opening : List ℕ) (new old : List Logged) (last : Logged) → new ≡ old ++ last ∷ []
     → (let h : History = record { opening = opening; log = new } in h) ≡ more (record { opening = opening; log = old }) (last ∷ [])
 log-is opening new old last is = ap (λ (l : List Logged). let h : History = record { opening = opening; log = l } in h) is
+
+-- who did each thing that a log says is who made its entry
+pub who-items_from : (shape : Shape) (file : File) (place : ℕ) (log : List Logged) → map who (items_from shape file place log) ≡ map by log
+who-items_from shape file place [] = refl
+who-items_from shape file place (Entered event ∷ log) = ap (λ (l : List (Option ℕ)). caller_of event ∷ l) (who-items_from shape (applied shape file event) (suc place) log)
+who-items_from shape file place (Noted note ∷ log) = ap (λ (l : List (Option ℕ)). Some note.caller ∷ l) (who-items_from shape file place log)
+
+pub who-items : (shape : Shape) (h : History) → map who (items shape h) ≡ map by h.log
+who-items shape h = who-items_from shape (first_file shape h) 0 h.log

@@ -1,6 +1,8 @@
 -- How what a caller did is put together.
-use Rattle.std.proofs.Common.{◌≡◌, ℕ, zero, suc, ◌+◌, ◌≤◌, ◌<◌, ◌==◌, Bool, true, false, cond, List, [], ◌∷◌, ◌++◌, length, Option, Some, None, refl, sym, ap, subst, ◌∙◌, arith, append_assoc, filter, ◌⊎◌, inl, inr, ⊎_elim}
-use Rattle.std.proofs.lemmas.List.{append-nil}
+use Rattle.std.proofs.Common.{◌≡◌, ℕ, suc, ◌+◌, ◌≤◌, ◌<◌, ◌==◌, Bool, true, false, cond, List, [], ◌∷◌, ◌++◌, length, map, Some, refl, sym, ap, subst, ◌∙◌, arith, append_assoc, inl, inr, ⊎_elim}
+use Rattle.std.specs.List.{flat_map}
+use Rattle.std.proofs.lemmas.List.{append-nil, map-append}
+use Rattle.std.proofs.lemmas.Grind.{flat_map-append}
 use Rattle.hist_plain.specs.declared.event.Event.{Event}
 use Rattle.hist_plain.specs.declared.event.Event.TheVariants as events
 use Rattle.hist_plain.specs.File.{Shape, File}
@@ -12,13 +14,13 @@ use Rattle.script_text.specs.declared.script.Reply.{Reply}
 use Rattle.script_text.specs.declared.script.Reply.TheVariants as replies
 use Rattle.run_defs.specs.declared.log.Logged.{Logged}
 use Rattle.run_defs.specs.declared.log.Logged.TheVariants.{Entered, Noted}
-use Rattle.run_defs.specs.declared.object.OpenObject.{OpenObject}
-use Rattle.run_defs.specs.declared.setting.Setting.{Setting}
-use Rattle.run_defs.specs.Setting.{shape_of}
+use Rattle.stack_accept.specs.Mount.{Mount}
+use Rattle.run_defs.specs.declared.client.ClientState.{ClientState}
+use Rattle.run_defs.specs.Stack.{shape_of}
 use Rattle.run_defs.specs.declared.log.History.{History}
 use Rattle.run_defs.specs.Log.{events_of, items_from, items, first_file, Item, entered, noted, who, by_caller, place_of, history_at, IsFull}
 use Rattle.run_defs.specs.Plan.{Plan, ends, calls, unknown, Request, Ask, Made, Makes, Asks, Goes, Refuses, plan}
-use Rattle.run_defs.specs.Fits.{made_on, SyncsFrom, SyncsInOrder, GoesOn, Did, Went, Worked, Does, Line, Lacks, Acts, InOrder, last_cut, lines_of}
+use Rattle.run_defs.specs.Fits.{made_on, SyncsFrom, SyncsInOrder, GoesOn, Did, Went, Worked, Phased, Does, Line, Acts, InOrder, last_cut, lines_of, IsAnswered}
 use Rattle.run_defs.proofs.Logs.{length-events_of-append}
 
 pub goes_on_same : (h k : History) → k ≡ h → GoesOn h k
@@ -121,25 +123,25 @@ makes_later : (c : ℕ) (ask : Ask) (item : Item) (T T' : Told → Type 0) (E : 
 makes_later c ask (entered e) T T' E f h = (h.0, (h.1.0, h.1.1, f h.1.0 h.1.2))
 makes_later c ask (noted by disk count) T T' E f h = h
 
-pub goes_later : (F G : ℕ → Type 0) → ((file : ℕ) → F file → G file) → (c : ℕ) (p : Plan) (made : List Made) (said : Reply) (left : List OpenObject) → Goes F c p made said left → Goes G c p made said left
-goes_later F G f c (ends reply objects) [] said left h = h
-goes_later F G f c (ends reply objects) (m ∷ made) said left h = h
-goes_later F G f c (calls request objects go_on) [] said left h = (refuses_later (F request.file) (G request.file) said (f request.file) h.0, h.1)
-goes_later F G f c (calls request objects go_on) (m ∷ made) said left h =
+pub goes_later : (F G : ℕ → Type 0) → ((file : ℕ) → F file → G file) → (c : ℕ) (p : Plan) (made : List Made) (said : Reply) (left : ClientState) → Goes F c p made said left → Goes G c p made said left
+goes_later F G f c (ends reply state) [] said left h = h
+goes_later F G f c (ends reply state) (m ∷ made) said left h = h
+goes_later F G f c (calls request state go_on) [] said left h = (refuses_later (F request.file) (G request.file) said (f request.file) h.0, h.1)
+goes_later F G f c (calls request state go_on) (m ∷ made) said left h =
     (h.0, makes_later c request.ask m.item _ _ _ (λ t k. goes_later F G f c (go_on t) made said left k) h.1)
 goes_later F G f c unknown made said left h = h
 
-line_later : (F G : ℕ → Type 0) → ((file : ℕ) → F file → G file) → (c : ℕ) (kept : List OpenObject) (p : Plan) (made : List Made) (said : Reply) (left : List OpenObject) → Line F c kept p made said left → Line G c kept p made said left
+line_later : (F G : ℕ → Type 0) → ((file : ℕ) → F file → G file) → (c : ℕ) (kept : ClientState) (p : Plan) (made : List Made) (said : Reply) (left : ClientState) → Line F c kept p made said left → Line G c kept p made said left
 line_later F G f c kept p made said left h = ⊎_elim (λ goes. inl (goes_later F G f c p made said left goes)) (λ lacks. inr lacks) h
 
-does_later : (setting : Setting) (F G : ℕ → Type 0) → ((file : ℕ) → F file → G file) → (c : ℕ) (objects : List OpenObject) (lines : List CallLine) (made : List Made) (said : List Said) (left : List OpenObject) → Does setting F c objects lines made said left → Does setting G c objects lines made said left
-does_later setting F G f c objects [] made said left h = h
-does_later setting F G f c objects (line ∷ lines) made [] left h = h
-does_later setting F G f c objects (line ∷ lines) made (s ∷ said) left h =
-    (h.0, h.1, h.2, h.3, h.4, line_later F G f c objects (plan setting objects line.call) h.0 s.reply h.2 h.5, does_later setting F G f c h.2 lines h.1 said left h.6)
+does_later : (mount : Mount) (F G : ℕ → Type 0) → ((file : ℕ) → F file → G file) → (c : ℕ) (state : ClientState) (lines : List CallLine) (made : List Made) (said : List Said) (left : ClientState) → Does mount F c state lines made said left → Does mount G c state lines made said left
+does_later mount F G f c state [] made said left h = h
+does_later mount F G f c state (line ∷ lines) made [] left h = h
+does_later mount F G f c state (line ∷ lines) made (s ∷ said) left h =
+    (h.0, h.1, h.2, h.3, h.4, line_later F G f c state (plan mount state line.call) h.0 s.reply h.2 h.5, does_later mount F G f c h.2 lines h.1 said left h.6)
 
 -- a plan that makes no call
-pub went_none : (shape : Shape) (c : ℕ) (kept : List OpenObject) (p : Plan) (old : List History) (reply : Reply) (left : List OpenObject) → p ≡ ends reply left → Went shape c kept p old old reply left
+pub went_none : (shape : Shape) (c : ℕ) (kept : ClientState) (p : Plan) (old : List History) (reply : Reply) (left : ClientState) → p ≡ ends reply left → Went shape c kept p old old reply left
 went_none shape c kept p old reply left is = record {
   made = [];
   did = did_nothing shape c old old refl;
@@ -147,108 +149,136 @@ went_none shape c kept p old reply left is = record {
 }
 
 -- a line for which memory lacked
-pub went_lacks : (shape : Shape) (c : ℕ) (kept : List OpenObject) (p : Plan) (old : List History) → Went shape c kept p old old replies.Memory kept
+pub went_lacks : (shape : Shape) (c : ℕ) (kept : ClientState) (p : Plan) (old : List History) → Went shape c kept p old old replies.Memory kept
 went_lacks shape c kept p old = record { made = []; did = did_nothing shape c old old refl; goes = inr (record { nothing = refl; memory = refl; same = refl }) }
 
 -- a call that was answered, and what the plan does then
-pub went_call : (shape : Shape) (c : ℕ) (kept : List OpenObject) (p : Plan) (request : Request) (objects : List OpenObject) (go_on : Told → Plan) (old mid new : List History) (e : Entry) (told : Told) (rest : List Made) (reply : Reply) (left : List OpenObject)
-    → p ≡ calls request objects go_on → Did shape c old mid (record { file = request.file; item = entered e } ∷ []) → Asks c request.ask e.event → e.told ≡ Some told
+pub went_call : (shape : Shape) (c : ℕ) (kept : ClientState) (p : Plan) (request : Request) (state : ClientState) (go_on : Told → Plan) (old mid new : List History) (e : Entry) (told : Told) (rest : List Made) (reply : Reply) (left : ClientState)
+    → p ≡ calls request state go_on → Did shape c old mid (record { file = request.file; item = entered e } ∷ []) → Asks c request.ask e.event → e.told ≡ Some told
     → Did shape c mid new rest → Goes (IsFull new) c (go_on told) rest reply left → Went shape c kept p old new reply left
-went_call shape c kept p request objects go_on old mid new e told rest reply left is did asks answered more goes = record {
+went_call shape c kept p request state go_on old mid new e told rest reply left is did asks answered more goes = record {
   made = record { file = request.file; item = entered e } ∷ rest;
   did = did_then shape c old mid new (record { file = request.file; item = entered e } ∷ []) rest did more;
   goes = inl (subst (λ (q : Plan). Goes (IsFull new) c q (record { file = request.file; item = entered e } ∷ rest) reply left) (sym is) (refl, (asks, (told, answered, goes))));
 }
 
 -- a call whose store failed
-pub went_fault : (shape : Shape) (c : ℕ) (kept : List OpenObject) (p : Plan) (request : Request) (objects : List OpenObject) (go_on : Told → Plan) (old new : List History) (disk count : ℕ)
-    → p ≡ calls request objects go_on → Did shape c old new (record { file = request.file; item = noted c disk count } ∷ []) → Went shape c kept p old new (replies.Store disk count) objects
-went_fault shape c kept p request objects go_on old new disk count is did = record {
+pub went_fault : (shape : Shape) (c : ℕ) (kept : ClientState) (p : Plan) (request : Request) (state : ClientState) (go_on : Told → Plan) (old new : List History) (disk count : ℕ)
+    → p ≡ calls request state go_on → Did shape c old new (record { file = request.file; item = noted c disk count } ∷ []) → Went shape c kept p old new (replies.Store disk count) state
+went_fault shape c kept p request state go_on old new disk count is did = record {
   made = record { file = request.file; item = noted c disk count } ∷ [];
   did = did;
-  goes = inl (subst (λ (q : Plan). Goes (IsFull new) c q (record { file = request.file; item = noted c disk count } ∷ []) (replies.Store disk count) objects) (sym is) (refl, (refl, (refl, refl, refl))));
+  goes = inl (subst (λ (q : Plan). Goes (IsFull new) c q (record { file = request.file; item = noted c disk count } ∷ []) (replies.Store disk count) state) (sym is) (refl, (refl, (refl, refl, refl))));
 }
 
 -- a call that did nothing
-pub went_refused : (shape : Shape) (c : ℕ) (kept : List OpenObject) (p : Plan) (request : Request) (objects : List OpenObject) (go_on : Told → Plan) (old new : List History) (reply : Reply)
-    → p ≡ calls request objects go_on → Did shape c old new [] → Refuses (IsFull new request.file) reply → Went shape c kept p old new reply objects
-went_refused shape c kept p request objects go_on old new reply is did refused = record {
+pub went_refused : (shape : Shape) (c : ℕ) (kept : ClientState) (p : Plan) (request : Request) (state : ClientState) (go_on : Told → Plan) (old new : List History) (reply : Reply)
+    → p ≡ calls request state go_on → Did shape c old new [] → Refuses (IsFull new request.file) reply → Went shape c kept p old new reply state
+went_refused shape c kept p request state go_on old new reply is did refused = record {
   made = [];
   did = did;
-  goes = inl (subst (λ (q : Plan). Goes (IsFull new) c q [] reply objects) (sym is) (refused, refl));
+  goes = inl (subst (λ (q : Plan). Goes (IsFull new) c q [] reply state) (sym is) (refused, refl));
 }
 
 -- no line yet
-pub worked_none : (setting : Setting) (c : ℕ) (objects : List OpenObject) (old : List History) → Worked setting c objects [] old old [] objects
-worked_none setting c objects old = record { made = []; did = did_nothing (shape_of setting) c old old refl; does = (refl, refl, refl) }
+pub worked_none : (mount : Mount) (c : ℕ) (state : ClientState) (old : List History) → Worked mount c state [] old old [] state
+worked_none mount c state old = record { made = []; did = did_nothing (shape_of mount) c old old refl; does = (refl, refl, refl) }
 
 -- lines done, and one more
-does_more : (setting : Setting) (F : ℕ → Type 0) (c : ℕ) (objects : List OpenObject) (lines : List CallLine) (made : List Made) (said : List Said) (mid : List OpenObject) (line : CallLine) (next : List Made) (reply : Reply) (left : List OpenObject)
-    → Does setting F c objects lines made said mid → Line F c mid (plan setting mid line.call) next reply left
-    → Does setting F c objects (lines ++ line ∷ []) (made ++ next) (said ++ record { line = line.line; reply = reply } ∷ []) left
-does_more setting F c objects [] made said mid line next reply left does goes =
-    rw (does.0, does.1) (next, [], left, sym (append-nil next), refl, subst (λ (os : List OpenObject). Line F c os (plan setting os line.call) next reply left) does.2 goes, (refl, refl, refl))
-does_more setting F c objects (l ∷ lines) made [] mid line next reply left does goes = absurd does
-does_more setting F c objects (l ∷ lines) made (s ∷ said) mid line next reply left does goes =
-    (does.0, does.1 ++ next, does.2, ap (λ (ms : List Made). ms ++ next) does.3 ∙ append_assoc does.0 does.1 next, does.4, does.5, does_more setting F c does.2 lines does.1 said mid line next reply left does.6 goes)
+does_more : (mount : Mount) (F : ℕ → Type 0) (c : ℕ) (state : ClientState) (lines : List CallLine) (made : List Made) (said : List Said) (mid : ClientState) (line : CallLine) (next : List Made) (reply : Reply) (left : ClientState)
+    → Does mount F c state lines made said mid → Line F c mid (plan mount mid line.call) next reply left
+    → Does mount F c state (lines ++ line ∷ []) (made ++ next) (said ++ record { line = line.line; reply = reply } ∷ []) left
+does_more mount F c state [] made said mid line next reply left does goes =
+    rw (does.0, does.1) (next, [], left, sym (append-nil next), refl, subst (λ (st : ClientState). Line F c st (plan mount st line.call) next reply left) does.2 goes, (refl, refl, refl))
+does_more mount F c state (l ∷ lines) made [] mid line next reply left does goes = absurd does
+does_more mount F c state (l ∷ lines) made (s ∷ said) mid line next reply left does goes =
+    (does.0, does.1 ++ next, does.2, ap (λ (ms : List Made). ms ++ next) does.3 ∙ append_assoc does.0 does.1 next, does.4, does.5, does_more mount F c does.2 lines does.1 said mid line next reply left does.6 goes)
 
-pub worked_more : (setting : Setting) (c : ℕ) (objects : List OpenObject) (lines : List CallLine) (old mid new : List History) (said : List Said) (kept : List OpenObject) (line : CallLine) (reply : Reply) (left : List OpenObject)
-    → Worked setting c objects lines old mid said kept → Went (shape_of setting) c kept (plan setting kept line.call) mid new reply left
-    → Worked setting c objects (lines ++ line ∷ []) old new (said ++ record { line = line.line; reply = reply } ∷ []) left
-worked_more setting c objects lines old mid new said kept line reply left worked went = record {
+pub worked_more : (mount : Mount) (c : ℕ) (state : ClientState) (lines : List CallLine) (old mid new : List History) (said : List Said) (kept : ClientState) (line : CallLine) (reply : Reply) (left : ClientState)
+    → Worked mount c state lines old mid said kept → Went (shape_of mount) c kept (plan mount kept line.call) mid new reply left
+    → Worked mount c state (lines ++ line ∷ []) old new (said ++ record { line = line.line; reply = reply } ∷ []) left
+worked_more mount c state lines old mid new said kept line reply left worked went = record {
   made = worked.made ++ went.made;
-  did = did_then (shape_of setting) c old mid new worked.made went.made worked.did went.did;
-  does = does_more setting (IsFull new) c objects lines worked.made said kept line went.made reply left
-      (does_later setting (IsFull mid) (IsFull new) (full_later mid new went.did.later) c objects lines worked.made said kept worked.does) went.goes;
+  did = did_then (shape_of mount) c old mid new worked.made went.made worked.did went.did;
+  does = does_more mount (IsFull new) c state lines worked.made said kept line went.made reply left
+      (does_later mount (IsFull mid) (IsFull new) (full_later mid new went.did.later) c state lines worked.made said kept worked.does) went.goes;
 }
 
-does_append : (setting : Setting) (F : ℕ → Type 0) (c : ℕ) (objects : List OpenObject) (xs ys : List CallLine) (made made' : List Made) (said said' : List Said) (mid left : List OpenObject)
-    → Does setting F c objects xs made said mid → Does setting F c mid ys made' said' left → Does setting F c objects (xs ++ ys) (made ++ made') (said ++ said') left
-does_append setting F c objects [] ys made made' said said' mid left f g =
-    rw (f.0, f.1) (subst (λ (os : List OpenObject). Does setting F c os ys made' said' left) f.2 g)
-does_append setting F c objects (l ∷ xs) ys made made' [] said' mid left f g = absurd f
-does_append setting F c objects (l ∷ xs) ys made made' (s ∷ said) said' mid left f g =
-    (f.0, f.1 ++ made', f.2, ap (λ (ms : List Made). ms ++ made') f.3 ∙ append_assoc f.0 f.1 made', f.4, f.5, does_append setting F c f.2 xs ys f.1 made' said said' mid left f.6 g)
+does_append : (mount : Mount) (F : ℕ → Type 0) (c : ℕ) (state : ClientState) (xs ys : List CallLine) (made made' : List Made) (said said' : List Said) (mid left : ClientState)
+    → Does mount F c state xs made said mid → Does mount F c mid ys made' said' left → Does mount F c state (xs ++ ys) (made ++ made') (said ++ said') left
+does_append mount F c state [] ys made made' said said' mid left f g =
+    rw (f.0, f.1) (subst (λ (st : ClientState). Does mount F c st ys made' said' left) f.2 g)
+does_append mount F c state (l ∷ xs) ys made made' [] said' mid left f g = absurd f
+does_append mount F c state (l ∷ xs) ys made made' (s ∷ said) said' mid left f g =
+    (f.0, f.1 ++ made', f.2, ap (λ (ms : List Made). ms ++ made') f.3 ∙ append_assoc f.0 f.1 made', f.4, f.5, does_append mount F c f.2 xs ys f.1 made' said said' mid left f.6 g)
 
 -- lines done, and then more lines
-pub worked_append : (setting : Setting) (c : ℕ) (objects : List OpenObject) (xs ys : List CallLine) (old mid new : List History) (said said' : List Said) (kept left : List OpenObject)
-    → Worked setting c objects xs old mid said kept → Worked setting c kept ys mid new said' left → Worked setting c objects (xs ++ ys) old new (said ++ said') left
-worked_append setting c objects xs ys old mid new said said' kept left f g = record {
+pub worked_append : (mount : Mount) (c : ℕ) (state : ClientState) (xs ys : List CallLine) (old mid new : List History) (said said' : List Said) (kept left : ClientState)
+    → Worked mount c state xs old mid said kept → Worked mount c kept ys mid new said' left → Worked mount c state (xs ++ ys) old new (said ++ said') left
+worked_append mount c state xs ys old mid new said said' kept left f g = record {
   made = f.made ++ g.made;
-  did = did_then (shape_of setting) c old mid new f.made g.made f.did g.did;
-  does = does_append setting (IsFull new) c objects xs ys f.made g.made said said' kept left
-      (does_later setting (IsFull mid) (IsFull new) (full_later mid new g.did.later) c objects xs f.made said kept f.does) g.does;
+  did = did_then (shape_of mount) c old mid new f.made g.made f.did g.did;
+  does = does_append mount (IsFull new) c state xs ys f.made g.made said said' kept left
+      (does_later mount (IsFull mid) (IsFull new) (full_later mid new g.did.later) c state xs f.made said kept f.does) g.does;
 }
 
 -- nothing, and then lines done
-pub worked_before : (setting : Setting) (c : ℕ) (objects : List OpenObject) (lines : List CallLine) (old mid new : List History) (said : List Said) (left : List OpenObject)
-    → Did (shape_of setting) c old mid [] → Worked setting c objects lines mid new said left → Worked setting c objects lines old new said left
-worked_before setting c objects lines old mid new said left did worked = record {
+pub worked_before : (mount : Mount) (c : ℕ) (state : ClientState) (lines : List CallLine) (old mid new : List History) (said : List Said) (left : ClientState)
+    → Did (shape_of mount) c old mid [] → Worked mount c state lines mid new said left → Worked mount c state lines old new said left
+worked_before mount c state lines old mid new said left did worked = record {
   made = worked.made;
-  did = did_then (shape_of setting) c old mid new [] worked.made did worked.did;
+  did = did_then (shape_of mount) c old mid new [] worked.made did worked.did;
   does = worked.does;
 }
 
 -- lines done, and nothing more
-pub worked_then : (setting : Setting) (c : ℕ) (objects : List OpenObject) (lines : List CallLine) (old mid new : List History) (said : List Said) (left : List OpenObject)
-    → Worked setting c objects lines old mid said left → Did (shape_of setting) c mid new [] → Worked setting c objects lines old new said left
-worked_then setting c objects lines old mid new said left worked did = record {
+pub worked_then : (mount : Mount) (c : ℕ) (state : ClientState) (lines : List CallLine) (old mid new : List History) (said : List Said) (left : ClientState)
+    → Worked mount c state lines old mid said left → Did (shape_of mount) c mid new [] → Worked mount c state lines old new said left
+worked_then mount c state lines old mid new said left worked did = record {
   made = worked.made;
-  did = did_after (shape_of setting) c old mid new worked.made worked.did did;
-  does = does_later setting (IsFull mid) (IsFull new) (full_later mid new did.later) c objects lines worked.made said left worked.does;
+  did = did_after (shape_of mount) c old mid new worked.made worked.did did;
+  does = does_later mount (IsFull mid) (IsFull new) (full_later mid new did.later) c state lines worked.made said left worked.does;
 }
 
+-- a phase, and nothing more
+pub phased_then : (mount : Mount) (c : ℕ) (kept : ClientState) (lines : List CallLine) (old mid new : List History) (said : List Said) (left : ClientState)
+    → Phased mount c kept lines old mid said left → Did (shape_of mount) c mid new [] → Phased mount c kept lines old new said left
+phased_then mount c kept lines old mid new said left phased did =
+    ⊎_elim (λ worked. inl (worked_then mount c kept lines old mid new said left worked did))
+    (λ idled. inr (record { nothing = did_after (shape_of mount) c old mid new [] idled.nothing did; silent = idled.silent; same = idled.same })) phased
+
 -- phases done, and one more
-pub acts_more : (setting : Setting) (c : ℕ) (objects : List OpenObject) (phases : List (List CallLine)) (start : List History) (cuts : List (List History)) (said : List Said) (mid : List OpenObject)
-    (phase : List CallLine) (last cut : List History) (one : List Said) (left : List OpenObject)
-    → Acts setting c objects phases start cuts said mid → last ≡ last_cut start cuts → Worked setting c mid (lines_of c phase) last cut one left
-    → Acts setting c objects (phases ++ phase ∷ []) start (cuts ++ cut ∷ []) (said ++ one) left
-acts_more setting c objects [] start [] said mid phase last cut one left acts is worked =
-    rw acts.0 (one, [], left, sym (append-nil one), subst (λ (os : List OpenObject). Worked setting c os (lines_of c phase) start cut one left) acts.1 (subst (λ (hs : List History). Worked setting c mid (lines_of c phase) hs cut one left) is worked), (refl, refl))
-acts_more setting c objects [] start (k ∷ cuts) said mid phase last cut one left acts is worked = absurd acts
-acts_more setting c objects (p ∷ phases) start [] said mid phase last cut one left acts is worked = absurd acts
-acts_more setting c objects (p ∷ phases) start (k ∷ cuts) said mid phase last cut one left acts is worked =
-    (acts.0, acts.1 ++ one, acts.2, ap (λ (s : List Said). s ++ one) acts.3 ∙ append_assoc acts.0 acts.1 one, acts.4, acts_more setting c acts.2 phases k cuts acts.1 mid phase last cut one left acts.5 is worked)
+pub acts_more : (mount : Mount) (c : ℕ) (kept : ClientState) (phases : List (List CallLine)) (start : List History) (cuts : List (List History)) (said : List Said) (mid : ClientState)
+    (phase : List CallLine) (last cut : List History) (one : List Said) (left : ClientState)
+    → Acts mount c kept phases start cuts said mid → last ≡ last_cut start cuts → Phased mount c mid (lines_of c phase) last cut one left
+    → Acts mount c kept (phases ++ phase ∷ []) start (cuts ++ cut ∷ []) (said ++ one) left
+acts_more mount c kept [] start [] said mid phase last cut one left acts is phased =
+    rw acts.0 (one, [], left, sym (append-nil one), subst (λ (st : ClientState). Phased mount c st (lines_of c phase) start cut one left) acts.1 (subst (λ (hs : List History). Phased mount c mid (lines_of c phase) hs cut one left) is phased), (refl, refl))
+acts_more mount c kept [] start (k ∷ cuts) said mid phase last cut one left acts is phased = absurd acts
+acts_more mount c kept (p ∷ phases) start [] said mid phase last cut one left acts is phased = absurd acts
+acts_more mount c kept (p ∷ phases) start (k ∷ cuts) said mid phase last cut one left acts is phased =
+    (acts.0, acts.1 ++ one, acts.2, ap (λ (s : List Said). s ++ one) acts.3 ∙ append_assoc acts.0 acts.1 one, acts.4, acts_more mount c acts.2 phases k cuts acts.1 mid phase last cut one left acts.5 is phased)
+
+-- lines that were done were answered, each in its turn
+pub does-lines : (mount : Mount) (F : ℕ → Type 0) (c : ℕ) (kept : ClientState) (lines : List CallLine) (made : List Made) (said : List Said) (left : ClientState)
+    → Does mount F c kept lines made said left → map (λ s. s.line) said ≡ map (λ l. l.line) lines
+does-lines mount F c kept [] made said left does = ap (map (λ s. s.line)) does.1
+does-lines mount F c kept (l ∷ lines) made [] left does = absurd does
+does-lines mount F c kept (l ∷ lines) made (s ∷ said) left does =
+    let rest : map (λ s. s.line) said ≡ map (λ l. l.line) lines = does-lines mount F c does.2 lines does.1 said left does.6 in
+    let head : s.line ≡ l.line = does.4 in
+    cc
+
+-- phases answered, and one more whose lines were done
+pub answered_more : (mount : Mount) (c : ℕ) (phases : List (List CallLine)) (said : List Said) (phase : List CallLine) (kept : ClientState) (old new : List History) (one : List Said) (left : ClientState)
+    → IsAnswered phases c said → Worked mount c kept (lines_of c phase) old new one left → IsAnswered (phases ++ phase ∷ []) c (said ++ one)
+answered_more mount c phases said phase kept old new one left answered worked =
+    let number = λ (l : CallLine). l.line in
+    map-append (λ (s : Said). s.line) said one
+    ∙ (ap (λ (ns : List ℕ). ns ++ map (λ (s : Said). s.line) one) answered
+    ∙ (ap (λ (ns : List ℕ). map number (flat_map (lines_of c) phases) ++ ns) (does-lines mount (IsFull new) c kept (lines_of c phase) worked.made one left worked.does)
+    ∙ (sym (map-append number (flat_map (lines_of c) phases) (lines_of c phase))
+    ∙ ap (map number) (sym (flat_map-append (lines_of c) phases (phase ∷ []) ∙ ap (λ (ls : List CallLine). flat_map (lines_of c) phases ++ ls) (append-nil (lines_of c phase)))))))
 
 pub in_order_more : (start : List History) (cuts : List (List History)) (last cut : List History) → InOrder start cuts → last ≡ last_cut start cuts
     → ((file : ℕ) → GoesOn (history_at last file) (history_at cut file)) → InOrder start (cuts ++ cut ∷ [])

@@ -1,8 +1,8 @@
-pub mod Setting
+pub mod Stack
+pub mod Names
 pub mod Log
 pub mod Plan
 pub mod Fits
 pub mod Calls
 pub mod Kept
-pub mod Line
 pub mod Report

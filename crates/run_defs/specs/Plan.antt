@@ -1,5 +1,5 @@
 -- What a line of a script does: the calls that it makes, one after another, and its answer.
-use Rattle.std.specs.Prelude.{◌≡◌, ℕ, List, [], ◌∷◌, ◌++◌, find, Bool, true, false, if◌then◌else◌, Option, Some, None}
+use Rattle.std.specs.Prelude.{◌≡◌, ℕ, List, [], ◌∷◌, ◌++◌, find, if◌then◌else◌, Option, Some, None}
 use Rattle.std.specs.Str.{bytes_eq}
 use Rattle.hist_plain.specs.declared.event.Op.{Op}
 use Rattle.hist_plain.specs.declared.event.Op.TheVariants as ops
@@ -12,14 +12,17 @@ use Rattle.hist_plain.specs.declared.event.Event.TheVariants as events
 use Rattle.hist_plain.specs.Event.{fits_page}
 use Rattle.hist_plain.specs.Plain.{Told}
 use Rattle.script_text.specs.declared.script.Call.{Call}
+use Rattle.script_text.specs.declared.script.ClientLine.{ClientLine}
 use Rattle.script_text.specs.declared.script.Call.TheVariants.{Open, Read, Write, Clear, Sync}
 use Rattle.script_text.specs.declared.script.Reply.{Reply}
 use Rattle.script_text.specs.declared.script.Reply.TheVariants as replies
-use Rattle.run_defs.specs.declared.object.OpenObject.{OpenObject}
-use Rattle.run_defs.specs.declared.setting.Setting.{Setting}
-use Rattle.run_defs.specs.declared.setting.Found.{Found}
-use Rattle.run_defs.specs.declared.setting.Found.TheVariants.{Route, Refused}
-use Rattle.run_defs.specs.Setting.{pages_of, found_at}
+use Rattle.stack_accept.specs.Mount.{Mount, number_in}
+use Rattle.run_defs.specs.declared.client.OpenObject.{OpenObject}
+use Rattle.run_defs.specs.declared.client.ClientState.{ClientState}
+use Rattle.run_defs.specs.declared.found.Found.{Found}
+use Rattle.run_defs.specs.declared.found.Found.TheVariants.{Route, Refused}
+use Rattle.run_defs.specs.Stack.{pages_of}
+use Rattle.run_defs.specs.Names.{found_at}
 use Rattle.run_defs.specs.Log.{Item, entered, noted}
 
 -- what a line may ask of a file
@@ -34,12 +37,20 @@ pub record Request : Type 0 where
 abbrev pub asking : ℕ → Ask → Request
 asking file ask = record { file = file; ask = ask }
 
--- What a line does from here on. It ends with an answer and leaves these objects; or it makes a call, leaves these
--- objects where the call is refused, and goes on by what it is told; or it is a call that the program does not have.
+-- What a line does from here on. It ends with an answer and leaves this state; or it makes a call, leaves this state where
+-- the call is refused, and goes on by what it is told; or it is a call that the program does not have.
 pub data Plan : Type 0 where
-  ends : Reply → List OpenObject → Plan
-  calls : Request → List OpenObject → (Told → Plan) → Plan
+  ends : Reply → ClientState → Plan
+  calls : Request → ClientState → (Told → Plan) → Plan
   unknown : Plan
+
+-- a client at the start: it is on its machine, with no object open
+abbrev pub start_state : Mount → ClientLine → ClientState
+start_state mount line = record { machine = number_in mount.machines line.machine; objects = [] }
+
+-- the state with one more object open
+abbrev pub with_object : ClientState → OpenObject → ClientState
+with_object state object = record state { objects = state.objects ++ object ∷ [] }
 
 -- what a call on a file answers a line of the script
 abbrev pub reply_of : Told → Reply
@@ -55,23 +66,23 @@ abbrev pub object_of : List ℕ → List OpenObject → Option OpenObject
 object_of name objects = find (λ o. bytes_eq o.name name) objects
 
 -- a call whose answer is the line's
-abbrev pub plan_call : List OpenObject → Request → Plan
-plan_call objects request = calls request objects (λ told. ends (reply_of told) objects)
+abbrev pub plan_call : ClientState → Request → Plan
+plan_call state request = calls request state (λ told. ends (reply_of told) state)
 
 -- a line on the object of a name
-abbrev pub plan_named : List OpenObject → Option OpenObject → (OpenObject → Plan) → Plan
-plan_named objects None go_on = ends replies.NoObject objects
-plan_named objects (Some object) go_on = go_on object
+abbrev pub plan_named : ClientState → Option OpenObject → (OpenObject → Plan) → Plan
+plan_named state None go_on = ends replies.NoObject state
+plan_named state (Some object) go_on = go_on object
 
 -- an access of an open object; one whose range is not within one page of the file makes no call
-abbrev pub plan_access : Setting → List OpenObject → Op → OpenObject → Plan
-plan_access setting objects op object =
-    if fits_page setting.page_size (pages_of setting object.file) op
-    then plan_call objects (asking object.file (access object.node object.life op))
-    else ends replies.NotOnePage objects
+abbrev pub plan_access : Mount → ClientState → Op → OpenObject → Plan
+plan_access mount state op object =
+    if fits_page mount.page_size (pages_of mount object.file) op
+    then plan_call state (asking object.file (access object.node object.life op))
+    else ends replies.NotOnePage state
 
-abbrev pub plan_sync : List OpenObject → Keep → OpenObject → Plan
-plan_sync objects keep object = plan_call objects (asking object.file (sync object.node keep))
+abbrev pub plan_sync : ClientState → Keep → OpenObject → Plan
+plan_sync state keep object = plan_call state (asking object.file (sync object.node keep))
 
 -- the life that an Open was answered
 abbrev pub life_in : Answer → ℕ
@@ -83,22 +94,23 @@ abbrev pub opened : List ℕ → ℕ → ℕ → Told → OpenObject
 opened name file node told = record { name = name; file = file; node = node; life = life_in told.answer }
 
 -- an Open of what a path leads to; the object is kept where it is answered
-abbrev pub plan_found : List OpenObject → List ℕ → Found → Plan
-plan_found objects name (Refused reply) = ends reply objects
-plan_found objects name (Route file node) = calls (asking file (access node 0 ops.Open)) objects (λ told. ends (reply_of told) (objects ++ opened name file node told ∷ []))
+abbrev pub plan_found : ClientState → List ℕ → Found → Plan
+plan_found state name (Refused reply) = ends reply state
+plan_found state name (Route file node) =
+    calls (asking file (access node 0 ops.Open)) state (λ told. ends (reply_of told) (with_object state (opened name file node told)))
 
-abbrev pub plan_open : Setting → List OpenObject → List ℕ → List (List ℕ) → Option OpenObject → Plan
-plan_open setting objects name path (Some object) = ends replies.ObjectExists objects
-plan_open setting objects name path None = plan_found objects name (found_at setting path)
+abbrev pub plan_open : Mount → ClientState → List ℕ → List (List ℕ) → Option OpenObject → Plan
+plan_open mount state name path (Some object) = ends replies.ObjectExists state
+plan_open mount state name path None = plan_found state name (found_at mount path)
 
--- what a call does, with these objects open
-abbrev pub plan : Setting → List OpenObject → Call → Plan
-plan setting objects (Open name path) = plan_open setting objects name path (object_of name objects)
-plan setting objects (Read name page off len) = plan_named objects (object_of name objects) (plan_access setting objects (ops.Read page off len))
-plan setting objects (Write name page off bytes) = plan_named objects (object_of name objects) (plan_access setting objects (ops.Write page off bytes))
-plan setting objects (Clear name page) = plan_named objects (object_of name objects) (plan_access setting objects (ops.Clear page))
-plan setting objects (Sync name) = plan_named objects (object_of name objects) (plan_sync objects keeps.Write)
-plan setting objects call = unknown
+-- what a call does, in this state of its client
+abbrev pub plan : Mount → ClientState → Call → Plan
+plan mount state (Open name path) = plan_open mount state name path (object_of name state.objects)
+plan mount state (Read name page off len) = plan_named state (object_of name state.objects) (plan_access mount state (ops.Read page off len))
+plan mount state (Write name page off bytes) = plan_named state (object_of name state.objects) (plan_access mount state (ops.Write page off bytes))
+plan mount state (Clear name page) = plan_named state (object_of name state.objects) (plan_access mount state (ops.Clear page))
+plan mount state (Sync name) = plan_named state (object_of name state.objects) (plan_sync state keeps.Write)
+plan mount state call = unknown
 
 -- what a caller did at a file
 pub record Made : Type 0 where
@@ -122,14 +134,14 @@ abbrev pub Makes : ℕ → Ask → Item → (Told → Type 0) → (Reply → Typ
 Makes caller ask (entered e) Then Ended = Asks caller ask e.event × ((told : Told) × (e.told ≡ Some told) × Then told)
 Makes caller ask (noted by disk count) Then Ended = (by ≡ caller) × Ended (replies.Store disk count)
 
--- the plan makes just these things, one after another, and ends with this answer and these objects
-abbrev pub Goes : (ℕ → Type 0) → ℕ → Plan → List Made → Reply → List OpenObject → Type 0
-Goes Full caller (ends reply objects) [] said left = (said ≡ reply) × (left ≡ objects)
-Goes Full caller (ends reply objects) (made ∷ more) said left = ⊥
-Goes Full caller (calls request objects go_on) [] said left = Refuses (Full request.file) said × (left ≡ objects)
-Goes Full caller (calls request objects go_on) (made ∷ more) said left =
+-- the plan makes just these things, one after another, and ends with this answer and this state
+abbrev pub Goes : (ℕ → Type 0) → ℕ → Plan → List Made → Reply → ClientState → Type 0
+Goes Full caller (ends reply state) [] said left = (said ≡ reply) × (left ≡ state)
+Goes Full caller (ends reply state) (made ∷ more) said left = ⊥
+Goes Full caller (calls request state go_on) [] said left = Refuses (Full request.file) said × (left ≡ state)
+Goes Full caller (calls request state go_on) (made ∷ more) said left =
     (made.file ≡ request.file)
     × Makes caller request.ask made.item
     (λ told. Goes Full caller (go_on told) more said left)
-    (λ reply. (more ≡ []) × (said ≡ reply) × (left ≡ objects))
+    (λ reply. (more ≡ []) × (said ≡ reply) × (left ≡ state))
 Goes Full caller unknown made said left = ⊥

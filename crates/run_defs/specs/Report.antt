@@ -1,4 +1,4 @@
--- The text that a run writes which reached its phases.
+-- The text that a run writes which reached its phases, without the line of its status.
 use Rattle.std.specs.Prelude.{ℕ, List, [], ◌∷◌, ◌++◌, map, codes, Option, Some, None}
 use Rattle.std.specs.List.{flat_map}
 use Rattle.std.specs.Fmt.{decimal}
@@ -13,53 +13,26 @@ use Rattle.hist_plain.specs.declared.event.Answer.{Answer}
 use Rattle.hist_plain.specs.declared.event.Answer.TheVariants as answers
 use Rattle.hist_plain.specs.Plain.{Told}
 use Rattle.hist_plain.specs.History.{Entry, entries_from}
+use Rattle.text_words.specs.Lines.{line_of}
 use Rattle.script_text.specs.declared.script.Said.{Said}
 use Rattle.script_text.specs.declared.script.Script.{Script}
 use Rattle.script_text.specs.declared.script.ClientLine.{ClientLine}
 use Rattle.script_text.specs.declared.script.Reply.{Reply}
 use Rattle.script_text.specs.declared.script.Reply.TheVariants as replies
-use Rattle.run_defs.specs.declared.object.LostStore.{LostStore}
-use Rattle.run_defs.specs.declared.setting.Setting.{Setting}
-use Rattle.run_defs.specs.declared.setting.FileEntry.{FileEntry}
-use Rattle.run_defs.specs.Line.{line, name_in}
-use Rattle.run_defs.specs.Setting.{shape_of}
+use Rattle.script_text.specs.Answer.{answer_words}
+use Rattle.stack_accept.specs.declared.entries.FileEntry.{FileEntry}
+use Rattle.stack_accept.specs.Mount.{Mount}
+use Rattle.run_defs.specs.declared.store.StoreKey.{StoreKey}
+use Rattle.run_defs.specs.Stack.{shape_of, name_in, disk_name, file_name, node_names}
 use Rattle.run_defs.specs.declared.log.History.{History}
 use Rattle.run_defs.specs.Log.{first_file, trail_of}
 
--- the words of an answer to a line
-abbrev pub reply_words : List (List ℕ) → Reply → List (List ℕ)
-reply_words disks replies.Done = codes "done" ∷ []
-reply_words disks (replies.Names names) = codes "names" ∷ names
-reply_words disks (replies.Life life) = codes "life" ∷ decimal life ∷ []
-reply_words disks (replies.Bytes bytes) = encode_lower bytes ∷ []
-reply_words disks replies.NoObject = codes "no" ∷ codes "object" ∷ []
-reply_words disks replies.BadObject = codes "bad" ∷ codes "object" ∷ []
-reply_words disks replies.ObjectExists = codes "object" ∷ codes "exists" ∷ []
-reply_words disks replies.NotOnePage = codes "not" ∷ codes "one" ∷ codes "page" ∷ []
-reply_words disks (replies.NotBound part) = codes "not" ∷ codes "bound" ∷ part ∷ []
-reply_words disks (replies.AlreadyBound part) = codes "already" ∷ codes "bound" ∷ part ∷ []
-reply_words disks (replies.NotContext part) = codes "not" ∷ codes "context" ∷ part ∷ []
-reply_words disks (replies.NotObject part) = codes "not" ∷ codes "object" ∷ part ∷ []
-reply_words disks (replies.Revoked life) = codes "revoked" ∷ decimal life ∷ []
-reply_words disks replies.NoManager = codes "no" ∷ codes "manager" ∷ []
-reply_words disks replies.RegionExists = codes "region" ∷ codes "exists" ∷ []
-reply_words disks replies.Unaligned = codes "unaligned" ∷ []
-reply_words disks replies.TooLong = codes "too" ∷ codes "long" ∷ []
-reply_words disks replies.Overlap = codes "overlap" ∷ []
-reply_words disks replies.NoRegion = codes "no" ∷ codes "region" ∷ []
-reply_words disks (replies.Unmapped address) = codes "unmapped" ∷ decimal address ∷ []
-reply_words disks replies.CrossesPage = codes "crosses" ∷ codes "page" ∷ []
-reply_words disks replies.NotWritable = codes "not" ∷ codes "writable" ∷ []
-reply_words disks (replies.Store disk count) = codes "store" ∷ name_in disks disk ∷ decimal count ∷ []
-reply_words disks replies.TrailFull = codes "trail" ∷ codes "full" ∷ []
-reply_words disks replies.Memory = codes "memory" ∷ []
-
 -- a client's line: the number of the script's line, and the answer
 abbrev pub said_line : List (List ℕ) → Said → List ℕ
-said_line disks said = line (decimal said.line ∷ reply_words disks said.reply)
+said_line disks said = line_of (decimal said.line ∷ answer_words disks said.reply)
 
 abbrev pub client_part : List (List ℕ) → List ℕ → List Said → List ℕ
-client_part disks name said = line (codes "client" ∷ name ∷ []) ++ flat_map (said_line disks) said
+client_part disks name said = line_of (codes "client" ∷ name ∷ []) ++ flat_map (said_line disks) said
 
 -- a part for each client
 abbrev pub client_parts : List (List ℕ) → List ClientLine → List (List Said) → List ℕ
@@ -98,20 +71,20 @@ abbrev pub entry_line : List (List ℕ) → List (List ℕ) → Entry → List �
 entry_line callers nodes entry = by_told entry.told where
   by_told : Option Told → List ℕ
   by_told None = []
-  by_told (Some told) = line (decimal entry.place ∷ (event_words callers nodes entry.event ++ told_words told))
+  by_told (Some told) = line_of (decimal entry.place ∷ (event_words callers nodes entry.event ++ told_words told))
 
 -- each event of a history, with the plain file's answer at its place
-abbrev pub entries_of : Setting → History → List Entry
-entries_of setting history = entries_from (shape_of setting) (first_file (shape_of setting) history) 0 (trail_of history)
+abbrev pub entries_of : Mount → History → List Entry
+entries_of mount history = entries_from (shape_of mount) (first_file (shape_of mount) history) 0 (trail_of history)
 
-abbrev pub file_part : List (List ℕ) → Setting → FileEntry → History → List ℕ
-file_part callers setting file history =
-    line (codes "file" ∷ file.name ∷ []) ++ flat_map (entry_line callers (map (λ n. n.name) setting.nodes)) (entries_of setting history)
+abbrev pub file_part : List (List ℕ) → Mount → FileEntry → History → List ℕ
+file_part callers mount file history =
+    line_of (codes "file" ∷ file.name ∷ []) ++ flat_map (entry_line callers (node_names mount.nodes)) (entries_of mount history)
 
 -- a part for each file
-abbrev pub file_parts : List (List ℕ) → Setting → List FileEntry → List History → List ℕ
-file_parts callers setting (file ∷ files) (history ∷ histories) = file_part callers setting file history ++ file_parts callers setting files histories
-file_parts callers setting files histories = []
+abbrev pub file_parts : List (List ℕ) → Mount → List FileEntry → List History → List ℕ
+file_parts callers mount (file ∷ files) (history ∷ histories) = file_part callers mount file history ++ file_parts callers mount files histories
+file_parts callers mount files histories = []
 
 -- the names of the callers: the clients, and then mount
 abbrev pub callers_of : List ClientLine → List (List ℕ)
@@ -120,24 +93,20 @@ callers_of clients = map (λ c. c.name) clients ++ codes "mount" ∷ []
 -- the line of a closing sync that failed; one that is done has none
 abbrev pub closing_line : List (List ℕ) → List ℕ → Reply → List ℕ
 closing_line disks file replies.Done = []
-closing_line disks file reply = line (codes "closing" ∷ file ∷ reply_words disks reply)
+closing_line disks file reply = line_of (codes "closing" ∷ file ∷ answer_words disks reply)
 
 abbrev pub closing_lines : List (List ℕ) → List FileEntry → List Reply → List ℕ
 closing_lines disks (file ∷ files) (reply ∷ more) = closing_line disks file.name reply ++ closing_lines disks files more
 closing_lines disks files more = []
 
--- the line of a store that could not be given back
-abbrev pub lost_line : Setting → LostStore → List ℕ
-lost_line setting lost = line (codes "bay" ∷ name_in setting.disks lost.disk ∷ name_in (map (λ f. f.name) setting.files) lost.file ∷ [])
-
-abbrev pub status_line : ℕ → List ℕ
-status_line status = line (codes "status" ∷ decimal status ∷ [])
+-- the line of a store that the bay refused
+abbrev pub lost_line : Mount → StoreKey → List ℕ
+lost_line mount lost = line_of (codes "bay" ∷ disk_name mount lost.disk ∷ file_name mount lost.file ∷ [])
 
 -- the whole text
-abbrev pub report : Setting → Script → List History → List (List Said) → List Reply → List LostStore → ℕ → List ℕ
-report setting script histories said closing lost status =
-    client_parts setting.disks script.clients said
-    ++ file_parts (callers_of script.clients) setting setting.files histories
-    ++ closing_lines setting.disks setting.files closing
-    ++ flat_map (lost_line setting) lost
-    ++ status_line status
+abbrev pub report : Mount → Script → List History → List (List Said) → List Reply → List StoreKey → List ℕ
+report mount script histories said closing lost =
+    client_parts mount.disks script.clients said
+    ++ file_parts (callers_of script.clients) mount mount.files histories
+    ++ closing_lines mount.disks mount.files closing
+    ++ flat_map (lost_line mount) lost

@@ -1,6 +1,7 @@
 //! The log of one file: its events, and the notes of failed calls.
 
-use hist_plain::{Bytes, Event, Items};
+use hist_plain::Event;
+use seen_values::{Bytes, Items};
 
 /// The note of a call that a store's failure ended.
 #[derive(Clone, Copy, Debug, PartialEq, Eq)]

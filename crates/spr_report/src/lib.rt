@@ -1,12 +1,15 @@
-//! The text of a run.
+//! The text of a run, and how a command's text is written and ends.
 #![tactic(auto)]
 
 mod answer;
 mod event;
 mod status;
-mod text;
 mod whole;
+mod writing;
 
 pub use status::Status;
-pub use text::{put, put_line};
-pub use whole::{Run, put_lost, put_status, report};
+pub use whole::{Run, report};
+pub use writing::{finish, write_all, write_lost, write_pieces, write_status};
+
+#[cfg(test)]
+mod tests;

@@ -1,28 +1,30 @@
 //! The whole text of a run.
 
-ghost use Rattle.std.specs.Prelude.{◌≡◌, ◌++◌, ◌∷◌, [], ◌≤◌, ◌+◌, OnOk, IfOk, map, codes, length};
+ghost use Rattle.std.specs.Prelude.{◌≡◌, ◌++◌, ◌∷◌, [], ◌≤◌, ◌+◌, OnOk, IfOk, map, length};
 ghost use Rattle.std.specs.List.{flat_map};
+ghost use Rattle.hist_plain.specs.declared.TheConstants.{MAX_EVENTS};
 ghost use Rattle.hist_plain.specs.History.{AllSuit, entries_from, replay};
-ghost use Rattle.run_defs.specs.Line.{line, name_in};
+ghost use Rattle.stack_accept.specs.Sound.{IsInLimits};
+ghost use Rattle.run_defs.specs.Stack.{shape_of, node_names};
 ghost use Rattle.run_defs.specs.Log.{events_of, IsHistory, AreHistories};
-ghost use Rattle.run_defs.specs.Setting.{IsSetting, shape_of};
-ghost use Rattle.run_defs.specs.Report.{client_parts, entry_line, entries_of, file_part, file_parts, callers_of, closing_lines, lost_line, status_line, report};
-ghost use Rattle.spr_report.specs.Status.{number_of};
+ghost use Rattle.run_defs.specs.Report.{client_parts, entry_line, file_part, file_parts, callers_of, closing_lines, lost_line, report};
 
 use crate::answer::{put_client, put_closing};
 use crate::event::{Names, put_entry};
-use crate::status::Status;
-use crate::text::{put, put_line, put_number};
-use hist_plain::{Plain, Text};
-use run_defs::{FileEntry, History, Logged, LostStore, NodeEntry, Setting};
+use crate::writing::lost_pieces;
+use hist_plain::Plain;
+use run_defs::{History, Logged, StoreKey, parents_of};
 use script_text::{ClientLine, Reply, Said, Script};
+use seen_values::Text;
+use stack_accept::{FileEntry, Mounted};
 use std::alloc::{AllocError, Global};
+use text_words::{put, put_line};
 
 /// All that a report tells of a run.
 #[derive(Clone, Copy)]
 pub struct Run<'a> {
     /// The mounted stack.
-    pub setting: &'a Setting,
+    pub mount: &'a Mounted,
     /// The script.
     pub script: &'a Script,
     /// Each file's history, in the order of the files.
@@ -31,32 +33,8 @@ pub struct Run<'a> {
     pub said: &'a [Vec<Said>],
     /// The answer of each file's closing sync.
     pub closing: &'a [Reply],
-    /// The stores that could not be given back.
-    pub lost: &'a [LostStore],
-    /// How the run ended.
-    pub status: Status,
-}
-
-/// The names of the nodes.
-fn node_names<'a>(alloc: Global, nodes: &'a [NodeEntry]) -> Result<Vec<&'a [u8]>, AllocError>
-    ensures { IfOk result (λ v. map (λ n. n.now) v.items ≡ map (λ n. n.name) nodes.now) }
-{
-    let mut names = Vec::new(alloc);
-    for node in nodes {
-        names.push(node.name.as_str().as_bytes())?;
-    }
-    Ok(names)
-}
-
-/// The names of the disks.
-fn disk_names<'a>(alloc: Global, disks: &'a [Text]) -> Result<Vec<&'a [u8]>, AllocError>
-    ensures { IfOk result (λ v. map (λ n. n.now) v.items ≡ disks.now) }
-{
-    let mut names = Vec::new(alloc);
-    for disk in disks {
-        names.push(disk.as_str().as_bytes())?;
-    }
-    Ok(names)
+    /// The stores that the bay refused to take back.
+    pub lost: &'a [StoreKey],
 }
 
 /// The names of the callers: the clients, and then `mount`.
@@ -75,15 +53,15 @@ fn caller_names<'a>(alloc: Global, clients: &'a [ClientLine]) -> Result<Vec<&'a 
 fn put_clients(
     alloc: Global,
     out: &mut Vec<u8>,
-    disks: &[&[u8]],
+    disks: &[Text],
     clients: &[ClientLine],
     said: &[Vec<Said>],
 ) -> Result<(), AllocError>
     requires { length said.now ≡ length clients.now }
-    ensures { OnOk result (out.new.items ≡ out.old.items ++ client_parts (map (λ d. d.now) disks.now) clients.now (map (λ v. v.items) said.now)) }
+    ensures { OnOk result (out.new.items ≡ out.old.items ++ client_parts disks.now clients.now (map (λ v. v.items) said.now)) }
 {
     for (i, client) in clients.iter().enumerate() {
-        put_client(alloc, out, disks, client.name.as_str().as_bytes(), &said[i])?;
+        put_client(alloc, out, disks, client.name.as_str(), &said[i])?;
     }
     Ok(())
 }
@@ -97,8 +75,8 @@ fn put_logged(
     plain: &mut Plain,
 ) -> Result<(), AllocError>
     requires suit { AllSuit plain.old.shape plain.old.file (events_of (logged.now ∷ [])) }
-    requires room { plain.old.len + length (events_of (logged.now ∷ [])) ≤ 4194304 }
-    ensures line { OnOk result (out.new.items ≡ out.old.items ++ flat_map (entry_line (map (λ n. n.now) names.now.callers.now) (map (λ n. n.now) names.now.nodes.now)) (entries_from plain.old.shape plain.old.file plain.old.len (events_of (logged.now ∷ [])))) }
+    requires room { plain.old.len + length (events_of (logged.now ∷ [])) ≤ MAX_EVENTS }
+    ensures line { OnOk result (out.new.items ≡ out.old.items ++ flat_map (entry_line (map (λ n. n.now) names.now.callers.now) (node_names names.now.nodes.now)) (entries_from plain.old.shape plain.old.file plain.old.len (events_of (logged.now ∷ [])))) }
     ensures file { OnOk result (plain.new.file ≡ replay plain.old.shape plain.old.file (events_of (logged.now ∷ []))) }
     ensures shape { OnOk result (plain.new.shape ≡ plain.old.shape) }
     ensures len { OnOk result (plain.new.len ≡ plain.old.len + length (events_of (logged.now ∷ []))) }
@@ -118,8 +96,8 @@ fn put_entries(
     plain: &mut Plain,
 ) -> Result<(), AllocError>
     requires suit { AllSuit plain.old.shape plain.old.file (events_of log.now) }
-    requires room { plain.old.len + length (events_of log.now) ≤ 4194304 }
-    ensures { OnOk result (out.new.items ≡ out.old.items ++ flat_map (entry_line (map (λ n. n.now) names.now.callers.now) (map (λ n. n.now) names.now.nodes.now)) (entries_from plain.old.shape plain.old.file plain.old.len (events_of log.now))) }
+    requires room { plain.old.len + length (events_of log.now) ≤ MAX_EVENTS }
+    ensures { OnOk result (out.new.items ≡ out.old.items ++ flat_map (entry_line (map (λ n. n.now) names.now.callers.now) (node_names names.now.nodes.now)) (entries_from plain.old.shape plain.old.file plain.old.len (events_of log.now))) }
 {
     for logged in log {
         put_logged(alloc, out, names, logged, plain)?;
@@ -132,24 +110,19 @@ fn put_file(
     alloc: Global,
     out: &mut Vec<u8>,
     names: &Names,
-    setting: &Setting,
+    mount: &Mounted,
     file: &FileEntry,
     history: &History,
 ) -> Result<(), AllocError>
-    requires setting { IsSetting setting.now }
-    requires pages { (1 ≤ file.now.pages) × (file.now.pages ≤ 1024) }
-    requires history { IsHistory (shape_of setting.now) file.now.pages history.now }
-    requires nodes { map (λ n. n.now) names.now.nodes.now ≡ map (λ n. n.name) setting.now.nodes }
-    ensures { OnOk result (out.new.items ≡ out.old.items ++ file_part (map (λ n. n.now) names.now.callers.now) setting.now file.now history.now) }
+    requires pages { IsInLimits file.now.pages }
+    requires history { IsHistory (shape_of mount.now) file.now.pages history.now }
+    requires nodes { names.now.nodes.now ≡ mount.now.nodes }
+    ensures { OnOk result (out.new.items ≡ out.old.items ++ file_part (map (λ n. n.now) names.now.callers.now) mount.now file.now history.now) }
 {
-    put_line(out, b"file", &[file.name.as_str().as_bytes()])?;
-    let parents = setting.parents.as_slice();
-    let mut plain = Plain::new(
-        alloc,
-        setting.page_size,
-        parents,
-        history.opening.as_slice(),
-    )?;
+    put_line(out, &[b"file", file.name.as_str().as_bytes()])?;
+    let parents = parents_of(alloc, mount.tree())?;
+    let opening = history.opening.as_slice();
+    let mut plain = Plain::new(alloc, mount.page_size(), &parents, opening)?;
     put_entries(alloc, out, names, history.log.as_slice(), &mut plain)
 }
 
@@ -158,16 +131,15 @@ fn put_files(
     alloc: Global,
     out: &mut Vec<u8>,
     names: &Names,
-    setting: &Setting,
+    mount: &Mounted,
     histories: &[History],
 ) -> Result<(), AllocError>
-    requires setting { IsSetting setting.now }
-    requires histories { AreHistories (shape_of setting.now) setting.now.files histories.now }
-    requires nodes { map (λ n. n.now) names.now.nodes.now ≡ map (λ n. n.name) setting.now.nodes }
-    ensures { OnOk result (out.new.items ≡ out.old.items ++ file_parts (map (λ n. n.now) names.now.callers.now) setting.now setting.now.files histories.now) }
+    requires histories { AreHistories (shape_of mount.now) mount.now.files histories.now }
+    requires nodes { names.now.nodes.now ≡ mount.now.nodes }
+    ensures { OnOk result (out.new.items ≡ out.old.items ++ file_parts (map (λ n. n.now) names.now.callers.now) mount.now mount.now.files histories.now) }
 {
-    for (i, file) in setting.files.as_slice().iter().enumerate() {
-        put_file(alloc, out, names, setting, file, &histories[i])?;
+    for (i, file) in mount.files().iter().enumerate() {
+        put_file(alloc, out, names, mount, file, &histories[i])?;
     }
     Ok(())
 }
@@ -176,102 +148,58 @@ fn put_files(
 fn put_closings(
     alloc: Global,
     out: &mut Vec<u8>,
-    disks: &[&[u8]],
+    disks: &[Text],
     files: &[FileEntry],
     closing: &[Reply],
 ) -> Result<(), AllocError>
     requires { length closing.now ≡ length files.now }
-    ensures { OnOk result (out.new.items ≡ out.old.items ++ closing_lines (map (λ d. d.now) disks.now) files.now closing.now) }
+    ensures { OnOk result (out.new.items ≡ out.old.items ++ closing_lines disks.now files.now closing.now) }
 {
     for (i, file) in files.iter().enumerate() {
-        put_closing(
-            alloc,
-            out,
-            disks,
-            file.name.as_str().as_bytes(),
-            &closing[i],
-        )?;
+        put_closing(alloc, out, disks, file.name.as_str(), &closing[i])?;
     }
     Ok(())
 }
 
-/// The name of a file, by its number.
-fn file_name(files: &[FileEntry], number: u32) -> &[u8]
-    ensures { result.now ≡ name_in (map (λ f. f.name) files.now) number }
+/// Appends the pieces, one after another.
+fn put_pieces(out: &mut Vec<u8>, pieces: &[&[u8]]) -> Result<(), AllocError>
+    ensures { OnOk result (out.new.items ≡ out.old.items ++ flat_map (λ p. p.now) pieces.now) }
 {
-    match files.get(number as usize) {
-        Some(file) => file.name.as_str().as_bytes(),
-        None => &[],
+    for piece in pieces {
+        put(out, piece)?;
     }
+    Ok(())
 }
 
-/// The name of a disk, by its number.
-fn disk_name(disks: &[Text], number: u32) -> &[u8]
-    ensures { result.now ≡ name_in disks.now number }
-{
-    match disks.get(number as usize) {
-        Some(disk) => disk.as_str().as_bytes(),
-        None => &[],
-    }
-}
-
-/// Appends a line for each store that could not be given back.
-pub fn put_lost(out: &mut Vec<u8>, setting: &Setting, lost: &[LostStore]) -> Result<(), AllocError>
-    ensures { OnOk result (out.new.items ≡ out.old.items ++ flat_map (lost_line setting.now) lost.now) }
+/// Appends a line for each store that the bay refused to take back.
+fn put_lost(out: &mut Vec<u8>, mount: &Mounted, lost: &[StoreKey]) -> Result<(), AllocError>
+    ensures { OnOk result (out.new.items ≡ out.old.items ++ flat_map (lost_line mount.now) lost.now) }
 {
     for one in lost {
-        let disk = disk_name(setting.disks.as_slice(), one.disk);
-        put_line(
-            out,
-            b"bay",
-            &[disk, file_name(setting.files.as_slice(), one.file)],
-        )?;
+        put_pieces(out, &lost_pieces(mount, *one))?;
     }
     Ok(())
 }
 
-/// Appends the line of the status.
-pub fn put_status(alloc: Global, out: &mut Vec<u8>, status: Status) -> Result<(), AllocError>
-    ensures { OnOk result (out.new.items ≡ out.old.items ++ status_line (number_of status)) }
-{
-    let number = u64::from(status.number()).to_string(alloc)?;
-    put_line(out, b"status", &[number.as_bytes()])
-}
-
-/// The text of a run that reached its phases: the answers of each client, the history of each file,
-/// the closing syncs that failed, the stores that were lost, and the status.
+/// The text of a run that reached its phases, without the line of its status: the answers of each
+/// client, the history of each file, the closing syncs that failed, and the stores that were lost.
 pub fn report(alloc: Global, run: &Run<'_>) -> Result<Vec<u8>, AllocError>
-    requires setting { IsSetting run.now.setting.now }
-    requires histories { AreHistories (shape_of run.now.setting.now) run.now.setting.now.files run.now.histories.now }
+    requires histories { AreHistories (shape_of run.now.mount.now) run.now.mount.now.files run.now.histories.now }
     requires said { length run.now.said.now ≡ length run.now.script.now.clients }
-    requires closing { length run.now.closing.now ≡ length run.now.setting.now.files }
-    ensures { IfOk result (λ text. text.items ≡ report run.now.setting.now run.now.script.now run.now.histories.now (map (λ v. v.items) run.now.said.now) run.now.closing.now run.now.lost.now (number_of run.now.status)) }
+    requires closing { length run.now.closing.now ≡ length run.now.mount.now.files }
+    ensures { IfOk result (λ text. text.items ≡ report run.now.mount.now run.now.script.now run.now.histories.now (map (λ v. v.items) run.now.said.now) run.now.closing.now run.now.lost.now) }
 {
     let mut out = Vec::new(alloc);
-    let setting = run.setting;
-    let disks = disk_names(alloc, setting.disks.as_slice())?;
-    let callers = caller_names(alloc, run.script.clients.as_slice())?;
-    let nodes = node_names(alloc, setting.nodes.as_slice())?;
+    let mount = run.mount;
+    let clients = run.script.clients.as_slice();
+    let callers = caller_names(alloc, clients)?;
     let names = Names {
         callers: &callers,
-        nodes: &nodes,
+        nodes: mount.nodes(),
     };
-    put_clients(
-        alloc,
-        &mut out,
-        &disks,
-        run.script.clients.as_slice(),
-        run.said,
-    )?;
-    put_files(alloc, &mut out, &names, setting, run.histories)?;
-    put_closings(
-        alloc,
-        &mut out,
-        &disks,
-        setting.files.as_slice(),
-        run.closing,
-    )?;
-    put_lost(&mut out, setting, run.lost)?;
-    put_status(alloc, &mut out, run.status)?;
+    put_clients(alloc, &mut out, mount.disks(), clients, run.said)?;
+    put_files(alloc, &mut out, &names, mount, run.histories)?;
+    put_closings(alloc, &mut out, mount.disks(), mount.files(), run.closing)?;
+    put_lost(&mut out, mount, run.lost)?;
     Ok(out)
 }

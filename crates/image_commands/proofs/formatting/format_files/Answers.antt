@@ -1,10 +1,12 @@
-use Rattle.std.proofs.Common.{[], inl, refl}
+use Rattle.std.proofs.Common.{[], inl}
 use Rattle.file_stores.specs.declared.stop.Stop.TheVariants as stops
-use Rattle.file_stores.proofs.BackLaws.{came-none}
-use Rattle.image_commands.specs.Formats.{stopped}
+use Rattle.file_stores.specs.Keys.{stores_of}
+use Rattle.file_stores.proofs.ReturnLaws.{no-memory}
+use Rattle.image_commands.proofs.SaysLaws.{formats-not}
 use Rattle.image_commands.proofs.formatting.format_files.Goals as goal
 
 pub returns-in-Err : goal.returns-in-Err
-returns-in-Err g c = record {
-  formats = stopped stops.Memory [] (inl (came-none c.args.setting.now (g.B.Bay.berth c.args.bay.now) (g.B.Bay.berth c.args.bay.now) (g.B.Bay.faults c.args.bay.now) (g.B.Bay.faults c.args.bay.now) (λ d n. refl))) c.stopped.ensures;
-}
+returns-in-Err g c =
+    let mount = c.args.mount.now in
+    let bay = g.B.Bay.told c.args.bay.now in
+    record { formats = formats-not mount bay bay (stores_of mount) [] stops.Memory (g.K.Sink.told c.args.sink.now) (g.K.Sink.told c.stopped.new.sink) c.stopped.result (inl (no-memory mount bay (stores_of mount))) c.stopped.ensures }

@@ -1,40 +1,35 @@
-use Rattle.std.proofs.Common.{List, Bool, subst}
+use Rattle.std.proofs.Common.{List, subst}
+use Rattle.run_defs.specs.declared.store.StoreKey.{StoreKey}
+use Rattle.spr_report.specs.Writing.{Finishes}
 use Rattle.file_stores.specs.declared.stop.Stop.{Stop}
-use Rattle.file_stores.specs.Held.{StoreSeen}
-use Rattle.file_stores.specs.Stop.{stop_text, stop_status}
-use Rattle.file_stores.specs.Writing.{Finishes}
-use Rattle.image_commands.specs.Told.{done_status, done_text}
-use Rattle.image_commands.proofs.FreshLaws.{went-number}
-use Rattle.image_commands.proofs.TurnLaws.{formats-of, formats-broken}
+use Rattle.file_stores.specs.Stop.{lost_text, stop_text, stop_status}
+use Rattle.image_commands.specs.Told.{done_status}
+use Rattle.image_commands.proofs.SaysLaws.{formats-all, formats-broken}
 use Rattle.image_commands.proofs.formatting.format_taken.Goals as goal
 
 pub returns-in-None : goal.returns-in-None
 returns-in-None g c =
-    let setting = c.args.setting.now in
-    let olds : List StoreSeen = c.args.room.taken.items in
-    let news : List StoreSeen = c.format_stores-broke.new.left.items in
-    let gone : List Bool = c.give_back-gone.result.items in
-    let fin : Finishes (g.K.Sink.written c.args.sink.now) (g.K.Sink.written c.tell.new.sink) (g.K.Sink.faults c.args.sink.now) (g.K.Sink.faults c.tell.new.sink) (done_text setting gone) (done_status gone) c.tell.result =
-    subst (λ (l : List Bool). Finishes (g.K.Sink.written c.args.sink.now) (g.K.Sink.written c.tell.new.sink) (g.K.Sink.faults c.args.sink.now) (g.K.Sink.faults c.tell.new.sink) (done_text setting l) (done_status l) c.tell.result) c.deref.ensures.value c.tell.ensures in
+    let mount = c.args.mount.now in
+    let lost : List StoreKey = c.give_back.new.lost.items in
+    let old = g.K.Sink.told c.args.sink.now in
+    let new = g.K.Sink.told c.tell.new.sink in
     record {
-      ended = λ before faults out le.
-          formats-of setting before (g.B.Bay.berth c.args.bay.now) (g.B.Bay.berth c.give_back-gone.new.bay) faults (g.B.Bay.faults c.args.bay.now) (g.B.Bay.faults c.give_back-gone.new.bay) olds news gone
-          (g.K.Sink.written c.args.sink.now) (g.K.Sink.written c.tell.new.sink) (g.K.Sink.faults c.args.sink.now) (g.K.Sink.faults c.tell.new.sink) c.tell.result
-          (record { out = out; later = le; given = c.give_back-gone.ensures; number = went-number setting olds news c.format_stores-broke.result c.format_stores-broke.ensures; all = c.requires.number }) c.in-None.ensures fin;
+      ended = λ before out calm.
+          formats-all mount before (g.B.Bay.told c.args.bay.now) (g.B.Bay.told c.give_back.new.bay) c.args.room.keys.items lost c.args.room.taken.items c.format_stores-broke.new.left.items old new c.tell.result
+          c.requires.keys out calm c.give_back.ensures c.in-None.ensures
+          (subst (λ (l : List StoreKey). Finishes old new (lost_text mount l) (done_status l) c.tell.result) c.deref.ensures.value c.tell.ensures);
     }
 
 pub returns : goal.returns
 returns g c =
-    let setting = c.args.setting.now in
-    let olds : List StoreSeen = c.args.room.taken.items in
-    let news : List StoreSeen = c.format_stores-broke.new.left.items in
-    let gone : List Bool = c.give_back-gone.result.items in
+    let mount = c.args.mount.now in
+    let lost : List StoreKey = c.give_back.new.lost.items in
     let stop : Stop = c.in-Some.stop in
-    let fin : Finishes (g.K.Sink.written c.args.sink.now) (g.K.Sink.written c.stopped.new.sink) (g.K.Sink.faults c.args.sink.now) (g.K.Sink.faults c.stopped.new.sink) (stop_text setting gone stop) (stop_status stop) c.stopped.result =
-    subst (λ (l : List Bool). Finishes (g.K.Sink.written c.args.sink.now) (g.K.Sink.written c.stopped.new.sink) (g.K.Sink.faults c.args.sink.now) (g.K.Sink.faults c.stopped.new.sink) (stop_text setting l stop) (stop_status stop) c.stopped.result) c.deref-in-Some.ensures.value c.stopped.ensures in
+    let old = g.K.Sink.told c.args.sink.now in
+    let new = g.K.Sink.told c.stopped.new.sink in
     record {
-      ended = λ before faults out le.
-          formats-broken setting before (g.B.Bay.berth c.args.bay.now) (g.B.Bay.berth c.give_back-gone.new.bay) faults (g.B.Bay.faults c.args.bay.now) (g.B.Bay.faults c.give_back-gone.new.bay) olds news gone stop
-          (g.K.Sink.written c.args.sink.now) (g.K.Sink.written c.stopped.new.sink) (g.K.Sink.faults c.args.sink.now) (g.K.Sink.faults c.stopped.new.sink) c.stopped.result
-          (record { out = out; later = le; given = c.give_back-gone.ensures; number = went-number setting olds news c.format_stores-broke.result c.format_stores-broke.ensures; all = c.requires.number }) c.in-Some.ensures fin;
+      ended = λ before out calm.
+          formats-broken mount before (g.B.Bay.told c.args.bay.now) (g.B.Bay.told c.give_back.new.bay) c.args.room.keys.items lost c.args.room.taken.items c.format_stores-broke.new.left.items stop old new c.stopped.result
+          c.requires.keys out calm c.give_back.ensures c.in-Some.ensures
+          (subst (λ (l : List StoreKey). Finishes old new (stop_text mount stop l) (stop_status stop) c.stopped.result) c.deref-in-Some.ensures.value c.stopped.ensures);
     }

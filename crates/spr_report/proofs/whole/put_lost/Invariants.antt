@@ -4,4 +4,4 @@ use Rattle.run_defs.specs.Report.{lost_line}
 use Rattle.spr_report.proofs.whole.put_lost.Given as goal
 
 abbrev pub invariant-loop-one : goal.invariant-loop-one
-invariant-loop-one l = l.out.items ≡ l.fn.out.items ++ flat_map (lost_line l.setting) (take l.one-index l.lost)
+invariant-loop-one l = l.out.items ≡ l.fn.out.items ++ flat_map (lost_line l.mount) (take l.one-index l.lost)
