@@ -1,7 +1,7 @@
 -- How the closing syncs are put together.
 use Rattle.std.proofs.Common.{◌≡◌, ◌≢◌, ⊎_elim, ℕ, zero, suc, ◌+◌, ◌<◌, List, [], ◌∷◌, ◌++◌, length, map, set, take, get_or, Some, IfSome, OnOk, Result, Ok, Err, refl, sym, ap, subst, ◌∙◌, arith, append_assoc}
 use Rattle.std.specs.Prelude.{slice_get}
-use Rattle.std.proofs.lemmas.List.{append-nil, take_more}
+use Rattle.std.proofs.lemmas.List.{append-nil, take_more, length-map}
 use mathlib.Core.Logic.{dite}
 use native.Mathlib.Decide.{ℕ_discrete}
 use Rattle.hist_plain.specs.declared.event.Event.{Event}
@@ -16,14 +16,16 @@ use Rattle.run_defs.specs.declared.call.CallErr.TheVariants.{StoreFault, TrailFu
 use Rattle.run_defs.specs.declared.log.Logged.{Logged}
 use Rattle.run_defs.specs.declared.log.Logged.TheVariants.{Entered}
 use Rattle.run_defs.specs.declared.log.History.{History}
-use Rattle.run_defs.specs.declared.object.OpenObject.{OpenObject}
-use Rattle.run_defs.specs.declared.setting.Setting.{Setting}
-use Rattle.run_defs.specs.declared.setting.FileEntry.{FileEntry}
-use Rattle.run_defs.specs.Setting.{shape_of}
-use Rattle.run_defs.specs.Log.{events_of, trail_of, file_of, IsFull}
+use Rattle.tower_core.specs.TreeShape.{TreeShape}
+use Rattle.stack_accept.specs.Mount.{Mount}
+use Rattle.stack_accept.specs.Sound.{IsMount}
+use Rattle.stack_accept.specs.declared.entries.FileEntry.{FileEntry}
+use Rattle.run_defs.specs.declared.client.ClientState.{ClientState}
+use Rattle.run_defs.specs.Stack.{shape_of}
+use Rattle.run_defs.specs.Log.{events_of, trail_of, file_of, IsFull, EndsSynced}
 use Rattle.run_defs.specs.Kept.{ArePages}
 use Rattle.run_defs.specs.Plan.{Made, sync, Asks, Goes}
-use Rattle.run_defs.specs.Fits.{Line, Closes, plan_closing}
+use Rattle.run_defs.specs.Fits.{Line, Closes, no_client, plan_closing}
 use Rattle.run_defs.specs.Calls.{Called, refusal_of}
 use Rattle.run_defs.proofs.Logs.{events_of-append, events_of-entered}
 use Rattle.run_defs.proofs.Parts.{did_nothing, did_then, full_later, goes_later}
@@ -31,8 +33,9 @@ use Rattle.disk_layer.specs.Disk.{kept_on}
 use Rattle.plain_tower.specs.Pages.{KeepsPages}
 use Rattle.plain_tower.specs.Tower.{TowerSeen}
 use Rattle.plain_run.specs.Towers.{histories}
+use Rattle.plain_run.proofs.Lists.{at-end, last-is}
 use Rattle.plain_run.specs.Lines.{LineDone}
-use Rattle.plain_run.specs.Phases.{EndsSynced, IsClosed, FilesClosed}
+use Rattle.plain_run.specs.Phases.{IsClosed, FilesClosed}
 
 ends-synced : (caller : ℕ) (node : ℕ) (keep : Keep) (event : Event) (before : List Event) → Asks caller (sync node keep) event → EndsSynced caller (before ++ event ∷ [])
 ends-synced caller node keep (events.Synced by number at from kept) before asks =
@@ -66,41 +69,41 @@ set-there P (x ∷ xs) zero t' t p lt is = let e : t' ≡ t = same-tower t' t is
 set-there P (x ∷ xs) (suc k) t' t p lt is = set-there P xs k t' t p (omega arith) is
 
 -- a line of a closing sync follows its plan
-goes-closing : (Full : ℕ → Type 0) (mount file : ℕ) (made : List Made) (said : Reply) (left : List OpenObject) → Line Full mount [] (plan_closing file) made said left → Goes Full mount (plan_closing file) made said left
-goes-closing Full mount file made said left line = ⊎_elim (λ goes. goes)
-    (λ lacks. subst (λ (m : List Made). Goes Full mount (plan_closing file) m said left) (sym lacks.nothing)
-    (subst (λ (r : Reply). Goes Full mount (plan_closing file) [] r left) (sym lacks.memory) (tt, lacks.same)))
+goes-closing : (Full : ℕ → Type 0) (closer file : ℕ) (made : List Made) (said : Reply) (left : ClientState) → Line Full closer no_client (plan_closing file) made said left → Goes Full closer (plan_closing file) made said left
+goes-closing Full closer file made said left line = ⊎_elim (λ goes. goes)
+    (λ lacks. subst (λ (m : List Made). Goes Full closer (plan_closing file) m said left) (sym lacks.nothing)
+    (subst (λ (r : Reply). Goes Full closer (plan_closing file) [] r left) (sym lacks.memory) (tt, lacks.same)))
     line
 
-closes-later : (F G : ℕ → Type 0) → ((file : ℕ) → F file → G file) → (mount file : ℕ) (files : List FileEntry) (made : List Made) (replies : List Reply) → Closes F mount file files made replies → Closes G mount file files made replies
-closes-later F G f mount file [] made replies h = h
-closes-later F G f mount file (e ∷ es) made [] h = h
-closes-later F G f mount file (e ∷ es) made (r ∷ rs) h = (h.0, h.1, h.2, h.3, goes_later F G f mount (plan_closing file) h.0 r h.2 h.4, closes-later F G f mount (suc file) es h.1 rs h.5)
+closes-later : (F G : ℕ → Type 0) → ((file : ℕ) → F file → G file) → (closer file : ℕ) (files : List FileEntry) (made : List Made) (replies : List Reply) → Closes F closer file files made replies → Closes G closer file files made replies
+closes-later F G f closer file [] made replies h = h
+closes-later F G f closer file (e ∷ es) made [] h = h
+closes-later F G f closer file (e ∷ es) made (r ∷ rs) h = (h.0, h.1, h.2, h.3, goes_later F G f closer (plan_closing file) h.0 r h.2 h.4, closes-later F G f closer (suc file) es h.1 rs h.5)
 
-closes-more : (F : ℕ → Type 0) (mount file : ℕ) (files : List FileEntry) (entry : FileEntry) (made next : List Made) (replies : List Reply) (reply : Reply) (left : List OpenObject)
-    → Closes F mount file files made replies → Goes F mount (plan_closing (file + length files)) next reply left → Closes F mount file (files ++ entry ∷ []) (made ++ next) (replies ++ reply ∷ [])
-closes-more F mount file [] entry made next replies reply left h goes =
-    rw (h.0, h.1) (next, [], left, sym (append-nil next), subst (λ n. Goes F mount (plan_closing n) next reply left) (omega arith) goes, (refl, refl))
-closes-more F mount file (e ∷ es) entry made next [] reply left h goes = absurd h
-closes-more F mount file (e ∷ es) entry made next (r ∷ rs) reply left h goes = (
+closes-more : (F : ℕ → Type 0) (closer file : ℕ) (files : List FileEntry) (entry : FileEntry) (made next : List Made) (replies : List Reply) (reply : Reply) (left : ClientState)
+    → Closes F closer file files made replies → Goes F closer (plan_closing (file + length files)) next reply left → Closes F closer file (files ++ entry ∷ []) (made ++ next) (replies ++ reply ∷ [])
+closes-more F closer file [] entry made next replies reply left h goes =
+    rw (h.0, h.1) (next, [], left, sym (append-nil next), subst (λ n. Goes F closer (plan_closing n) next reply left) (omega arith) goes, (refl, refl))
+closes-more F closer file (e ∷ es) entry made next [] reply left h goes = absurd h
+closes-more F closer file (e ∷ es) entry made next (r ∷ rs) reply left h goes = (
   h.0,
   h.1 ++ next,
   h.2,
   ap (λ (ms : List Made). ms ++ next) h.3 ∙ append_assoc h.0 h.1 next,
   h.4,
-  closes-more F mount (suc file) es entry h.1 next rs reply left h.5 (subst (λ n. Goes F mount (plan_closing n) next reply left) (omega arith) goes),
+  closes-more F closer (suc file) es entry h.1 next rs reply left h.5 (subst (λ n. Goes F closer (plan_closing n) next reply left) (omega arith) goes),
 )
 
 no-reply : (file : ℕ) → slice_get {X = Reply} [] file ≡ Some replies.Done → ⊥
 no-reply file e = cc
 
 -- no file is closed yet
-pub closed-none : (setting : Setting) (mount : ℕ) (towers : List TowerSeen) → FilesClosed setting mount [] [] towers towers
-closed-none setting mount towers = record {
+pub closed-none : (mount : Mount) (closer : ℕ) (towers : List TowerSeen) → FilesClosed mount closer [] [] towers towers
+closed-none mount closer towers = record {
   made = [];
-  did = did_nothing (shape_of setting) mount (histories towers) (histories towers) refl;
+  did = did_nothing (shape_of mount) closer (histories towers) (histories towers) refl;
   closes = (refl, refl);
-  others = λ other ne. did_nothing (shape_of setting) other (histories towers) (histories towers) refl;
+  others = λ other ne. did_nothing (shape_of mount) other (histories towers) (histories towers) refl;
   closed = λ file t none there. absurd (no-reply file none);
 }
 
@@ -112,32 +115,22 @@ closed-result caller node keep old t' (Ok a) ts k called kept lt =
     λ t is. set-there (IsClosed caller) ts k t' t (record { ends = called-ends old.log.shape caller node keep old.log.history t'.log.history [] a called; kept = kept }) lt is
 closed-result caller node keep old t' (Err e) ts k called kept lt = tt
 
-at-end : {A : Type 0} (xs : List A) (x y : A) (k : ℕ) → slice_get (xs ++ x ∷ []) k ≡ Some y → k ≢ length xs → slice_get xs k ≡ Some y
-at-end [] x y zero is ne = absurd (ne refl)
-at-end [] x y (suc k) is ne = is
-at-end (a ∷ xs) x y zero is ne = is
-at-end (a ∷ xs) x y (suc k) is ne = at-end xs x y k is (λ e. ne (ap suc e))
-
-last-is : {A : Type 0} (xs : List A) (x y : A) → slice_get (xs ++ x ∷ []) (length xs) ≡ Some y → Some x ≡ Some y
-last-is [] x y is = is
-last-is (a ∷ xs) x y is = last-is xs x y is
-
 same-reply : (a b : Reply) → Some a ≡ Some b → a ≡ b
 same-reply a b e = cc
 
 -- one more file is closed
-pub closed-next : (setting : Setting) (mount i : ℕ) (files : List FileEntry) (entry : FileEntry) (said : List Reply) (reply : Reply) (before mid after : List TowerSeen) → length files ≡ i → length said ≡ i
-    → FilesClosed setting mount files said before mid → LineDone setting mount [] (plan_closing i) mid after reply []
-    → (reply ≡ replies.Done → (t : TowerSeen) → slice_get after i ≡ Some t → IsClosed mount t) → ((j : ℕ) → j ≢ i → slice_get after j ≡ slice_get mid j)
-    → FilesClosed setting mount (files ++ entry ∷ []) (said ++ reply ∷ []) before after
-closed-next setting mount i files entry said reply before mid after len_files len_said so done closed stays =
-    let shape : Shape = shape_of setting in
+pub closed-next : (mount : Mount) (closer i : ℕ) (files : List FileEntry) (entry : FileEntry) (said : List Reply) (reply : Reply) (before mid after : List TowerSeen) → length files ≡ i → length said ≡ i
+    → FilesClosed mount closer files said before mid → LineDone mount closer no_client (plan_closing i) mid after reply no_client
+    → (reply ≡ replies.Done → (t : TowerSeen) → slice_get after i ≡ Some t → IsClosed closer t) → ((j : ℕ) → j ≢ i → slice_get after j ≡ slice_get mid j)
+    → FilesClosed mount closer (files ++ entry ∷ []) (said ++ reply ∷ []) before after
+closed-next mount closer i files entry said reply before mid after len_files len_said so done closed stays =
+    let shape : Shape = shape_of mount in
     record {
       made = so.made ++ done.went.made;
-      did = did_then shape mount (histories before) (histories mid) (histories after) so.made done.went.made so.did done.went.did;
-      closes = closes-more (IsFull (histories after)) mount 0 files entry so.made done.went.made said reply []
-          (closes-later (IsFull (histories mid)) (IsFull (histories after)) (full_later (histories mid) (histories after) done.went.did.later) mount 0 files so.made said so.closes)
-          (subst (λ n. Goes (IsFull (histories after)) mount (plan_closing n) done.went.made reply []) (omega arith) (goes-closing (IsFull (histories after)) mount i done.went.made reply [] done.went.goes));
+      did = did_then shape closer (histories before) (histories mid) (histories after) so.made done.went.made so.did done.went.did;
+      closes = closes-more (IsFull (histories after)) closer 0 files entry so.made done.went.made said reply no_client
+          (closes-later (IsFull (histories mid)) (IsFull (histories after)) (full_later (histories mid) (histories after) done.went.did.later) closer 0 files so.made said so.closes)
+          (subst (λ n. Goes (IsFull (histories after)) closer (plan_closing n) done.went.made reply no_client) (omega arith) (goes-closing (IsFull (histories after)) closer i done.went.made reply no_client done.went.goes));
       others = λ other ne. did_then shape other (histories before) (histories mid) (histories after) [] [] (so.others other ne) (done.others other ne);
       closed = λ file t is there. dite (ℕ_discrete file i)
           (λ same.
@@ -151,3 +144,10 @@ closed-next setting mount i files entry said reply before mid after len_files le
 pub take-next : (files : List FileEntry) (k : ℕ) → k < length files → (entry : FileEntry) × (take (k + 1) files ≡ take k files ++ entry ∷ [])
 take-next [] k lt = absurd (omega arith)
 take-next (f ∷ files) k lt = (get_or (f ∷ files) k f, take_more (f ∷ files) k f lt)
+
+-- there is a layer that stands on the ground
+pub layer-above : (mount : Mount) → IsMount mount → 1 < length mount.tree.parents
+layer-above mount sound =
+    let counted : length mount.tree.parents ≡ length mount.nodes = ap (λ (t : TreeShape). length t.parents) sound.served ∙ length-map mount.nodes _ in
+    let some = sound.some_layer in
+    omega (arith, counted, some)

@@ -1,6 +1,7 @@
 pub mod TowerLaws
-pub mod RouteLaws
+pub mod Lists
 pub mod LineLaws
 pub mod PhaseLaws
+pub mod StartLaws
 pub mod ClosingLaws
 pub mod TestLaws

@@ -8,14 +8,16 @@ use Rattle.std.proofs.Math.Seq.{map-set_same}
 use Rattle.run_defs.specs.declared.log.History.{History}
 use Rattle.run_defs.specs.declared.call.Answered.{Answered}
 use Rattle.run_defs.specs.declared.call.CallErr.{CallErr}
-use Rattle.run_defs.specs.declared.setting.Setting.{Setting}
-use Rattle.run_defs.specs.declared.setting.FileEntry.{FileEntry}
-use Rattle.run_defs.specs.Setting.{shape_of}
+use Rattle.stack_accept.specs.Mount.{Mount}
+use Rattle.stack_accept.specs.declared.entries.FileEntry.{FileEntry}
+use Rattle.run_defs.specs.Stack.{shape_of}
 use Rattle.run_defs.specs.Log.{history_at}
 use Rattle.run_defs.specs.Plan.{Ask, asking}
 use Rattle.run_defs.specs.Calls.{Called, CalledAt}
-use Rattle.plain_tower.specs.Tower.{TowerSeen, SameDisk}
-use Rattle.plain_run.specs.Towers.{Frame, frame_of, frames, histories, AreFrames, AreTowers}
+use Rattle.plain_tower.specs.Seen.{tree_of}
+use Rattle.plain_tower.specs.Tower.{TowerSeen, SameDisk, IsLater}
+use Rattle.plain_tower.proofs.Later.{later-same, later-then}
+use Rattle.plain_run.specs.Towers.{Frame, frame_of, frames, histories, AreFrames, AreTowers, EachLater, AreLater}
 
 abbrev none : History
 none = record { opening = []; log = [] }
@@ -68,8 +70,8 @@ read-tower P ts k d lt h = h (get_or ts k d) (slice_get-get_or ts k d lt)
 pub frame-goes : (a b : TowerSeen) → b ≡ record a { log = record a.log { history = b.log.history; room = b.log.room }; disk = b.disk } → SameDisk a.disk b.disk → frame_of b ≡ frame_of a
 frame-goes a b same d =
     ap frame_of same
-    ∙ (ap (λ n. let f : Frame = record { shape = a.log.shape; pages = a.log.pages; callers = a.log.callers; disk = n; opened = b.disk.opened } in f) d.disk
-    ∙ ap (λ n. let f : Frame = record { shape = a.log.shape; pages = a.log.pages; callers = a.log.callers; disk = a.disk.disk; opened = n } in f) d.opened)
+    ∙ (ap (λ n. let f : Frame = record { shape = a.log.shape; tree = tree_of a.log; pages = a.log.pages; callers = a.log.callers; disk = n; opened = b.disk.opened } in f) d.disk
+    ∙ ap (λ n. let f : Frame = record { shape = a.log.shape; tree = tree_of a.log; pages = a.log.pages; callers = a.log.callers; disk = a.disk.disk; opened = n } in f) d.opened)
 
 -- a call keeps what a tower is
 pub frames-set : (ts : List TowerSeen) (k : ℕ) (d t' : TowerSeen) → frame_of t' ≡ frame_of (get_or ts k d) → frames (set ts k t') ≡ frames ts
@@ -82,50 +84,80 @@ same-frame : (x f : Frame) → Some x ≡ Some f → x ≡ f
 same-frame x f e = cc
 
 -- what the frame of a file is
-pub record FrameAt (setting : Setting) (caller : ℕ) (files : List FileEntry) (k : ℕ) (f : Frame) : Type 0 where
+pub record FrameAt (mount : Mount) (caller : ℕ) (files : List FileEntry) (k : ℕ) (f : Frame) : Type 0 where
   pub entry : FileEntry
   pub there : slice_get files k ≡ Some entry
-  pub shape : f.shape ≡ shape_of setting
+  pub shape : f.shape ≡ shape_of mount
+  pub tree : f.tree ≡ mount.tree
   pub pages : f.pages ≡ entry.pages
   pub callers : caller < f.callers
 
-pub frame-at : (setting : Setting) (caller : ℕ) (files : List FileEntry) (fs : List Frame) (k : ℕ) (f : Frame) → AreFrames setting caller files fs → slice_get fs k ≡ Some f → FrameAt setting caller files k f
-frame-at setting caller [] [] k f h there = absurd (no-frame k f there)
-frame-at setting caller [] (x ∷ xs) k f h there = absurd h
-frame-at setting caller (e ∷ es) [] k f h there = absurd h
-frame-at setting caller (e ∷ es) (x ∷ xs) zero f h there =
+pub frame-at : (mount : Mount) (caller : ℕ) (files : List FileEntry) (fs : List Frame) (k : ℕ) (f : Frame) → AreFrames mount caller files fs → slice_get fs k ≡ Some f → FrameAt mount caller files k f
+frame-at mount caller [] [] k f h there = absurd (no-frame k f there)
+frame-at mount caller [] (x ∷ xs) k f h there = absurd h
+frame-at mount caller (e ∷ es) [] k f h there = absurd h
+frame-at mount caller (e ∷ es) (x ∷ xs) zero f h there =
     let is : x ≡ f = same-frame x f there in
     record {
       entry = e;
       there = refl;
-      shape = subst (λ (y : Frame). y.shape ≡ shape_of setting) is h.0;
-      pages = subst (λ (y : Frame). y.pages ≡ e.pages) is h.1;
-      callers = subst (λ (y : Frame). caller < y.callers) is h.2;
+      shape = subst (λ (y : Frame). y.shape ≡ shape_of mount) is h.0;
+      tree = subst (λ (y : Frame). y.tree ≡ mount.tree) is h.1;
+      pages = subst (λ (y : Frame). y.pages ≡ e.pages) is h.2;
+      callers = subst (λ (y : Frame). caller < y.callers) is h.3;
     }
-frame-at setting caller (e ∷ es) (x ∷ xs) (suc k) f h there =
-    let r = frame-at setting caller es xs k f h.3 there in
-    record { entry = r.entry; there = r.there; shape = r.shape; pages = r.pages; callers = r.callers }
+frame-at mount caller (e ∷ es) (x ∷ xs) (suc k) f h there =
+    let r = frame-at mount caller es xs k f h.4 there in
+    record { entry = r.entry; there = r.there; shape = r.shape; tree = r.tree; pages = r.pages; callers = r.callers }
 
-pub length-frames : (setting : Setting) (caller : ℕ) (files : List FileEntry) (fs : List Frame) → AreFrames setting caller files fs → length fs ≡ length files
-length-frames setting caller [] [] h = refl
-length-frames setting caller [] (x ∷ xs) h = absurd h
-length-frames setting caller (e ∷ es) [] h = absurd h
-length-frames setting caller (e ∷ es) (x ∷ xs) h = ap suc (length-frames setting caller es xs h.3)
+pub length-frames : (mount : Mount) (caller : ℕ) (files : List FileEntry) (fs : List Frame) → AreFrames mount caller files fs → length fs ≡ length files
+length-frames mount caller [] [] h = refl
+length-frames mount caller [] (x ∷ xs) h = absurd h
+length-frames mount caller (e ∷ es) [] h = absurd h
+length-frames mount caller (e ∷ es) (x ∷ xs) h = ap suc (length-frames mount caller es xs h.4)
 
 length-map-frames : (ts : List TowerSeen) → length (frames ts) ≡ length ts
 length-map-frames [] = refl
 length-map-frames (t ∷ ts) = ap suc (length-map-frames ts)
 
 -- a tower for each file
-pub length-towers : (setting : Setting) (caller : ℕ) (ts : List TowerSeen) → AreTowers setting caller ts → length ts ≡ length setting.files
-length-towers setting caller ts h = sym (length-map-frames ts) ∙ length-frames setting caller setting.files (frames ts) h
+pub length-towers : (mount : Mount) (caller : ℕ) (ts : List TowerSeen) → AreTowers mount caller ts → length ts ≡ length mount.files
+length-towers mount caller ts h = sym (length-map-frames ts) ∙ length-frames mount caller mount.files (frames ts) h
 
 -- the tower of a file
-pub tower-at : (setting : Setting) (caller : ℕ) (ts : List TowerSeen) (k : ℕ) (t : TowerSeen) → AreTowers setting caller ts → slice_get ts k ≡ Some t → FrameAt setting caller setting.files k (frame_of t)
-tower-at setting caller ts k t h there = frame-at setting caller setting.files (frames ts) k (frame_of t) h (slice_get-map frame_of ts k ∙ ap (λ (o : Option TowerSeen). option_map frame_of o) there)
+pub tower-at : (mount : Mount) (caller : ℕ) (ts : List TowerSeen) (k : ℕ) (t : TowerSeen) → AreTowers mount caller ts → slice_get ts k ≡ Some t → FrameAt mount caller mount.files k (frame_of t)
+tower-at mount caller ts k t h there = frame-at mount caller mount.files (frames ts) k (frame_of t) h (slice_get-map frame_of ts k ∙ ap (λ (o : Option TowerSeen). option_map frame_of o) there)
 
 -- the tower that is there
 pub tower-there : (ts : List TowerSeen) (k : ℕ) → k < length ts → (t : TowerSeen) × (slice_get ts k ≡ Some t)
 tower-there [] k lt = absurd (omega arith)
 tower-there (t ∷ ts) zero lt = (t, refl)
 tower-there (t ∷ ts) (suc k) lt = tower-there ts k (omega arith)
+
+each-same : (ts : List TowerSeen) → EachLater ts ts
+each-same [] = tt
+each-same (t ∷ ts) = (later-same t, each-same ts)
+
+each-set : (ts : List TowerSeen) (k : ℕ) (d t' : TowerSeen) → IsLater (get_or ts k d) t' → EachLater ts (set ts k t')
+each-set [] k d t' later = tt
+each-set (t ∷ ts) zero d t' later = (later, each-same ts)
+each-set (t ∷ ts) (suc k) d t' later = (later-same t, each-set ts k d t' later)
+
+each-then : (xs ys zs : List TowerSeen) → EachLater xs ys → EachLater ys zs → EachLater xs zs
+each-then [] [] zs f g = g
+each-then [] (y ∷ ys) zs f g = absurd f
+each-then (x ∷ xs) [] zs f g = absurd f
+each-then (x ∷ xs) (y ∷ ys) [] f g = absurd g
+each-then (x ∷ xs) (y ∷ ys) (z ∷ zs) f g = (later-then x y z f.0 g.0, each-then xs ys zs f.1 g.1)
+
+-- the files as they are
+pub towers-same : (ts : List TowerSeen) → AreLater ts ts
+towers-same ts = record { same = refl; each = each-same ts }
+
+pub towers-then : (xs ys zs : List TowerSeen) → AreLater xs ys → AreLater ys zs → AreLater xs zs
+towers-then xs ys zs f g = record { same = g.same ∙ f.same; each = each-then xs ys zs f.each g.each }
+
+-- the files after a call of one of them
+pub towers-set : (ts : List TowerSeen) (k : ℕ) (d t' : TowerSeen) → t' ≡ record (get_or ts k d) { log = record (get_or ts k d).log { history = t'.log.history; room = t'.log.room }; disk = t'.disk } → SameDisk (get_or ts k d).disk t'.disk
+    → IsLater (get_or ts k d) t' → AreLater ts (set ts k t')
+towers-set ts k d t' same disk later = record { same = frames-set ts k d t' (frame-goes (get_or ts k d) t' same disk); each = each-set ts k d t' later }

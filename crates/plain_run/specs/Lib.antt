@@ -1,3 +1,4 @@
 pub mod Towers
 pub mod Lines
 pub mod Phases
+pub mod Start

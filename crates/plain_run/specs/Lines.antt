@@ -1,27 +1,39 @@
 -- What a line did.
-use Rattle.std.specs.Prelude.{◌≡◌, ◌≢◌, ℕ, ◌<◌, List, [], length}
+use Rattle.std.specs.Prelude.{◌≢◌, ℕ, ◌<◌, List, [], length}
 use Rattle.script_text.specs.declared.script.Call.{Call}
 use Rattle.script_text.specs.declared.script.Call.TheVariants.{Open, Read, Write, Clear, Sync}
 use Rattle.script_text.specs.declared.script.Reply.{Reply}
-use Rattle.run_defs.specs.declared.object.OpenObject.{OpenObject}
-use Rattle.run_defs.specs.declared.setting.Setting.{Setting}
-use Rattle.run_defs.specs.Setting.{shape_of}
+use Rattle.stack_accept.specs.Mount.{Mount}
+use Rattle.run_defs.specs.declared.found.Found.{Found}
+use Rattle.run_defs.specs.declared.found.Found.TheVariants.{Route, Refused}
+use Rattle.run_defs.specs.declared.client.OpenObject.{OpenObject}
+use Rattle.run_defs.specs.declared.client.ClientState.{ClientState}
+use Rattle.run_defs.specs.Stack.{shape_of}
 use Rattle.run_defs.specs.Plan.{Plan}
 use Rattle.run_defs.specs.Fits.{Did, Went}
 use Rattle.plain_tower.specs.Tower.{TowerSeen}
-use Rattle.plain_run.specs.Towers.{histories, frames}
+use Rattle.plain_run.specs.Towers.{histories, AreLater}
 
 -- an object of a file and a layer of the stack, which is not the ground
-pub record IsObject (setting : Setting) (object : OpenObject) : Type 0 where
-  pub file : object.file < length setting.files
+pub record IsObject (mount : Mount) (object : OpenObject) : Type 0 where
+  pub file : object.file < length mount.files
   pub above : 0 < object.node
-  pub node : object.node < length setting.parents
+  pub node : object.node < length mount.tree.parents
+
+-- what a path leads to, if it is an object: a file, and a layer of the stack above the ground
+abbrev pub IsRoute : Mount → Found → Type 0
+IsRoute mount (Route file node) = (file < length mount.files) × (0 < node) × (node < length mount.tree.parents)
+IsRoute mount (Refused reply) = Unit {0}
+
+-- the state of a client on a machine with these objects open
+abbrev pub state_with : ℕ → List OpenObject → ClientState
+state_with machine objects = record { machine = machine; objects = objects }
 
 -- between two states of the towers one caller did a line, and nobody else did anything
-pub record LineDone (setting : Setting) (caller : ℕ) (kept : List OpenObject) (p : Plan) (old new : List TowerSeen) (said : Reply) (left : List OpenObject) : Type 0 where
-  pub went : Went (shape_of setting) caller kept p (histories old) (histories new) said left
-  pub others : (other : ℕ) → other ≢ caller → Did (shape_of setting) other (histories old) (histories new) []
-  pub same : frames new ≡ frames old
+pub record LineDone (mount : Mount) (caller : ℕ) (kept : ClientState) (p : Plan) (old new : List TowerSeen) (said : Reply) (left : ClientState) : Type 0 where
+  pub went : Went (shape_of mount) caller kept p (histories old) (histories new) said left
+  pub others : (other : ℕ) → other ≢ caller → Did (shape_of mount) other (histories old) (histories new) []
+  pub later : AreLater old new
 
 -- a call that the program has, and its path has a part
 abbrev pub IsCallOf : Call → Type 0

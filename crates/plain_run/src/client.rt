@@ -1,30 +1,33 @@
 //! A client, and what it does.
 
-ghost use Rattle.std.specs.Prelude.{◌≡◌, ◌≢◌, ℕ, ◌∷◌, ◌++◌, [], ◌<◌, ◌≤◌, length, IsTrue, None};
+ghost use Rattle.std.specs.Prelude.{◌≡◌, ◌≢◌, ℕ, ◌<◌, ◌≤◌, length, IsTrue};
 ghost use Rattle.std.specs.List.{AllByRecursion};
 ghost use Rattle.hist_plain.specs.Event.{fits_page};
 ghost use Rattle.hist_plain.specs.Plain.{asked_by};
-ghost use Rattle.run_defs.specs.Setting.{IsSetting, pages_of, found_at};
-ghost use Rattle.run_defs.specs.Plan.{plan, plan_call, plan_named, plan_access, plan_sync, plan_open, plan_found, asking, access, sync, object_of};
+ghost use Rattle.run_defs.specs.Stack.{pages_of};
+ghost use Rattle.run_defs.specs.Plan.{plan, plan_call, plan_named, plan_access, plan_sync, plan_open, plan_found, asking, access, object_of};
 ghost use Rattle.plain_run.specs.Towers.{AreTowers};
-ghost use Rattle.plain_run.specs.Lines.{IsObject, LineDone, IsCallOf};
+ghost use Rattle.plain_run.specs.Lines.{IsObject, LineDone, IsCallOf, state_with};
 
-use crate::line::{find, found_at, life_in, pages_of, refused, reply_to};
+use crate::line::{find, found_at, life_in, refused, reply_to};
 use crate::towers::{access_at, sync_at};
-use hist_plain::{Keep, Op, Path, Text, fits};
+use hist_plain::{Keep, Op, fits};
 use plain_tower::Tower;
-use run_defs::{Found, OpenObject, Setting};
+use run_defs::{ClientState, Found, OpenObject, pages_of};
 use script_text::{Call, Reply, Said};
+use seen_values::{Items, Path, Text};
 use spr_io::Store;
+use stack_accept::Mounted;
 use std::alloc::Global;
+use std::mem::replace;
 
-/// A client: its number as a caller, its open objects, and its answers so far.
+/// A client: its number as a caller, its state, and its answers so far.
 #[derive(Debug, Drop)]
 pub struct Client {
     /// The number of the client, which is its number as a caller.
     pub caller: u32,
-    /// The objects that are open, in the order in which they were opened.
-    pub objects: Vec<OpenObject>,
+    /// Its machine and its open objects.
+    pub state: ClientState,
     /// The answers to the client's lines so far.
     pub said: Vec<Said>,
 }
@@ -32,19 +35,18 @@ pub struct Client {
 /// A line of one access of an open object, whose range is within one page of the file.
 fn access_object<S: Store>(
     alloc: Global,
-    setting: &Setting,
+    mount: &Mounted,
     towers: &mut [Tower<S>],
     client: &Client,
     object: &OpenObject,
     op: Op,
     len: usize,
 ) -> Reply
-    requires setting { IsSetting setting.now }
-    requires towers { AreTowers setting.now client.now.caller towers.old }
-    requires object { IsObject setting.now object.now }
-    requires fits { IsTrue (fits_page setting.now.page_size (pages_of setting.now object.now.file) op) }
+    requires towers { AreTowers mount.now client.now.caller towers.old }
+    requires object { IsObject mount.now object.now }
+    requires fits { IsTrue (fits_page mount.now.page_size (pages_of mount.now object.now.file) op) }
     requires len { len ≡ asked_by op }
-    ensures { LineDone setting.now client.now.caller client.now.objects.items (plan_call client.now.objects.items (asking object.now.file (access object.now.node object.now.life op))) towers.old towers.new result client.now.objects.items }
+    ensures { LineDone mount.now client.now.caller client.now.state (plan_call client.now.state (asking object.now.file (access object.now.node object.now.life op))) towers.old towers.new result client.now.state }
 {
     let Ok(mut out) = vec![in alloc; 0u8; len] else {
         return Reply::Memory;
@@ -66,43 +68,41 @@ fn access_object<S: Store>(
 /// A line of one access of the object of a name.
 fn access_line<S: Store>(
     alloc: Global,
-    setting: &Setting,
+    mount: &Mounted,
     towers: &mut [Tower<S>],
     client: &Client,
     name: &Text,
     op: Op,
     len: usize,
 ) -> Reply
-    requires setting { IsSetting setting.now }
-    requires towers { AreTowers setting.now client.now.caller towers.old }
-    requires objects { AllByRecursion (IsObject setting.now) client.now.objects.items }
+    requires towers { AreTowers mount.now client.now.caller towers.old }
+    requires objects { AllByRecursion (IsObject mount.now) client.now.state.objects }
     requires len { len ≡ asked_by op }
-    ensures { LineDone setting.now client.now.caller client.now.objects.items (plan_named client.now.objects.items (object_of name.now client.now.objects.items) (plan_access setting.now client.now.objects.items op)) towers.old towers.new result client.now.objects.items }
+    ensures { LineDone mount.now client.now.caller client.now.state (plan_named client.now.state (object_of name.now client.now.state.objects) (plan_access mount.now client.now.state op)) towers.old towers.new result client.now.state }
 {
-    let Some(object) = find(&client.objects, name) else {
+    let Some(object) = find(client.state.objects.as_slice(), name) else {
         return Reply::NoObject;
     };
-    if !fits(&op, setting.page_size, pages_of(setting, object.file)) {
+    if !fits(&op, mount.page_size(), pages_of(mount, object.file)) {
         return Reply::NotOnePage;
     }
-    access_object(alloc, setting, towers, client, object, op, len)
+    access_object(alloc, mount, towers, client, object, op, len)
 }
 
 /// A line that syncs the file of the object of a name.
 fn sync_line<S: Store>(
     alloc: Global,
-    setting: &Setting,
+    mount: &Mounted,
     towers: &mut [Tower<S>],
     client: &Client,
     name: &Text,
     keep: Keep,
 ) -> Reply
-    requires setting { IsSetting setting.now }
-    requires towers { AreTowers setting.now client.now.caller towers.old }
-    requires objects { AllByRecursion (IsObject setting.now) client.now.objects.items }
-    ensures { LineDone setting.now client.now.caller client.now.objects.items (plan_named client.now.objects.items (object_of name.now client.now.objects.items) (plan_sync client.now.objects.items keep)) towers.old towers.new result client.now.objects.items }
+    requires towers { AreTowers mount.now client.now.caller towers.old }
+    requires objects { AllByRecursion (IsObject mount.now) client.now.state.objects }
+    ensures { LineDone mount.now client.now.caller client.now.state (plan_named client.now.state (object_of name.now client.now.state.objects) (plan_sync client.now.state keep)) towers.old towers.new result client.now.state }
 {
-    let Some(object) = find(&client.objects, name) else {
+    let Some(object) = find(client.state.objects.as_slice(), name) else {
         return Reply::NoObject;
     };
     match sync_at(towers, object.file, client.caller, object.node, keep) {
@@ -111,31 +111,30 @@ fn sync_line<S: Store>(
     }
 }
 
-/// Opens the object of a file at a view, under a name that no open object has. The room for it is made
-/// before the call.
-fn open_route<S: Store>(
+/// Opens the object of a file at a view for a caller, under a name that none of its objects has. The
+/// room for it is made before the call.
+fn open_object<S: Store>(
     alloc: Global,
-    setting: &Setting,
+    mount: &Mounted,
     towers: &mut [Tower<S>],
-    client: &mut Client,
+    caller: u32,
+    objects: &mut Vec<OpenObject>,
     name: Text,
     file: u32,
     node: u32,
 ) -> Reply
-    requires setting { IsSetting setting.now }
-    requires towers { AreTowers setting.now client.old.caller towers.old }
-    requires objects { AllByRecursion (IsObject setting.now) client.old.objects.items }
-    requires route { (file < length setting.now.files) × (0 < node) × (node < length setting.now.parents) }
-    ensures done { LineDone setting.now client.old.caller client.old.objects.items (plan_found client.old.objects.items name (Found.Route file node)) towers.old towers.new result client.new.objects.items }
-    ensures objects { AllByRecursion (IsObject setting.now) client.new.objects.items }
-    ensures same { client.new ≡ record client.old { objects = client.new.objects } }
+    requires towers { AreTowers mount.now caller towers.old }
+    requires objects { AllByRecursion (IsObject mount.now) objects.old.items }
+    requires route { (file < length mount.now.files) × (0 < node) × (node < length mount.now.tree.parents) }
+    ensures done { (machine : ℕ) → LineDone mount.now caller (state_with machine objects.old.items) (plan_found (state_with machine objects.old.items) name (Found.Route file node)) towers.old towers.new result (state_with machine objects.new.items) }
+    ensures objects { AllByRecursion (IsObject mount.now) objects.new.items }
 {
-    let Ok(()) = client.objects.reserve(1) else {
+    let Ok(()) = objects.reserve(1) else {
         return Reply::Memory;
     };
-    match access_at(towers, file, client.caller, node, 0, Op::Open, &mut []) {
+    match access_at(towers, file, caller, node, 0, Op::Open, &mut []) {
         Ok(answered) => {
-            client.objects.push_reserved(OpenObject {
+            objects.push_reserved(OpenObject {
                 name,
                 file,
                 node,
@@ -147,33 +146,56 @@ fn open_route<S: Store>(
     }
 }
 
+/// Opens the object of a file at a view, under a name that no open object has.
+fn open_route<S: Store>(
+    alloc: Global,
+    mount: &Mounted,
+    towers: &mut [Tower<S>],
+    client: &mut Client,
+    name: Text,
+    file: u32,
+    node: u32,
+) -> Reply
+    requires towers { AreTowers mount.now client.old.caller towers.old }
+    requires objects { AllByRecursion (IsObject mount.now) client.old.state.objects }
+    requires route { (file < length mount.now.files) × (0 < node) × (node < length mount.now.tree.parents) }
+    ensures done { LineDone mount.now client.old.caller client.old.state (plan_found client.old.state name (Found.Route file node)) towers.old towers.new result client.new.state }
+    ensures objects { AllByRecursion (IsObject mount.now) client.new.state.objects }
+    ensures same { client.new ≡ record client.old { state = client.new.state } }
+{
+    let mut objects = replace(&mut client.state.objects, Items::new(alloc)).into_vec();
+    let caller = client.caller;
+    let reply = open_object(alloc, mount, towers, caller, &mut objects, name, file, node);
+    client.state.objects = Items::from_vec(objects);
+    reply
+}
+
 /// A line that opens what a path leads to.
 fn open_line<S: Store>(
     alloc: Global,
-    setting: &Setting,
+    mount: &Mounted,
     towers: &mut [Tower<S>],
     client: &mut Client,
     name: &Text,
     path: &Path,
 ) -> Reply
-    requires setting { IsSetting setting.now }
-    requires towers { AreTowers setting.now client.old.caller towers.old }
-    requires objects { AllByRecursion (IsObject setting.now) client.old.objects.items }
+    requires towers { AreTowers mount.now client.old.caller towers.old }
+    requires objects { AllByRecursion (IsObject mount.now) client.old.state.objects }
     requires path { 0 < length path.now }
-    ensures done { LineDone setting.now client.old.caller client.old.objects.items (plan_open setting.now client.old.objects.items name.now path.now (object_of name.now client.old.objects.items)) towers.old towers.new result client.new.objects.items }
-    ensures objects { AllByRecursion (IsObject setting.now) client.new.objects.items }
-    ensures same { client.new ≡ record client.old { objects = client.new.objects } }
+    ensures done { LineDone mount.now client.old.caller client.old.state (plan_open mount.now client.old.state name.now path.now (object_of name.now client.old.state.objects)) towers.old towers.new result client.new.state }
+    ensures objects { AllByRecursion (IsObject mount.now) client.new.state.objects }
+    ensures same { client.new ≡ record client.old { state = client.new.state } }
 {
-    let None = find(&client.objects, name) else {
+    let None = find(client.state.objects.as_slice(), name) else {
         return Reply::ObjectExists;
     };
-    let Ok(copy) = name.copy() else {
+    let Ok(copy) = name.clone() else {
         return Reply::Memory;
     };
-    match found_at(setting, path.as_slice()) {
-        Ok(Found::Route { file, node }) => open_route(
-            alloc, setting, towers, client, copy, file, node,
-        ),
+    match found_at(mount, path.as_slice()) {
+        Ok(Found::Route { file, node }) => {
+            open_route(alloc, mount, towers, client, copy, file, node)
+        }
         Ok(Found::Refused { reply }) => reply,
         Err(_) => Reply::Memory,
     }
@@ -182,21 +204,20 @@ fn open_line<S: Store>(
 /// Does what a line says.
 pub fn perform<S: Store>(
     alloc: Global,
-    setting: &Setting,
+    mount: &Mounted,
     towers: &mut [Tower<S>],
     client: &mut Client,
     call: &Call,
 ) -> Reply
-    requires setting { IsSetting setting.now }
-    requires towers { AreTowers setting.now client.old.caller towers.old }
-    requires objects { AllByRecursion (IsObject setting.now) client.old.objects.items }
+    requires towers { AreTowers mount.now client.old.caller towers.old }
+    requires objects { AllByRecursion (IsObject mount.now) client.old.state.objects }
     requires call { IsCallOf call.now }
-    ensures done { LineDone setting.now client.old.caller client.old.objects.items (plan setting.now client.old.objects.items call.now) towers.old towers.new result client.new.objects.items }
-    ensures objects { AllByRecursion (IsObject setting.now) client.new.objects.items }
-    ensures same { client.new ≡ record client.old { objects = client.new.objects } }
+    ensures done { LineDone mount.now client.old.caller client.old.state (plan mount.now client.old.state call.now) towers.old towers.new result client.new.state }
+    ensures objects { AllByRecursion (IsObject mount.now) client.new.state.objects }
+    ensures same { client.new ≡ record client.old { state = client.new.state } }
 {
     match call {
-        Call::Open { object, path } => open_line(alloc, setting, towers, client, object, path),
+        Call::Open { object, path } => open_line(alloc, mount, towers, client, object, path),
         Call::Read {
             object,
             page,
@@ -208,7 +229,7 @@ pub fn perform<S: Store>(
                 off: *off,
                 len: *len,
             };
-            access_line(alloc, setting, towers, client, object, op, *len as usize)
+            access_line(alloc, mount, towers, client, object, op, *len as usize)
         }
         Call::Write {
             object,
@@ -216,7 +237,7 @@ pub fn perform<S: Store>(
             off,
             bytes,
         } => {
-            let Ok(bytes) = bytes.copy() else {
+            let Ok(bytes) = bytes.clone() else {
                 return Reply::Memory;
             };
             let op = Op::Write {
@@ -224,13 +245,13 @@ pub fn perform<S: Store>(
                 off: *off,
                 bytes,
             };
-            access_line(alloc, setting, towers, client, object, op, 0)
+            access_line(alloc, mount, towers, client, object, op, 0)
         }
         Call::Clear { object, page } => {
             let op = Op::Clear { page: *page };
-            access_line(alloc, setting, towers, client, object, op, 0)
+            access_line(alloc, mount, towers, client, object, op, 0)
         }
-        Call::Sync { object } => sync_line(alloc, setting, towers, client, object, Keep::Write),
+        Call::Sync { object } => sync_line(alloc, mount, towers, client, object, Keep::Write),
         _ => unreachable!(),
     }
 }

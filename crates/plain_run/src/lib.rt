@@ -5,12 +5,13 @@ mod client;
 mod closing;
 mod line;
 mod phase;
+mod start;
 mod towers;
 
 pub use client::{Client, perform};
 pub use closing::close_files;
-pub use line::file_named;
 pub use phase::run_phases;
+pub use start::clients_of;
 
 #[cfg(test)]
 mod tests;

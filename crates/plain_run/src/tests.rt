@@ -1,76 +1,75 @@
 //! A script of two clients whose lines alternate, over a file in memory.
 
-ghost use Rattle.std.specs.Prelude.{◌≡◌, ◌<◌, ◌≤◌, ◌∷◌, [], IfOk, IsTrue, length, map, true, false, vec_capacity};
+ghost use Rattle.std.specs.Prelude.{◌≡◌, ◌<◌, ◌≤◌, ◌∷◌, [], IfOk, IsTrue, length, map, vec_capacity};
 ghost use Rattle.std.specs.List.{AllByRecursion};
 ghost use Rattle.disk_format.specs.Shape.{IsShape};
-ghost use Rattle.run_defs.specs.Setting.{IsSetting, shape_of};
+ghost use Rattle.script_text.specs.Grammar.{IsScript};
+ghost use Rattle.run_defs.specs.Stack.{shape_of};
+ghost use Rattle.plain_tower.specs.Seen.{tree_of};
 ghost use Rattle.plain_run.specs.Towers.{AreTowers};
 ghost use Rattle.plain_run.specs.Lines.{IsCallOf};
-ghost use Rattle.plain_run.specs.Phases.{AreCalls, HaveClients, IsFresh};
+ghost use Rattle.plain_run.specs.Phases.{AreCalls, HaveClients, HaveRoom};
+ghost use Rattle.plain_run.specs.Start.{AreStarted};
 
 use super::*;
 use disk_format::ImageShape;
-use disk_layer::Disk;
-use hist_plain::{Items, Text};
-use plain_tower::{Opening, Tower, open};
-use run_defs::{FileEntry, History, Logged, NodeEntry, Setting};
-use script_text::{Call, CallLine, Reply, Said, parse_script, put_reply};
+use disk_layer::{Disk, ONLY_DISK};
+use plain_tower::{FileShape, Tower, open};
+use run_defs::{History, Logged};
+use script_text::{Call, CallLine, Reply, Said, Script, parse_script, put_reply};
+use seen_values::{Items, Text};
 use spr_io::{MemStore, Store};
+use stack_accept::{Mounted, accept};
+use stack_text::{StackText, parse_stack};
 use std::alloc::{AllocError, Global};
 use std::test::Fail;
+
+/// One file of two pages, and a layer over its disk.
+const STACK: &[u8] = b"page 64\nfile f 2\ndisk d m\ncoherency c m d\n";
 
 /// Two phases of two clients.
 const SCRIPT: &[u8] =
     b"client a m\nclient b m\nphase\na open x c/f\nb open y c/f\na write x 0 0 61\nb read y 0 0 2\n\
-a clear y 0\nb open y c/f\na read x 2 0 1\nb open z q\na sync x\nphase\nb write y 0 1 62\na read x 0 0 2\n";
+a clear y 0\nb open y c/f\na read x 2 0 1\nb open z q\na sync x\nphase\nb write y 0 1 62\na read x 0 0 2\n\
+b open z c\nb open z c/g\nb open z c/f/f\n";
 
 /// The answers to the lines of the first client, then to those of the second, and to one more call.
 const ANSWERS: &[u8] = b"4 life 0\n6 done\n8 no object\n10 not one page\n12 done\n15 6162\n\
-5 life 0\n7 6100\n9 object exists\n11 not bound q\n14 done\n done";
+5 life 0\n7 6100\n9 object exists\n11 not bound q\n14 done\n16 not object c\n17 not bound g\n18 not context f\n done";
 
 /// Who made the calls of the file, one after another: client 0, client 1, and 2 for the closing sync.
 const CALLERS: &[u32] = &[0, 1, 0, 1, 0, 1, 0, 0, 2];
 
-fn files_of(alloc: Global) -> Result<Items<FileEntry>, AllocError>
-    ensures { IfOk result (λ files. map (λ f. f.pages) files ≡ 2 ∷ []) }
+fn stack_of(alloc: Global) -> Result<StackText, Fail>
+    ensures { IfOk result (λ stack. length stack.lines ≤ 128) }
 {
-    let name = Text::of(alloc, "f")?;
-    let mut files = Items::new(alloc);
-    files.push(FileEntry { name, pages: 2 })?;
-    Ok(files)
+    match parse_stack(alloc, STACK) {
+        Ok(stack) => Ok(stack),
+        Err(_) => Err(Fail::from("the stack's text")),
+    }
 }
 
-fn node_of(alloc: Global, name: &str, is_view: bool) -> Result<NodeEntry, AllocError>
-    ensures { IfOk result (λ node. node.is_view ≡ is_view) }
+/// Whether a stack has one file, of two pages of 64 bytes.
+fn is_small(mount: &Mounted) -> bool
+    ensures size { IsTrue result → mount.now.page_size ≡ 64 }
+    ensures pages { IsTrue result → map (λ f. f.pages) mount.now.files ≡ 2 ∷ [] }
 {
-    let name = Text::of(alloc, name)?;
-    Ok(NodeEntry { name, is_view })
+    let [file] = mount.files() else {
+        return false;
+    };
+    mount.page_size() == 64 && file.pages == 2
 }
 
-fn nodes_of(alloc: Global) -> Result<Items<NodeEntry>, AllocError>
-    ensures { IfOk result (λ nodes. map (λ n. n.is_view) nodes ≡ false ∷ true ∷ []) }
+/// The stack of one file.
+fn mounted(alloc: Global) -> Result<Mounted, Fail>
+    ensures size { IfOk result (λ m. m.page_size ≡ 64) }
+    ensures pages { IfOk result (λ m. map (λ f. f.pages) m.files ≡ 2 ∷ []) }
 {
-    let ground = node_of(alloc, "d", false)?;
-    let layer = node_of(alloc, "c", true)?;
-    let mut nodes = Items::new(alloc);
-    nodes.push(ground)?;
-    nodes.push(layer)?;
-    Ok(nodes)
-}
-
-/// The file `f` of two pages, and the layer `c` over the ground.
-fn setting_of(alloc: Global) -> Result<Setting, AllocError>
-    ensures limits { IfOk result IsSetting }
-    ensures size { IfOk result (λ s. s.page_size ≡ 64) }
-    ensures pages { IfOk result (λ s. map (λ f. f.pages) s.files ≡ 2 ∷ []) }
-{
-    Ok(Setting {
-        page_size: 64,
-        parents: Items::from_vec(Vec::from_array(alloc, [0, 0])?),
-        files: files_of(alloc)?,
-        nodes: nodes_of(alloc)?,
-        disks: Items::new(alloc),
-    })
+    match accept(alloc, &stack_of(alloc)?) {
+        Ok(mount) if is_small(&mount) => Ok(mount),
+        Ok(_) => Err(Fail::from("another stack")),
+        Err(_) => Err(Fail::from("the stack")),
+    }
 }
 
 /// The shape of a file of two pages of 64 bytes.
@@ -89,66 +88,42 @@ fn fresh(alloc: Global) -> Result<Disk<MemStore>, Fail>
     ensures { IfOk result (λ disk. disk.shape ≡ record { page_size = 64; pages = 2 }) }
 {
     let store = MemStore::new(alloc, 64, 4, &[], &[], &[])?;
-    match Disk::format(alloc, store, 0, &small()) {
+    match Disk::format(alloc, store, ONLY_DISK, &small()) {
         Ok(disk) => Ok(disk),
         Err(_) => Err(Fail::from("the disk")),
     }
 }
 
 /// The file over a fresh disk, for three callers.
-fn tower_of(alloc: Global, setting: &Setting) -> Result<Tower<MemStore>, Fail>
-    requires limits { IsSetting setting.now }
-    requires size { setting.now.page_size ≡ 64 }
-    ensures shape { IfOk result (λ t. t.log.shape ≡ shape_of setting.now) }
+fn tower_of(alloc: Global, mount: &Mounted) -> Result<Tower<MemStore>, Fail>
+    requires size { mount.now.page_size ≡ 64 }
+    ensures shape { IfOk result (λ t. t.log.shape ≡ shape_of mount.now) }
+    ensures tree { IfOk result (λ t. tree_of t.log ≡ mount.now.tree) }
     ensures pages { IfOk result (λ t. t.log.pages ≡ 2) }
     ensures callers { IfOk result (λ t. t.log.callers ≡ 3) }
 {
     let disk = fresh(alloc)?;
-    let opening = Opening {
-        page_size: setting.page_size,
-        parents: setting.parents.as_slice(),
+    let file = FileShape {
+        page_size: mount.page_size(),
+        tree: mount.tree(),
         pages: 2,
         callers: 3,
     };
-    match open(alloc, &opening, disk) {
+    match open(alloc, &file, disk) {
         Ok(tower) => Ok(tower),
         Err(_) => Err(Fail::from("the file")),
     }
 }
 
-fn towers_of(alloc: Global, setting: &Setting) -> Result<Vec<Tower<MemStore>>, Fail>
-    requires limits { IsSetting setting.now }
-    requires size { setting.now.page_size ≡ 64 }
-    requires pages { map (λ f. f.pages) setting.now.files ≡ 2 ∷ [] }
-    ensures { IfOk result (λ towers. AreTowers setting.now 2 towers.items) }
+fn towers_of(alloc: Global, mount: &Mounted) -> Result<Vec<Tower<MemStore>>, Fail>
+    requires size { mount.now.page_size ≡ 64 }
+    requires pages { map (λ f. f.pages) mount.now.files ≡ 2 ∷ [] }
+    ensures { IfOk result (λ towers. AreTowers mount.now 2 towers.items) }
 {
-    let tower = tower_of(alloc, setting)?;
+    let tower = tower_of(alloc, mount)?;
     let mut towers = Vec::new(alloc);
     towers.push(tower)?;
     Ok(towers)
-}
-
-/// A client that has not done anything.
-fn client_of(alloc: Global, caller: u32) -> Client
-    ensures fresh { IsFresh result }
-    ensures caller { result.caller ≡ caller }
-{
-    Client {
-        caller,
-        objects: Vec::new(alloc),
-        said: Vec::new(alloc),
-    }
-}
-
-/// Two clients that have not done anything.
-fn clients_of(alloc: Global) -> Result<Vec<Client>, AllocError>
-    ensures callers { IfOk result (λ clients. map (λ c. c.caller) clients.items ≡ 0 ∷ 1 ∷ []) }
-    ensures fresh { IfOk result (λ clients. AllByRecursion IsFresh clients.items) }
-{
-    let mut clients = Vec::new(alloc);
-    clients.push(client_of(alloc, 0))?;
-    clients.push(client_of(alloc, 1))?;
-    Ok(clients)
 }
 
 /// Whether it is a call of one of the two clients that the program has.
@@ -230,16 +205,18 @@ fn callers_of(alloc: Global, towers: Vec<Tower<MemStore>>) -> Result<Vec<u32>, A
     Ok(callers)
 }
 
-/// The phases of the script.
-fn phases_of(alloc: Global) -> Result<Items<Items<CallLine>>, Fail>
-    ensures calls { IfOk result (AllByRecursion AreCalls) }
-    ensures clients { IfOk result (AllByRecursion (HaveClients 2)) }
+/// The script of two clients.
+fn script_of(alloc: Global) -> Result<Script, Fail>
+    ensures script { IfOk result IsScript }
+    ensures two { IfOk result (λ script. length script.clients ≡ 2) }
+    ensures calls { IfOk result (λ script. AllByRecursion AreCalls script.phases) }
+    ensures clients { IfOk result (λ script. AllByRecursion (HaveClients 2) script.phases) }
 {
     let Ok(script) = parse_script(alloc, SCRIPT) else {
         return Err(Fail::from("the script"));
     };
-    if are_phases(script.phases.as_slice()) {
-        Ok(script.phases)
+    if script.clients.as_slice().len() == 2 && are_phases(script.phases.as_slice()) {
+        Ok(script)
     } else {
         Err(Fail::from("the calls"))
     }
@@ -248,54 +225,45 @@ fn phases_of(alloc: Global) -> Result<Items<Items<CallLine>>, Fail>
 /// Runs the phases, one more call of the first client, and the closing sync. The answer of the call is given back.
 fn played<S: Store>(
     alloc: Global,
-    setting: &Setting,
+    mount: &Mounted,
     towers: &mut [Tower<S>],
     clients: &mut [Client],
-    phases: &[Items<CallLine>],
+    script: &Script,
     call: &Call,
     closing: &mut Vec<Reply>,
-) -> Result<Reply, AllocError>
-    requires setting { IsSetting setting.now }
-    requires towers { AreTowers setting.now 2 towers.old }
-    requires callers { map (λ c. c.caller) clients.old ≡ 0 ∷ 1 ∷ [] }
-    requires fresh { AllByRecursion IsFresh clients.old }
-    requires calls { AllByRecursion AreCalls phases.now }
-    requires each { AllByRecursion (HaveClients 2) phases.now }
+) -> Reply
+    requires towers { AreTowers mount.now 2 towers.old }
+    requires two { length script.now.clients ≡ 2 }
+    requires clients { AreStarted mount.now 0 script.now.clients clients.old }
+    requires answers { HaveRoom script.now.phases clients.old }
+    requires calls { AllByRecursion AreCalls script.now.phases }
+    requires each { AllByRecursion (HaveClients 2) script.now.phases }
     requires call { IsCallOf call.now }
     requires empty { closing.old.items ≡ [] }
     requires room { length towers.old ≤ vec_capacity closing.old }
 {
-    run_phases(alloc, setting, towers, clients, phases)?;
-    let reply = perform(alloc, setting, towers, &mut clients[0], call);
-    close_files(alloc, setting, towers, 2, closing);
-    Ok(reply)
+    run_phases(alloc, mount, towers, clients, script.phases.as_slice());
+    let reply = perform(alloc, mount, towers, &mut clients[0], call);
+    close_files(alloc, mount, towers, 2, closing);
+    reply
 }
 
 /// The answers of the script's clients over the file, and of one more call of the first client.
 fn said_of<S: Store>(
     alloc: Global,
-    setting: &Setting,
+    mount: &Mounted,
     towers: &mut [Tower<S>],
     call: &Call,
     closing: &mut Vec<Reply>,
 ) -> Result<Vec<u8>, Fail>
-    requires setting { IsSetting setting.now }
-    requires towers { AreTowers setting.now 2 towers.old }
+    requires towers { AreTowers mount.now 2 towers.old }
     requires call { IsCallOf call.now }
     requires empty { closing.old.items ≡ [] }
     requires room { length towers.old ≤ vec_capacity closing.old }
 {
-    let phases = phases_of(alloc)?;
-    let mut clients = clients_of(alloc)?;
-    let reply = played(
-        alloc,
-        setting,
-        towers,
-        &mut clients,
-        phases.as_slice(),
-        call,
-        closing,
-    )?;
+    let script = script_of(alloc)?;
+    let mut clients = clients_of(alloc, mount, &script)?;
+    let reply = played(alloc, mount, towers, &mut clients, &script, call, closing);
     Ok(answers_of(alloc, &clients, &reply)?)
 }
 
@@ -303,10 +271,10 @@ fn said_of<S: Store>(
 fn outcome(alloc: Global, call: &Call) -> Result<(Vec<Reply>, Vec<u8>, Vec<u32>), Fail>
     requires { IsCallOf call.now }
 {
-    let setting = setting_of(alloc)?;
-    let mut towers = towers_of(alloc, &setting)?;
+    let mount = mounted(alloc)?;
+    let mut towers = towers_of(alloc, &mount)?;
     let mut closing = Vec::with_capacity(alloc, towers.len())?;
-    let answers = said_of(alloc, &setting, &mut towers, call, &mut closing)?;
+    let answers = said_of(alloc, &mount, &mut towers, call, &mut closing)?;
     let callers = callers_of(alloc, towers)?;
     Ok((closing, answers, callers))
 }

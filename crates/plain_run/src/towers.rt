@@ -6,7 +6,7 @@ ghost use Rattle.hist_plain.specs.Plain.{asked_by};
 ghost use Rattle.run_defs.specs.Plan.{asking, access, sync};
 ghost use Rattle.run_defs.specs.Calls.{CalledAt};
 ghost use Rattle.plain_tower.specs.Tower.{TowerSeen};
-ghost use Rattle.plain_run.specs.Towers.{frames, histories};
+ghost use Rattle.plain_run.specs.Towers.{AreLater, histories};
 ghost use Rattle.plain_run.specs.Phases.{IsClosed};
 
 use hist_plain::{Keep, Op};
@@ -28,7 +28,7 @@ pub fn access_at<S: Store>(
     requires call { (t : TowerSeen) → slice_get towers.old file ≡ Some t → (caller < t.log.callers) × ((0 < node) × (node < length t.log.shape.parents)) × IsTrue (fits_page t.log.shape.page_size t.log.pages op) }
     requires out { length out.old ≡ asked_by op }
     ensures called { (t : TowerSeen) → slice_get towers.old file ≡ Some t → CalledAt t.log.shape caller (asking file (access node life op)) (histories towers.old) (histories towers.new) out.new result }
-    ensures same { frames towers.new ≡ frames towers.old }
+    ensures later { AreLater towers.old towers.new }
 {
     towers[file as usize].access(caller, node, life, op, out)
 }
@@ -46,7 +46,7 @@ pub fn sync_at<S: Store>(
     ensures called { (t : TowerSeen) → slice_get towers.old file ≡ Some t → CalledAt t.log.shape caller (asking file (sync node keep)) (histories towers.old) (histories towers.new) [] result }
     ensures closed { OnOk result ((t : TowerSeen) → slice_get towers.new file ≡ Some t → IsClosed caller t) }
     ensures others { (j : ℕ) → j ≢ file → slice_get towers.new j ≡ slice_get towers.old j }
-    ensures same { frames towers.new ≡ frames towers.old }
+    ensures later { AreLater towers.old towers.new }
 {
     towers[file as usize].sync(caller, node, keep)
 }

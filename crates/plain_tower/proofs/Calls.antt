@@ -38,8 +38,8 @@ pub access-ends : (shape : Shape) (old new : History) (caller number node life :
     → new ≡ more old (Entered (events.Access caller number node life op) ∷ []) → number ≡ length (mine (trail_of old) caller) → place ≡ place_of old
     → Some answer ≡ option_map (λ (t : Told). t.answer) (reply shape (file_of shape old) (events.Access caller number node life op))
     → (answer ≡ answers.Bytes → option_map (λ (t : Told). t.bytes) (reply shape (file_of shape old) (events.Access caller number node life op)) ≡ Some out)
-    → (least : ℕ) → EndsFrom shape caller (access node life op) least old new out (Ok (record { answer = answer; place = place }))
-access-ends shape old new caller number node life op out answer place log next at answered bytes least =
+    → (began : ℕ) → EndsFrom shape caller (access node life op) began old new out (Ok (record { answer = answer; place = place }))
+access-ends shape old new caller number node life op out answer place log next at answered bytes began =
     let event : Event = events.Access caller number node life op in
     record {
       last = Entered event ∷ [];
@@ -69,7 +69,7 @@ sync-ends shape old new caller number node from keep answer place log next at an
       ends = record {
         event = event;
         last_is = refl;
-        call = record { asks = (refl, refl, refl); number = next; from = omega arith };
+        call = record { asks = (refl, refl, refl); number = next; from = refl };
         place = at;
         told = plainly answers.Done;
         told_is = refl;
@@ -79,15 +79,15 @@ sync-ends shape old new caller number node from keep answer place log next at an
     }
 
 -- a refusal that logged nothing
-pub refused-ends : (shape : Shape) (caller : ℕ) (ask : Ask) (least : ℕ) (old new : History) (out : List ℕ) (err : CallErr) → new ≡ old → Fails caller err old [] → EndsFrom shape caller ask least old new out (Err err)
-refused-ends shape caller ask least old new out err same fails = record { last = []; log = same ∙ sym (more-nil old [] refl); ends = fails }
+pub refused-ends : (shape : Shape) (caller : ℕ) (ask : Ask) (began : ℕ) (old new : History) (out : List ℕ) (err : CallErr) → new ≡ old → Fails caller err old [] → EndsFrom shape caller ask began old new out (Err err)
+refused-ends shape caller ask began old new out err same fails = record { last = []; log = same ∙ sym (more-nil old [] refl); ends = fails }
 
 -- the same where the log only had room made before
-pub ends-from : (l l' : LogSeen) (caller : ℕ) (ask : Ask) (least : ℕ) (new : History) (out : List ℕ) (r : Result Answered CallErr) → l' ≡ record l { room = l'.room }
-    → EndsFrom l'.shape caller ask least l'.history new out r → EndsFrom l.shape caller ask least l.history new out r
-ends-from l l' caller ask least new out r same ends =
-    subst (λ (s : Shape). EndsFrom s caller ask least l.history new out r) (ap (λ (k : LogSeen). k.shape) same)
-    (subst (λ (h : History). EndsFrom l'.shape caller ask least h new out r) (ap (λ (k : LogSeen). k.history) same) ends)
+pub ends-from : (l l' : LogSeen) (caller : ℕ) (ask : Ask) (began : ℕ) (new : History) (out : List ℕ) (r : Result Answered CallErr) → l' ≡ record l { room = l'.room }
+    → EndsFrom l'.shape caller ask began l'.history new out r → EndsFrom l.shape caller ask began l.history new out r
+ends-from l l' caller ask began new out r same ends =
+    subst (λ (s : Shape). EndsFrom s caller ask began l.history new out r) (ap (λ (k : LogSeen). k.shape) same)
+    (subst (λ (h : History). EndsFrom l'.shape caller ask began h new out r) (ap (λ (k : LogSeen). k.history) same) ends)
 
 -- a whole call: its messages, and then its end
 pub called-sent : (shape : Shape) (caller : ℕ) (ask : Ask) (old mid new : History) (out : List ℕ) (r : Result Answered CallErr) → Sends old mid → EndsFrom shape caller ask (place_of old) mid new out r → Called shape caller ask old new out r
@@ -165,34 +165,34 @@ goes-then a b c first second = record {
 }
 
 pub sent-none : (t : TowerSeen) → Sent t t
-sent-none t = record { goes = goes-same t; sends = sends-none t.log.history t.log.history refl }
+sent-none t = record { goes = goes-same t; calm = refl; sends = sends-none t.log.history t.log.history refl }
 
 pub sent-then : (a b c : TowerSeen) → Sent a b → Sent b c → Sent a c
-sent-then a b c first second = record { goes = goes-then a b c first.goes second.goes; sends = sends-then a.log.history b.log.history c.log.history first.sends second.sends }
+sent-then a b c first second = record { goes = goes-then a b c first.goes second.goes; calm = second.calm ∙ first.calm; sends = sends-then a.log.history b.log.history c.log.history first.sends second.sends }
 
 fault-since : (before mid now : Disk) (fault : Fault) → SameDisk before mid → IsFaultOf mid now fault → IsFaultOf before now fault
 fault-since before mid now fault same f = record { named = f.named ∙ same.disk; above = let a = same.later in let b = f.above in omega arith; within = f.within }
 
-faults-since : (before mid now : Disk) (err : CallErr) → SameDisk before mid → Faults mid now err → Faults before now err
-faults-since before mid now (StoreFault disk count) same h = fault-since before mid now (record { disk = disk; count = count }) same h
-faults-since before mid now TrailFull same h = tt
-faults-since before mid now Memory same h = tt
+pub faults-since : (before mid now : Disk) (err : CallErr) → SameDisk before mid → mid.faults ≡ before.faults → Faults mid now err → Faults before now err
+faults-since before mid now (StoreFault disk count) same calm h = fault-since before mid now (record { disk = disk; count = count }) same h
+faults-since before mid now TrailFull same calm h = h ∙ calm
+faults-since before mid now Memory same calm h = h ∙ calm
 
 pub stopped-then : (caller : ℕ) (a b c : TowerSeen) (err : CallErr) → Sent a b → Stopped caller b c err → Stopped caller a c err
 stopped-then caller a b c err first second = record {
   goes = goes-then a b c first.goes second.goes;
   stops = stops-then caller a.log.history b.log.history c.log.history err first.sends second.stops;
-  cause = faults-since a.disk b.disk c.disk err first.goes.disk second.cause;
+  cause = faults-since a.disk b.disk c.disk err first.goes.disk first.calm second.cause;
 }
 
-pub no-fault : (before now : Disk) (err : CallErr) → IsNoFault err → Faults before now err
-no-fault before now (StoreFault disk count) h = absurd h
-no-fault before now TrailFull h = tt
-no-fault before now Memory h = tt
+pub no-fault : (before now : Disk) (err : CallErr) → now.faults ≡ before.faults → IsNoFault err → Faults before now err
+no-fault before now (StoreFault disk count) same h = absurd h
+no-fault before now TrailFull same h = same
+no-fault before now Memory same h = same
 
 -- a refusal that logged nothing
-pub stopped-nothing : (caller : ℕ) (old new : TowerSeen) (err : CallErr) → GoesOn old new → new.log.history ≡ old.log.history → IsNoFault err → Fails caller err old.log.history [] → Stopped caller old new err
-stopped-nothing caller old new err goes same cause fails = record {
+pub stopped-nothing : (caller : ℕ) (old new : TowerSeen) (err : CallErr) → GoesOn old new → new.disk.faults ≡ old.disk.faults → new.log.history ≡ old.log.history → IsNoFault err → Fails caller err old.log.history [] → Stopped caller old new err
+stopped-nothing caller old new err goes calm same cause fails = record {
   goes = goes;
   stops = record {
     messages = [];
@@ -201,7 +201,7 @@ stopped-nothing caller old new err goes same cause fails = record {
     log = same ∙ sym (more-nil old.log.history [] refl);
     fails = subst (λ (h : History). Fails caller err h []) (sym (more-nil old.log.history [] refl)) fails;
   };
-  cause = no-fault old.disk new.disk err cause;
+  cause = no-fault old.disk new.disk err calm cause;
 }
 
 -- a refusal by the disk's store, which was noted

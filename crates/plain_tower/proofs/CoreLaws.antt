@@ -1,7 +1,6 @@
 -- What a core keeps, and which events its plans make.
-use Rattle.std.proofs.Common.{◌≡◌, ◌≢◌, ℕ, ◌+◌, ◌<◌, ◌≤◌, ◌==◌, ◌&&◌, nat_lt, nat_le, inl, inr, IsTrue, Bool, true, false, cond, List, [], ◌∷◌, ◌++◌, length, replicate, Option, Some, None, IfSome, refl, sym, ap, subst, ◌∙◌, arith}
+use Rattle.std.proofs.Common.{◌≡◌, ◌≢◌, ℕ, ◌+◌, ◌<◌, ◌≤◌, ◌==◌, ◌&&◌, nat_lt, nat_le, inl, inr, IsTrue, Bool, true, false, cond, List, [], ◌∷◌, ◌++◌, length, Option, Some, None, IfSome, refl, sym, ap, subst, ◌∙◌, arith}
 use Rattle.std.specs.Option.{ForSome}
-use Rattle.std.proofs.lemmas.List.{get_or-replicate, length-replicate}
 use Rattle.std.proofs.lemmas.Bool.{ltb-true}
 use Rattle.hist_plain.specs.declared.event.Op.{Op}
 use Rattle.hist_plain.specs.declared.event.Op.TheVariants as ops
@@ -10,17 +9,17 @@ use Rattle.hist_plain.specs.declared.event.Event.{Event}
 use Rattle.hist_plain.specs.declared.event.Event.TheVariants as events
 use Rattle.hist_plain.specs.File.{Shape, File}
 use Rattle.hist_plain.specs.Event.{caller_of, page_of, page_of_op, fits_page, is_in_page, node_of}
-use Rattle.hist_plain.specs.Plain.{Suits, applied, IsTree as IsPlainTree}
+use Rattle.hist_plain.specs.Plain.{Suits, applied}
 use Rattle.hist_plain.specs.History.{AllSuit, page_in, replay, IsZeroPage}
 use Rattle.run_defs.specs.declared.log.Logged.TheVariants.{Entered}
 use Rattle.run_defs.specs.declared.log.History.{History}
-use Rattle.run_defs.specs.Log.{more, trail_of, first_file, file_of, place_of, IsHistory}
+use Rattle.run_defs.specs.Log.{more, trail_of, first_file, file_of, place_of, IsHistory, IsLegalTrail}
 use Rattle.run_defs.proofs.Histories.{trail_of-entered}
 use Rattle.tower_core.specs.declared.right.Right.{Right}
 use Rattle.tower_core.specs.declared.sheet.Sheet.{Sheet}
 use Rattle.tower_core.specs.declared.step.Step.{Step}
 use Rattle.tower_core.specs.declared.step.Step.TheVariants.{Untouched, Grants, PagesOut, Denies, Pushes, Flushes, Deletes}
-use Rattle.tower_core.specs.TreeShape.{TreeShape, parent, nodes, is_within, IsTree, IsUpper}
+use Rattle.tower_core.specs.TreeShape.{TreeShape, frames_of, parent, nodes, is_within, IsTree, IsUpper}
 use Rattle.tower_core.specs.Column.{Column, newest_after, IsCoherent, MayStep, NoChildWrites, NoChildHolds, NoSiblingHolds}
 use Rattle.tower_core.specs.Trail.{State, state_of, state_after, at_of, IsAllowed, IsAllSettled, IsSettled, IsCoherentState, MayAccess}
 use Rattle.tower_core.specs.Legal.{shown, FitsFile, IsFilled, IsLegal}
@@ -36,55 +35,42 @@ use Rattle.tower_plan.specs.Sync.{pushing, Push, IsNextOfSync, IsSyncAnswer, IsS
 use Rattle.tower_plan.proofs.Rules.{depth_of-child, same_or_not}
 use Rattle.tower_plan.proofs.Syncing.{one_cost, sync_answer_cheaper}
 use Rattle.plain_tower.specs.declared.coherence.Copied.{Copied}
-use Rattle.plain_tower.specs.Seen.{LogSeen}
-use Rattle.plain_tower.specs.Legal.{tree_of, state_at, column_at, handed_by, HandsNewest, GroundTakes, KeepsGround, IsLegalTrail, IsLegalHere, IsLegalLog, IsNextMessage, IsOfPlan, IsPlanned, IsCore}
+use Rattle.plain_tower.specs.Seen.{LogSeen, tree_of}
+use Rattle.plain_tower.specs.Legal.{state_at, column_at, handed_by, HandsNewest, GroundTakes, KeepsGround, IsLegalHere, IsLegalLog, IsNextMessage, IsOfPlan, IsPlanned, IsCore}
 use Rattle.plain_tower.proofs.CurrentPages.{page_at-newest, both}
-use Rattle.plain_tower.proofs.Grounds.{no_frames, ground-kept, ground-other, ground-elsewhere, ground-own}
-
--- the tree over a file
-
--- the tree of these parents has no frames
-pub tree-bare : (parents : List ℕ) → IsPlainTree parents → IsTree (record { parents = parents; frames = replicate (length parents) 0 })
-tree-bare parents tree = record {
-  grounded = tree.some;
-  framed = length-replicate (length parents) 0;
-  ground = tree.ground;
-  ordered = λ node upper. tree.below node upper.above upper.inside;
-  leaves = λ child node ic. get_or-replicate (length parents) node 0 0 (let below = tree.below child ic.upper.above ic.upper.inside in let inside = ic.upper.inside in let hangs = ic.hangs in omega arith);
-}
+use Rattle.plain_tower.proofs.Grounds.{ground-kept, ground-other, ground-elsewhere, ground-own}
 
 -- what a core knows
 
-pub core-log : (l : LogSeen) (tree : TreeShape) (sheet : Sheet) → IsCore l tree sheet → IsTree tree → IsHistory l.shape l.pages l.history → IsLegalLog l
-core-log l tree sheet core over history = record { tree = subst IsTree core.tree_is over; history = history; legal = core.legal }
+pub core-log : (l : LogSeen) (sheet : Sheet) → IsCore l sheet → IsTree (tree_of l) → IsHistory l.shape l.pages l.history → IsLegalLog l
+core-log l sheet core over history = record { tree = over; history = history; legal = core.legal }
 
-pub coherent-at : (l : LogSeen) → IsTree (tree_of l.shape) → IsLegalTrail l.shape l.pages l.history → IsCoherentState (tree_of l.shape) l.pages (state_at l.shape l.history)
-coherent-at l tree legal = run_coherent (tree_of l.shape) l.pages (trail_of l.history) tree (legal_run (tree_of l.shape) l.shape.page_size l.pages l.history.opening (trail_of l.history) legal)
+pub coherent-at : (l : LogSeen) → IsTree (tree_of l) → IsLegalTrail (tree_of l) l.shape.page_size l.pages l.history → IsCoherentState (tree_of l) l.pages (state_at l)
+coherent-at l tree legal = run_coherent (tree_of l) l.pages (trail_of l.history) tree (legal_run (tree_of l) l.shape.page_size l.pages l.history.opening (trail_of l.history) legal)
 
-pub len-at : (l : LogSeen) → (state_at l.shape l.history).len ≡ place_of l.history
-len-at l = trail_len (tree_of l.shape) (trail_of l.history)
+pub len-at : (l : LogSeen) → (state_at l).len ≡ place_of l.history
+len-at l = trail_len (tree_of l) (trail_of l.history)
 
-pub core-reached : (l : LogSeen) (tree : TreeShape) (sheet : Sheet) → IsCore l tree sheet → IsTree tree → IsReached tree sheet
-core-reached l tree sheet core over =
-    let over' : IsTree (tree_of l.shape) = subst IsTree core.tree_is over in
-    let coherent = coherent-at l over' core.legal in
-    record {
-      same_tree = core.nodes_are ∙ ap nodes (sym core.tree_is);
-      coherent = subst (λ (t : TreeShape). IsCoherentState t (pages_of sheet) (seen sheet)) (sym core.tree_is)
-          (subst (λ n. IsCoherentState (tree_of l.shape) n (seen sheet)) (sym core.pages_are)
-          (subst (λ (s : State). IsCoherentState (tree_of l.shape) l.pages s) (sym core.state_is) coherent));
+pub core-reached : (l : LogSeen) (tree : TreeShape) (sheet : Sheet) → tree ≡ tree_of l → IsCore l sheet → IsTree (tree_of l) → IsReached tree sheet
+core-reached l tree sheet same core over =
+    let coherent = coherent-at l over core.legal in
+    subst (λ (t : TreeShape). IsReached t sheet) (sym same)
+    (record {
+      same_tree = core.nodes_are;
+      coherent = subst (λ n. IsCoherentState (tree_of l) n (seen sheet)) (sym core.pages_are)
+          (subst (λ (s : State). IsCoherentState (tree_of l) l.pages s) (sym core.state_is) coherent);
       ground = λ page. subst (λ (s : State). (s.column page).right 0 ≡ Right.Write) (sym core.state_is)
-          (trail_ground (tree_of l.shape) l.pages (trail_of l.history) over' (legal_run (tree_of l.shape) l.shape.page_size l.pages l.history.opening (trail_of l.history) core.legal) page);
-    }
+          (trail_ground (tree_of l) l.pages (trail_of l.history) over (legal_run (tree_of l) l.shape.page_size l.pages l.history.opening (trail_of l.history) core.legal) page);
+    })
 
 -- what is said of the tree, the pages and the sheet is said of the log
-pub core-says : (l : LogSeen) (tree : TreeShape) (sheet : Sheet) (P : TreeShape → ℕ → State → Type 0) → IsCore l tree sheet → P tree (pages_of sheet) (seen sheet) → P (tree_of l.shape) l.pages (state_at l.shape l.history)
-core-says l tree sheet P core h =
-    subst (λ (t : TreeShape). P t l.pages (state_at l.shape l.history)) core.tree_is (subst (λ n. P tree n (state_at l.shape l.history)) core.pages_are (subst (λ (s : State). P tree (pages_of sheet) s) core.state_is h))
+pub core-says : (l : LogSeen) (tree : TreeShape) (sheet : Sheet) (P : TreeShape → ℕ → State → Type 0) → tree ≡ tree_of l → IsCore l sheet → P tree (pages_of sheet) (seen sheet) → P (tree_of l) l.pages (state_at l)
+core-says l tree sheet P same core h =
+    subst (λ (t : TreeShape). P t l.pages (state_at l)) same (subst (λ n. P tree n (state_at l)) core.pages_are (subst (λ (s : State). P tree (pages_of sheet) s) core.state_is h))
 
-pub core-told : (l : LogSeen) (tree : TreeShape) (sheet : Sheet) (P : TreeShape → ℕ → State → Type 0) → IsCore l tree sheet → P (tree_of l.shape) l.pages (state_at l.shape l.history) → P tree (pages_of sheet) (seen sheet)
-core-told l tree sheet P core h =
-    subst (λ (t : TreeShape). P t (pages_of sheet) (seen sheet)) (sym core.tree_is) (subst (λ n. P (tree_of l.shape) n (seen sheet)) (sym core.pages_are) (subst (λ (s : State). P (tree_of l.shape) l.pages s) (sym core.state_is) h))
+pub core-told : (l : LogSeen) (tree : TreeShape) (sheet : Sheet) (P : TreeShape → ℕ → State → Type 0) → tree ≡ tree_of l → IsCore l sheet → P (tree_of l) l.pages (state_at l) → P tree (pages_of sheet) (seen sheet)
+core-told l tree sheet P same core h =
+    subst (λ (t : TreeShape). P t (pages_of sheet) (seen sheet)) (sym same) (subst (λ n. P (tree_of l) n (seen sheet)) (sym core.pages_are) (subst (λ (s : State). P (tree_of l) l.pages s) (sym core.state_is) h))
 
 -- a new event
 
@@ -115,44 +101,41 @@ last-suits shape file [] event all = all.0
 last-suits shape file (x ∷ xs) event all = last-suits shape (applied shape file x) xs event all.1
 
 -- a legal event suits the plain file
-pub legal-suits : (l : LogSeen) (event : Event) → IsHistory l.shape l.pages l.history → IsLegalTrail l.shape l.pages l.history → IsLegalHere l event → Suits l.shape (file_of l.shape l.history) event
+pub legal-suits : (l : LogSeen) (event : Event) → IsHistory l.shape l.pages l.history → IsLegalTrail (tree_of l) l.shape.page_size l.pages l.history → IsLegalHere l event → Suits l.shape (file_of l.shape l.history) event
 legal-suits l event history legal next =
     last-suits l.shape (first_file l.shape l.history) (trail_of l.history) event
-    (legal_suits (tree_of l.shape) l.shape.page_size l.pages l.history.opening (trail_of l.history ++ event ∷ []) history.size
-    (legal_snoc (tree_of l.shape) l.shape.page_size l.pages l.history.opening (trail_of l.history) event legal next))
+    (legal_suits (tree_of l) l.shape.page_size l.pages l.history.opening (trail_of l.history ++ event ∷ []) history.size
+    (legal_snoc (tree_of l) l.shape.page_size l.pages l.history.opening (trail_of l.history) event legal next))
+
+-- the log with one more entry, or with room for one
+abbrev pub log-later : LogSeen → History → ℕ → LogSeen
+log-later l h room = record l { history = h; room = room }
 
 -- a core with one more event
-pub core-entered : (l l' : LogSeen) (tree : TreeShape) (sheet sheet' : Sheet) (event : Event) → IsCore l tree sheet → l'.shape ≡ l.shape → l'.pages ≡ l.pages → l'.history ≡ more l.history (Entered event ∷ [])
-    → IsLegalHere l event → nodes_of sheet' ≡ nodes_of sheet → pages_of sheet' ≡ pages_of sheet → seen sheet' ≡ state_after tree (seen sheet) event → IsCore l' tree sheet'
-core-entered l l' tree sheet sheet' event core shape pages log legal same_nodes same_pages state =
-    let trail : trail_of l'.history ≡ trail_of l.history ++ event ∷ [] = ap trail_of log ∙ trail_of-entered l.history event in
-    let opening : l'.history.opening ≡ l.history.opening = ap (λ (h : History). h.opening) log in
-    let bare : tree_of l'.shape ≡ tree_of l.shape = ap tree_of shape in
+pub core-entered : (l : LogSeen) (sheet sheet' : Sheet) (event : Event) (h : History) (room : ℕ) → IsCore l sheet → h ≡ more l.history (Entered event ∷ [])
+    → IsLegalHere l event → nodes_of sheet' ≡ nodes_of sheet → pages_of sheet' ≡ pages_of sheet → seen sheet' ≡ state_after (tree_of l) (seen sheet) event → IsCore (log-later l h room) sheet'
+core-entered l sheet sheet' event h room core log legal same_nodes same_pages state =
+    let trail : trail_of h ≡ trail_of l.history ++ event ∷ [] = ap trail_of log ∙ trail_of-entered l.history event in
+    let opening : h.opening ≡ l.history.opening = ap (λ (k : History). k.opening) log in
     record {
-      tree_is = core.tree_is ∙ sym bare;
-      nodes_are = same_nodes ∙ (core.nodes_are ∙ ap (λ (s : Shape). length s.parents) (sym shape));
-      pages_are = same_pages ∙ (core.pages_are ∙ sym pages);
-      state_is = state ∙ (ap (λ (t : TreeShape). state_after t (seen sheet) event) core.tree_is ∙ (ap (λ (s : State). state_after (tree_of l.shape) s event) core.state_is
-          ∙ (sym (state_of-snoc (tree_of l.shape) (trail_of l.history) event) ∙ (ap (λ (es : List Event). state_of (tree_of l.shape) es) (sym trail) ∙ ap (λ (t : TreeShape). state_of t (trail_of l'.history)) (sym bare)))));
-      legal = subst (λ (s : Shape). IsLegalTrail s l'.pages l'.history) (sym shape) (subst (λ n. IsLegalTrail l.shape n l'.history) (sym pages)
-          (subst (λ (bytes : List ℕ). IsLegal (tree_of l.shape) l.shape.page_size l.pages bytes (trail_of l'.history)) (sym opening)
-          (subst (λ (es : List Event). IsLegal (tree_of l.shape) l.shape.page_size l.pages l.history.opening es) (sym trail)
-          (legal_snoc (tree_of l.shape) l.shape.page_size l.pages l.history.opening (trail_of l.history) event core.legal legal))));
+      nodes_are = same_nodes ∙ core.nodes_are;
+      pages_are = same_pages ∙ core.pages_are;
+      state_is = state ∙ (ap (λ (s : State). state_after (tree_of l) s event) core.state_is
+          ∙ (sym (state_of-snoc (tree_of l) (trail_of l.history) event) ∙ ap (λ (es : List Event). state_of (tree_of l) es) (sym trail)));
+      legal = subst (λ (bytes : List ℕ). IsLegal (tree_of l) l.shape.page_size l.pages bytes (trail_of h)) (sym opening)
+          (subst (λ (es : List Event). IsLegal (tree_of l) l.shape.page_size l.pages l.history.opening es) (sym trail)
+          (legal_snoc (tree_of l) l.shape.page_size l.pages l.history.opening (trail_of l.history) event core.legal legal));
     }
 
 -- a core whose log has the same events
-pub core-same : (l l' : LogSeen) (tree : TreeShape) (sheet : Sheet) → IsCore l tree sheet → l'.shape ≡ l.shape → l'.pages ≡ l.pages → l'.history.opening ≡ l.history.opening → trail_of l'.history ≡ trail_of l.history → IsCore l' tree sheet
-core-same l l' tree sheet core shape pages opening trail =
-    let bare : tree_of l'.shape ≡ tree_of l.shape = ap tree_of shape in
-    record {
-      tree_is = core.tree_is ∙ sym bare;
-      nodes_are = core.nodes_are ∙ ap (λ (s : Shape). length s.parents) (sym shape);
-      pages_are = core.pages_are ∙ sym pages;
-      state_is = core.state_is ∙ (ap (λ (es : List Event). state_of (tree_of l.shape) es) (sym trail) ∙ ap (λ (t : TreeShape). state_of t (trail_of l'.history)) (sym bare));
-      legal = subst (λ (s : Shape). IsLegalTrail s l'.pages l'.history) (sym shape) (subst (λ n. IsLegalTrail l.shape n l'.history) (sym pages)
-          (subst (λ (bytes : List ℕ). IsLegal (tree_of l.shape) l.shape.page_size l.pages bytes (trail_of l'.history)) (sym opening)
-          (subst (λ (es : List Event). IsLegal (tree_of l.shape) l.shape.page_size l.pages l.history.opening es) (sym trail) core.legal)));
-    }
+pub core-same : (l : LogSeen) (sheet : Sheet) (h : History) (room : ℕ) → IsCore l sheet → h.opening ≡ l.history.opening → trail_of h ≡ trail_of l.history → IsCore (log-later l h room) sheet
+core-same l sheet h room core opening trail = record {
+  nodes_are = core.nodes_are;
+  pages_are = core.pages_are;
+  state_is = core.state_is ∙ ap (λ (es : List Event). state_of (tree_of l) es) (sym trail);
+  legal = subst (λ (bytes : List ℕ). IsLegal (tree_of l) l.shape.page_size l.pages bytes (trail_of h)) (sym opening)
+      (subst (λ (es : List Event). IsLegal (tree_of l) l.shape.page_size l.pages l.history.opening es) (sym trail) core.legal);
+}
 
 -- a page message writes no page
 
@@ -186,23 +169,28 @@ write-holds right w n = write_is_not (sym w ∙ n)
 none-writes : (shape : TreeShape) (col : Column) (node : ℕ) → NoChildHolds shape col node → NoChildWrites shape col node
 none-writes shape col node none child ic w = write_is_not (sym w ∙ none child ic)
 
+-- a node with frames is a leaf, so no child writes
+leaf-alone : (shape : TreeShape) (col : Column) (node : ℕ) → IsTree shape → (frames_of shape node ≡ 0 → ⊥) → NoChildWrites shape col node
+leaf-alone shape col node tree framed child ic w = framed (tree.leaves child node ic)
+
 -- an allowed event of the plan hands on nothing but newest bytes
-planned-hands : (shape : Shape) (pages : ℕ) (s : State) (event : Event) → IsCoherentState (tree_of shape) pages s → IsOfPlan event → IsAllowed (tree_of shape) pages s event → HandsNewest (tree_of shape) s event
-planned-hands shape pages s (events.PageIn node page write) coherent of ok = tt
-planned-hands shape pages s (events.PageOut node page) coherent of ok = absurd (ok.line.0 (no_frames shape node ok.upper))
-planned-hands shape pages s (events.FlushBack node page) coherent of ok = λ own.
-    (coherent.columns page).current node ok.upper.inside (write-holds _ ok.line.0) (none-writes (tree_of shape) (s.column page) node ok.line.1)
-planned-hands shape pages s (events.DenyWrites node page) coherent of ok = λ own.
+planned-hands : (shape : TreeShape) (pages : ℕ) (s : State) (event : Event) → IsTree shape → IsCoherentState shape pages s → IsOfPlan event → IsAllowed shape pages s event → HandsNewest shape s event
+planned-hands shape pages s (events.PageIn node page write) tree coherent of ok = tt
+planned-hands shape pages s (events.PageOut node page) tree coherent of ok = λ own.
+    (coherent.columns page).current node ok.upper.inside ok.line.1 (leaf-alone shape (s.column page) node tree ok.line.0)
+planned-hands shape pages s (events.FlushBack node page) tree coherent of ok = λ own.
+    (coherent.columns page).current node ok.upper.inside (write-holds _ ok.line.0) (none-writes shape (s.column page) node ok.line.1)
+planned-hands shape pages s (events.DenyWrites node page) tree coherent of ok = λ own.
     (coherent.columns page).current node ok.upper.inside (write-holds _ ok.line.0) ok.line.1
-planned-hands shape pages s (events.DeleteRange node page) coherent of ok = tt
-planned-hands shape pages s (events.Access caller number node life op) coherent of ok = absurd of
-planned-hands shape pages s (events.ZeroFill node page write) coherent of ok = absurd of
-planned-hands shape pages s (events.WriteOut node page) coherent of ok = absurd of
-planned-hands shape pages s (events.SyncOut node page) coherent of ok = absurd of
-planned-hands shape pages s (events.WriteBack node page) coherent of ok = absurd of
-planned-hands shape pages s (events.DestroyCache caller number node) coherent of ok = absurd of
-planned-hands shape pages s (events.DonePager caller number node) coherent of ok = absurd of
-planned-hands shape pages s (events.Synced caller number node from keep) coherent of ok = absurd of
+planned-hands shape pages s (events.DeleteRange node page) tree coherent of ok = tt
+planned-hands shape pages s (events.Access caller number node life op) tree coherent of ok = absurd of
+planned-hands shape pages s (events.ZeroFill node page write) tree coherent of ok = absurd of
+planned-hands shape pages s (events.WriteOut node page) tree coherent of ok = absurd of
+planned-hands shape pages s (events.SyncOut node page) tree coherent of ok = absurd of
+planned-hands shape pages s (events.WriteBack node page) tree coherent of ok = absurd of
+planned-hands shape pages s (events.DestroyCache caller number node) tree coherent of ok = absurd of
+planned-hands shape pages s (events.DonePager caller number node) tree coherent of ok = absurd of
+planned-hands shape pages s (events.Synced caller number node from keep) tree coherent of ok = absurd of
 
 planned-quiet : (event : Event) → IsOfPlan event → caller_of event ≡ None
 planned-quiet (events.Access caller number node life op) of = absurd of
@@ -231,10 +219,10 @@ rule-plan shape size pages s node page want event inside (Evict victim free is) 
 rule-plan shape size pages s node page want event inside (Grant other free roomy first) = (tt, at-page pages page inside)
 
 -- what a plan answers, seen from the log
-pub planned : (l : LogSeen) (node page : ℕ) (want : Right) (event : Event) → page < l.pages → IsNext (tree_of l.shape) l.pages (state_at l.shape l.history) node page want event
-    → IsAllowed (tree_of l.shape) l.pages (state_at l.shape l.history) event → IsPlanned l event
+pub planned : (l : LogSeen) (node page : ℕ) (want : Right) (event : Event) → page < l.pages → IsNext (tree_of l) l.pages (state_at l) node page want event
+    → IsAllowed (tree_of l) l.pages (state_at l) event → IsPlanned l event
 planned l node page want event inside rule ok =
-    let of = rule-plan (tree_of l.shape) l.shape.page_size l.pages (state_at l.shape l.history) node page want event inside rule in
+    let of = rule-plan (tree_of l) l.shape.page_size l.pages (state_at l) node page want event inside rule in
     record { of_plan = of.0; fits = of.1; allowed = ok }
 
 -- a planned event that is no grant is entered as it is
@@ -245,9 +233,9 @@ as-is shape size bytes before _ of plain = tt
 
 pub fill-other : (l : LogSeen) (event : Event) → IsLegalLog l → IsPlanned l event → IsNoGrant event → IsNextMessage l event
 fill-other l event log plan plain = record {
-  legal = record { fits = plan.fits; allowed = plan.allowed; filled = as-is (tree_of l.shape) l.shape.page_size l.history.opening (trail_of l.history) event plan.of_plan plain };
+  legal = record { fits = plan.fits; allowed = plan.allowed; filled = as-is (tree_of l) l.shape.page_size l.history.opening (trail_of l.history) event plan.of_plan plain };
   quiet = planned-quiet event plan.of_plan;
-  newest = planned-hands l.shape l.pages (state_at l.shape l.history) event (coherent-at l log.tree log.legal) plan.of_plan plan.allowed;
+  newest = planned-hands (tree_of l) l.pages (state_at l) event log.tree (coherent-at l log.tree log.legal) plan.of_plan plan.allowed;
 }
 
 -- who grants a page has its newest bytes
@@ -268,17 +256,17 @@ parent-newest shape len col node true tree coherent upper may =
 
 -- what the parent shows before a grant is the page as it is
 parent-shows : (l : LogSeen) (node page : ℕ) (write : Bool) → IsLegalLog l → IsPlanned l (events.PageIn node page write)
-    → shown (tree_of l.shape) l.shape.page_size l.history.opening (trail_of l.history) (parent (tree_of l.shape) node) page ≡ page_in l.shape.page_size (file_of l.shape l.history).bytes page
+    → shown (tree_of l) l.shape.page_size l.history.opening (trail_of l.history) (parent (tree_of l) node) page ≡ page_in l.shape.page_size (file_of l.shape l.history).bytes page
 parent-shows l node page write log plan =
-    let shape : TreeShape = tree_of l.shape in
+    let shape : TreeShape = tree_of l in
     let coherent = (coherent-at l log.tree log.legal).columns page in
     let upper = plan.allowed.upper in
     let inside = upper.inside in
     let below = log.tree.ordered node upper in
     let within : parent shape node < nodes shape = omega arith in
-    let placed : ((state_at l.shape l.history).column page).at (parent shape node) ≤ place_of l.history = subst (λ n. ((state_at l.shape l.history).column page).at (parent shape node) ≤ n) (len-at l) (coherent.placed (parent shape node) within) in
+    let placed : ((state_at l).column page).at (parent shape node) ≤ place_of l.history = subst (λ n. ((state_at l).column page).at (parent shape node) ≤ n) (len-at l) (coherent.placed (parent shape node) within) in
     page_at-newest shape l.shape.page_size l.pages l.history.opening (trail_of l.history) page (at_of shape (trail_of l.history) (parent shape node) page) log.history.size log.legal
-    (parent-newest shape (state_at l.shape l.history).len (column_at l page) node write log.tree coherent upper plan.allowed.line.0) placed
+    (parent-newest shape (state_at l).len (column_at l page) node write log.tree coherent upper plan.allowed.line.0) placed
 
 pub fill-zero : (l : LogSeen) (node page : ℕ) (write : Bool) → IsLegalLog l → IsPlanned l (events.PageIn node page write) → (column_at l page).right node ≡ Right.Nothing
     → IsZeroPage l.shape.page_size (page_in l.shape.page_size (file_of l.shape l.history).bytes page) → IsNextMessage l (events.ZeroFill node page write)
@@ -359,17 +347,17 @@ push-hands shape s page node from keep event tree coherent old (Push other unset
 
 -- what the plan of a sync answers, seen from the log
 pub pushed : (l : LogSeen) (page node from : ℕ) (keep : Keep) (event : Event) → IsLegalLog l → page < l.pages → (column_at l page).newest ≤ from
-    → IsAllowed (tree_of l.shape) l.pages (state_at l.shape l.history) event → IsNextOfSync (tree_of l.shape) (state_at l.shape l.history) page node from keep event → IsNextMessage l event
+    → IsAllowed (tree_of l) l.pages (state_at l) event → IsNextOfSync (tree_of l) (state_at l) page node from keep event → IsNextMessage l event
 pushed l page node from keep event log inside old ok (Push other unsettled first) =
-    let on : Bool = is_within (tree_of l.shape) node other in
+    let on : Bool = is_within (tree_of l) node other in
     record {
       legal = record {
         fits = pushing-fits l.shape.page_size l.pages keep on other page inside;
         allowed = ok;
-        filled = pushing-filled (tree_of l.shape) l.shape.page_size l.history.opening (trail_of l.history) keep on other page;
+        filled = pushing-filled (tree_of l) l.shape.page_size l.history.opening (trail_of l.history) keep on other page;
       };
       quiet = pushing-quiet keep on other page;
-      newest = push-hands (tree_of l.shape) (state_at l.shape l.history) page node from keep event log.tree ((coherent-at l log.tree log.legal).columns page) old (Push other unsettled first);
+      newest = push-hands (tree_of l) (state_at l) page node from keep event log.tree ((coherent-at l log.tree log.legal).columns page) old (Push other unsettled first);
     }
 
 -- which page the ground takes
@@ -397,33 +385,33 @@ handed-node event copy some = of-event event some
     of-event (events.Synced caller number node from keep) e = absurd cc
 
 -- the copy is of a node of the tree other than the ground, and of a page of the file
-pub handed-in : (l : LogSeen) (event : Event) (copy : Copied) → IsNextMessage l event → handed_by event ≡ Some copy → IsUpper (tree_of l.shape) copy.node × (copy.page < l.pages)
+pub handed-in : (l : LogSeen) (event : Event) (copy : Copied) → IsNextMessage l event → handed_by event ≡ Some copy → IsUpper (tree_of l) copy.node × (copy.page < l.pages)
 handed-in l event copy next some =
     let is = handed-node event copy some in
-    (subst (IsUpper (tree_of l.shape)) is.0 next.legal.allowed.upper, page-in l.shape.page_size l.pages event next.legal.fits copy.page is.1)
+    (subst (IsUpper (tree_of l)) is.0 next.legal.allowed.upper, page-in l.shape.page_size l.pages event next.legal.fits copy.page is.1)
 
-pub taken-none : (l : LogSeen) (event : Event) → IsNextMessage l event → handed_by event ≡ None → KeepsGround (tree_of l.shape) (state_at l.shape l.history) event
-taken-none l event next none = ground-kept (tree_of l.shape) (state_at l.shape l.history) event next.legal.allowed.upper.above none
+pub taken-none : (l : LogSeen) (event : Event) → IsNextMessage l event → handed_by event ≡ None → KeepsGround (tree_of l) (state_at l) event
+taken-none l event next none = ground-kept (tree_of l) (state_at l) event next.legal.allowed.upper.above none
 
 pub taken-same : (l : LogSeen) (event : Event) (copy : Copied) → IsNextMessage l event → handed_by event ≡ Some copy
-    → ((parent (tree_of l.shape) copy.node ≡ 0) × ((column_at l copy.page).at copy.node ≢ (column_at l copy.page).at 0) → ⊥) → KeepsGround (tree_of l.shape) (state_at l.shape l.history) event
-taken-same l event copy next some not = elim (same_or_not (parent (tree_of l.shape) copy.node) 0) [
-  | inr other ↦ ground-other (tree_of l.shape) (state_at l.shape l.history) event copy some (handed-in l event copy next some).0.above other
+    → ((parent (tree_of l) copy.node ≡ 0) × ((column_at l copy.page).at copy.node ≢ (column_at l copy.page).at 0) → ⊥) → KeepsGround (tree_of l) (state_at l) event
+taken-same l event copy next some not = elim (same_or_not (parent (tree_of l) copy.node) 0) [
+  | inr other ↦ ground-other (tree_of l) (state_at l) event copy some (handed-in l event copy next some).0.above other
   | inl own ↦ λ page. elim (same_or_not page copy.page) [
-    | inr other ↦ ground-elsewhere (tree_of l.shape) (state_at l.shape l.history) event copy some page other
+    | inr other ↦ ground-elsewhere (tree_of l) (state_at l) event copy some page other
     | inl same ↦ elim (same_or_not ((column_at l copy.page).at copy.node) ((column_at l copy.page).at 0)) [
       | inr d ↦ absurd (not (own, d))
-      | inl equal ↦ subst (λ p. ((state_after (tree_of l.shape) (state_at l.shape l.history) event).column p).at 0 ≡ (column_at l p).at 0) (sym same)
-          (ground-own (tree_of l.shape) (state_at l.shape l.history) event copy some (handed-in l event copy next some).0.above own ∙ equal)
+      | inl equal ↦ subst (λ p. ((state_after (tree_of l) (state_at l) event).column p).at 0 ≡ (column_at l p).at 0) (sym same)
+          (ground-own (tree_of l) (state_at l) event copy some (handed-in l event copy next some).0.above own ∙ equal)
     ]
   ]
 ]
 
-pub taken-some : (l : LogSeen) (event : Event) (copy : Copied) → IsNextMessage l event → handed_by event ≡ Some copy → parent (tree_of l.shape) copy.node ≡ 0
-    → GroundTakes (tree_of l.shape) l.pages (state_at l.shape l.history) event copy.page
+pub taken-some : (l : LogSeen) (event : Event) (copy : Copied) → IsNextMessage l event → handed_by event ≡ Some copy → parent (tree_of l) copy.node ≡ 0
+    → GroundTakes (tree_of l) l.pages (state_at l) event copy.page
 taken-some l event copy next some own =
-    let shape : TreeShape = tree_of l.shape in
-    let s : State = state_at l.shape l.history in
+    let shape : TreeShape = tree_of l in
+    let s : State = state_at l in
     let inside = handed-in l event copy next some in
     let newest : parent shape copy.node ≡ 0 → (s.column copy.page).newest ≤ (s.column copy.page).at copy.node =
     subst (λ (o : Option Copied). IfSome o (λ c. parent shape c.node ≡ 0 → (s.column c.page).newest ≤ (s.column c.page).at c.node)) some next.newest in
@@ -435,31 +423,31 @@ taken-some l event copy next some own =
 
 -- pages whose newest bytes the ground shows stay such
 pub ground-stays : (l : LogSeen) (event : Event) (page : ℕ) → IsNextMessage l event → (column_at l page).newest ≤ (column_at l page).at 0
-    → (column_at l page).newest ≤ ((state_after (tree_of l.shape) (state_at l.shape l.history) event).column page).at 0
+    → (column_at l page).newest ≤ ((state_after (tree_of l) (state_at l) event).column page).at 0
 ground-stays l event page next new = by-copy (handed_by event) refl
   where
-    kept : KeepsGround (tree_of l.shape) (state_at l.shape l.history) event → (column_at l page).newest ≤ ((state_after (tree_of l.shape) (state_at l.shape l.history) event).column page).at 0
+    kept : KeepsGround (tree_of l) (state_at l) event → (column_at l page).newest ≤ ((state_after (tree_of l) (state_at l) event).column page).at 0
     kept keeps = subst (λ n. (column_at l page).newest ≤ n) (sym (keeps page)) new
 
-    by-copy : (copy : Option Copied) → handed_by event ≡ copy → (column_at l page).newest ≤ ((state_after (tree_of l.shape) (state_at l.shape l.history) event).column page).at 0
+    by-copy : (copy : Option Copied) → handed_by event ≡ copy → (column_at l page).newest ≤ ((state_after (tree_of l) (state_at l) event).column page).at 0
     by-copy None none = kept (taken-none l event next none)
-    by-copy (Some copy) some = elim (same_or_not (parent (tree_of l.shape) copy.node) 0) [
-      | inr other ↦ kept (ground-other (tree_of l.shape) (state_at l.shape l.history) event copy some (handed-in l event copy next some).0.above other)
+    by-copy (Some copy) some = elim (same_or_not (parent (tree_of l) copy.node) 0) [
+      | inr other ↦ kept (ground-other (tree_of l) (state_at l) event copy some (handed-in l event copy next some).0.above other)
       | inl own ↦
           let takes = taken-some l event copy next some own in
           elim (same_or_not page copy.page) [
-            | inl same ↦ subst (λ p. (column_at l p).newest ≤ ((state_after (tree_of l.shape) (state_at l.shape l.history) event).column p).at 0) (sym same) takes.newest
+            | inl same ↦ subst (λ p. (column_at l p).newest ≤ ((state_after (tree_of l) (state_at l) event).column p).at 0) (sym same) takes.newest
             | inr other ↦ subst (λ n. (column_at l page).newest ≤ n) (sym (takes.others page other)) new
           ]
     ]
 
 -- callers' events
 
-pub access-legal : (l : LogSeen) (caller number node life : ℕ) (op : Op) → IsUpper (tree_of l.shape) node → IsTrue (fits_page l.shape.page_size l.pages op)
-    → (life ≡ (state_at l.shape l.history).life node → MayAccess (tree_of l.shape) (state_at l.shape l.history) node op) → IsLegalHere l (events.Access caller number node life op)
+pub access-legal : (l : LogSeen) (caller number node life : ℕ) (op : Op) → IsUpper (tree_of l) node → IsTrue (fits_page l.shape.page_size l.pages op)
+    → (life ≡ (state_at l).life node → MayAccess (tree_of l) (state_at l) node op) → IsLegalHere l (events.Access caller number node life op)
 access-legal l caller number node life op upper fits may = record { fits = fits; allowed = record { upper = upper; line = may }; filled = tt }
 
-pub synced-legal : (l : LogSeen) (caller number node from : ℕ) (keep : Keep) → IsUpper (tree_of l.shape) node → from ≤ place_of l.history → IsAllSettled l.pages from (state_at l.shape l.history)
+pub synced-legal : (l : LogSeen) (caller number node from : ℕ) (keep : Keep) → IsUpper (tree_of l) node → from ≤ place_of l.history → IsAllSettled l.pages from (state_at l)
     → IsLegalHere l (events.Synced caller number node from keep)
 synced-legal l caller number node from keep upper le settled = record {
   fits = λ page some. absurd cc;
@@ -469,16 +457,16 @@ synced-legal l caller number node from keep upper le settled = record {
 
 -- what a plan answers
 
-pub next-planned : (l : LogSeen) (tree : TreeShape) (sheet : Sheet) (node page : ℕ) (want : Right) (event : Event) → IsCore l tree sheet → page < l.pages → IsNext tree (pages_of sheet) (seen sheet) node page want event
+pub next-planned : (l : LogSeen) (tree : TreeShape) (sheet : Sheet) (node page : ℕ) (want : Right) (event : Event) → tree ≡ tree_of l → IsCore l sheet → page < l.pages → IsNext tree (pages_of sheet) (seen sheet) node page want event
     → IsAllowed tree (pages_of sheet) (seen sheet) event → IsPlanned l event
-next-planned l tree sheet node page want event core inside rule ok =
-    planned l node page want event inside (core-says l tree sheet (λ t n s. IsNext t n s node page want event) core rule) (core-says l tree sheet (λ t n s. IsAllowed t n s event) core ok)
+next-planned l tree sheet node page want event same core inside rule ok =
+    planned l node page want event inside (core-says l tree sheet (λ t n s. IsNext t n s node page want event) same core rule) (core-says l tree sheet (λ t n s. IsAllowed t n s event) same core ok)
 
-pub next-pushed : (l : LogSeen) (tree : TreeShape) (sheet : Sheet) (page node from : ℕ) (keep : Keep) (answer : Next) → IsCore l tree sheet → IsLegalLog l → page < l.pages → (column_at l page).newest ≤ from
+pub next-pushed : (l : LogSeen) (tree : TreeShape) (sheet : Sheet) (page node from : ℕ) (keep : Keep) (answer : Next) → tree ≡ tree_of l → IsCore l sheet → IsLegalLog l → page < l.pages → (column_at l page).newest ≤ from
     → IsSyncAnswer tree (seen sheet) page node from keep answer → IfDo answer (IsAllowed tree (pages_of sheet) (seen sheet)) → IfDo answer (IsNextMessage l)
-next-pushed l tree sheet page node from keep Next.Ready core log inside old rule ok = tt
-next-pushed l tree sheet page node from keep (Next.Do event) core log inside old rule ok =
-    pushed l page node from keep event log inside old (core-says l tree sheet (λ t n s. IsAllowed t n s event) core ok) (core-says l tree sheet (λ t n s. IsNextOfSync t s page node from keep event) core rule)
+next-pushed l tree sheet page node from keep Next.Ready same core log inside old rule ok = tt
+next-pushed l tree sheet page node from keep (Next.Do event) same core log inside old rule ok =
+    pushed l page node from keep event log inside old (core-says l tree sheet (λ t n s. IsAllowed t n s event) same core ok) (core-says l tree sheet (λ t n s. IsNextOfSync t s page node from keep event) same core rule)
 
 -- an event that the plan gives is no grant, if it is no PageIn
 pub no-grant : (event : Event) → ((node page : ℕ) (write : Bool) → event ≡ events.PageIn node page write → ⊥) → IsNoGrant event

@@ -1,25 +1,19 @@
 -- What an event does to the ground's copies.
-use Rattle.std.proofs.Common.{◌≡◌, ◌≢◌, ℕ, ◌+◌, ◌<◌, ◌==◌, Bool, true, false, cond, length, Some, None, refl, sym, ap, subst, ◌∙◌, arith}
+use Rattle.std.proofs.Common.{◌≡◌, ◌≢◌, ℕ, ◌+◌, ◌<◌, ◌==◌, Bool, true, false, cond, Some, None, refl, sym, ap, subst, ◌∙◌, arith}
 use Rattle.std.proofs.lemmas.Bool.{eq-eqb}
-use Rattle.std.proofs.lemmas.List.{get_or-replicate}
 use Rattle.hist_plain.specs.declared.event.Op.{Op}
 use Rattle.hist_plain.specs.declared.event.Op.TheVariants as ops
 use Rattle.hist_plain.specs.declared.event.Event.{Event}
 use Rattle.hist_plain.specs.declared.event.Event.TheVariants as events
-use Rattle.hist_plain.specs.File.{Shape}
 use Rattle.hist_plain.specs.Event.{node_of}
-use Rattle.tower_core.specs.TreeShape.{TreeShape, parent, frames_of, IsUpper}
+use Rattle.tower_core.specs.TreeShape.{TreeShape, parent}
 use Rattle.tower_core.specs.declared.step.Step.{Step}
 use Rattle.tower_core.specs.declared.step.Step.TheVariants.{Untouched, Reads, Writes, Grants, PagesOut, Denies, Pushes, Flushes, Deletes}
 use Rattle.tower_core.specs.Column.{Column, at_after, given, granted_at, updated}
 use Rattle.tower_core.specs.Trail.{State, state_after, step_of_access, of_page}
 use Rattle.tower_core.proofs.StepLaw.{updated-same, updated-other}
 use Rattle.plain_tower.specs.declared.coherence.Copied.{Copied}
-use Rattle.plain_tower.specs.Legal.{tree_of, handed_by, KeepsGround}
-
--- no node has frames
-pub no_frames : (shape : Shape) (node : ℕ) → IsUpper (tree_of shape) node → frames_of (tree_of shape) node ≡ 0
-no_frames shape node upper = get_or-replicate (length shape.parents) node 0 0 upper.inside
+use Rattle.plain_tower.specs.Legal.{handed_by, KeepsGround}
 
 -- a step that is taken or not
 cond-ground : (b : Bool) (shape : TreeShape) (len : ℕ) (col : Column) (step : Step) → at_after shape len col step 0 ≡ col.at 0 → at_after shape len col (cond b step Untouched) 0 ≡ col.at 0

@@ -5,3 +5,4 @@ pub mod Grounds
 pub mod CoreLaws
 pub mod Calls
 pub mod TowerSteps
+pub mod Later

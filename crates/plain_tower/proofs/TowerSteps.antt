@@ -39,9 +39,12 @@ use Rattle.hist_plain.specs.declared.event.Op.{Op}
 use Rattle.tower_core.specs.Legal.{shown, IsLegal}
 use Rattle.tower_core.proofs.Legals.{state_of-snoc, legal_snoc}
 use Rattle.tower_core.proofs.Steps.{slice_get-set_same, slice_get-set_other}
-use Rattle.plain_tower.specs.Seen.{LogSeen}
+use Rattle.plain_tower.specs.declared.shape.FileShape.{FileShape}
+use Rattle.hist_plain.specs.declared.TheConstants.{MAX_EVENTS}
+use Rattle.plain_tower.specs.Fresh.{IsFresh}
+use Rattle.plain_tower.specs.Seen.{LogSeen, tree_of}
 use Rattle.plain_tower.specs.Pages.{KeepsPages}
-use Rattle.plain_tower.specs.Legal.{tree_of, state_at, column_at, KeepsGround, GroundTakes, IsGroundNewest, IsLegalHere, IsLegalLog, IsNextMessage, IsWrittenBefore}
+use Rattle.plain_tower.specs.Legal.{state_at, column_at, KeepsGround, GroundTakes, IsGroundNewest, IsLegalHere, IsLegalLog, IsNextMessage, IsWrittenBefore}
 use Rattle.plain_tower.specs.Tower.{TowerSeen, IsTower, IsOnDisk, HasMany, IsFaultOf, SameDisk, KeepsSynced, GoesOn, Sent, ShowsGround, Stopped, image_of}
 use Rattle.plain_tower.proofs.Calls.{sends-one, stopped-noted, called-sent, disk-same}
 use Rattle.run_defs.specs.Plan.{Ask}
@@ -103,10 +106,10 @@ quiet-no-sync _ quiet = tt
 
 -- what the ground shows
 
-shown-kept : (l : LogSeen) (event : Event) (room page : ℕ) → IsLegalLog l → ((state_after (tree_of l.shape) (state_at l.shape l.history) event).column page).at 0 ≡ (column_at l page).at 0
-    → shown (tree_of l.shape) l.shape.page_size l.history.opening (trail_of (more l.history (Entered event ∷ []))) 0 page ≡ shown (tree_of l.shape) l.shape.page_size l.history.opening (trail_of l.history) 0 page
+shown-kept : (l : LogSeen) (event : Event) (room page : ℕ) → IsLegalLog l → ((state_after (tree_of l) (state_at l) event).column page).at 0 ≡ (column_at l page).at 0
+    → shown (tree_of l) l.shape.page_size l.history.opening (trail_of (more l.history (Entered event ∷ []))) 0 page ≡ shown (tree_of l) l.shape.page_size l.history.opening (trail_of l.history) 0 page
 shown-kept l event room page log same =
-    let shape : TreeShape = tree_of l.shape in
+    let shape : TreeShape = tree_of l in
     let trail : trail_of (more l.history (Entered event ∷ [])) ≡ trail_of l.history ++ event ∷ [] = trail_of-entered l.history event in
     let at : at_of shape (trail_of l.history ++ event ∷ []) 0 page ≡ at_of shape (trail_of l.history) 0 page = ap (λ (s : State). (s.column page).at 0) (state_of-snoc shape (trail_of l.history) event) ∙ same in
     let placed : at_of shape (trail_of l.history) 0 page ≤ place_of l.history = subst (λ n. at_of shape (trail_of l.history) 0 page ≤ n) (len-at l) (((coherent-at l log.tree log.legal).columns page).placed 0 log.tree.grounded) in
@@ -115,7 +118,7 @@ shown-kept l event room page log same =
     ∙ page_at-later l.shape (first_file l.shape l.history) (trail_of l.history) (event ∷ []) page (at_of shape (trail_of l.history) 0 page) placed)
 
 -- an event that leaves the ground's copies
-pub shows-kept : (l : LogSeen) (event : Event) (room : ℕ) (pages : Option (List (List ℕ))) → IsLegalLog l → KeepsGround (tree_of l.shape) (state_at l.shape l.history) event → ShowsGround l pages → ShowsGround (later l (Entered event ∷ []) room) pages
+pub shows-kept : (l : LogSeen) (event : Event) (room : ℕ) (pages : Option (List (List ℕ))) → IsLegalLog l → KeepsGround (tree_of l) (state_at l) event → ShowsGround l pages → ShowsGround (later l (Entered event ∷ []) room) pages
 shows-kept l event room None log kept h = tt
 shows-kept l event room (Some c) log kept h = λ page inside. h page inside ∙ ap Some (sym (shown-kept l event room page log (kept page)))
 
@@ -130,28 +133,28 @@ pub legal-later : (l : LogSeen) (event : Event) (room : ℕ) → IsLegalLog l �
 legal-later l event room log next history = record {
   tree = log.tree;
   history = history;
-  legal = subst (λ (es : List Event). IsLegal (tree_of l.shape) l.shape.page_size l.pages l.history.opening es) (sym (trail_of-entered l.history event))
-      (legal_snoc (tree_of l.shape) l.shape.page_size l.pages l.history.opening (trail_of l.history) event log.legal next);
+  legal = subst (λ (es : List Event). IsLegal (tree_of l) l.shape.page_size l.pages l.history.opening es) (sym (trail_of-entered l.history event))
+      (legal_snoc (tree_of l) l.shape.page_size l.pages l.history.opening (trail_of l.history) event log.legal next);
 }
 
 -- a copy of the ground that is not before the newest write shows the page
 pub ground-current : (l : LogSeen) (page : ℕ) → IsLegalLog l → (column_at l page).newest ≤ (column_at l page).at 0
-    → shown (tree_of l.shape) l.shape.page_size l.history.opening (trail_of l.history) 0 page ≡ page_in l.shape.page_size (file_of l.shape l.history).bytes page
+    → shown (tree_of l) l.shape.page_size l.history.opening (trail_of l.history) 0 page ≡ page_in l.shape.page_size (file_of l.shape l.history).bytes page
 ground-current l page log new =
-    let shape : TreeShape = tree_of l.shape in
+    let shape : TreeShape = tree_of l in
     let placed : at_of shape (trail_of l.history) 0 page ≤ place_of l.history = subst (λ n. at_of shape (trail_of l.history) 0 page ≤ n) (len-at l) (((coherent-at l log.tree log.legal).columns page).placed 0 log.tree.grounded) in
     page_at-newest shape l.shape.page_size l.pages l.history.opening (trail_of l.history) page (at_of shape (trail_of l.history) 0 page) log.history.size log.legal new placed
 
 -- a message that brings the ground a page, which was written to the store
 pub shows-taken : (l : LogSeen) (event : Event) (room taken : ℕ) (pages : Option (List (List ℕ))) → IsLegalLog l → IsLegalLog (later l (Entered event ∷ []) room) → caller_of event ≡ None
-    → HasMany l.pages pages → GroundTakes (tree_of l.shape) l.pages (state_at l.shape l.history) event taken → ShowsGround l pages
+    → HasMany l.pages pages → GroundTakes (tree_of l) l.pages (state_at l) event taken → ShowsGround l pages
     → ShowsGround (later l (Entered event ∷ []) room) (with_page taken (page_in l.shape.page_size (file_of l.shape l.history).bytes taken) pages)
 shows-taken l event room taken None log log' quiet many takes h = tt
 shows-taken l event room taken (Some ps) log log' quiet many takes h = λ page inside. elim (same_or_not page taken) [
   | inr other ↦ slice_get-set_other ps taken page (page_in l.shape.page_size (file_of l.shape l.history).bytes taken) other
       ∙ (h page inside ∙ ap Some (sym (shown-kept l event room page log (takes.others page other))))
   | inl same ↦ subst (λ p. slice_get (slice_set ps taken (page_in l.shape.page_size (file_of l.shape l.history).bytes taken)) p
-      ≡ Some (shown (tree_of l.shape) l.shape.page_size l.history.opening (trail_of (more l.history (Entered event ∷ []))) 0 p)) (sym same)
+      ≡ Some (shown (tree_of l) l.shape.page_size l.history.opening (trail_of (more l.history (Entered event ∷ []))) 0 p)) (sym same)
       (slice_get-set_same ps taken (page_in l.shape.page_size (file_of l.shape l.history).bytes taken) (subst (λ n. taken < n) (sym many) takes.inside)
       ∙ ap Some (sym (ground-current (later l (Entered event ∷ []) room) taken log' newest
       ∙ ap (λ (f : File). page_in l.shape.page_size f.bytes taken) (file_of-entered l.shape l.history event ∙ quiet-file l.shape (file_of l.shape l.history) event quiet))))
@@ -159,11 +162,11 @@ shows-taken l event room taken (Some ps) log log' quiet many takes h = λ page i
   where
     newest : (column_at (later l (Entered event ∷ []) room) taken).newest ≤ (column_at (later l (Entered event ∷ []) room) taken).at 0
     newest =
-        let shape : TreeShape = tree_of l.shape in
-        let state : state_of shape (trail_of (more l.history (Entered event ∷ []))) ≡ state_after shape (state_at l.shape l.history) event =
+        let shape : TreeShape = tree_of l in
+        let state : state_of shape (trail_of (more l.history (Entered event ∷ []))) ≡ state_after shape (state_at l) event =
         ap (λ (es : List Event). state_of shape es) (trail_of-entered l.history event) ∙ state_of-snoc shape (trail_of l.history) event in
-        let after : ((state_after shape (state_at l.shape l.history) event).column taken).newest ≤ ((state_after shape (state_at l.shape l.history) event).column taken).at 0 =
-        subst (λ n. n ≤ ((state_after shape (state_at l.shape l.history) event).column taken).at 0) (sym (quiet-newest shape (state_at l.shape l.history) event quiet taken)) takes.newest in
+        let after : ((state_after shape (state_at l) event).column taken).newest ≤ ((state_after shape (state_at l) event).column taken).at 0 =
+        subst (λ n. n ≤ ((state_after shape (state_at l) event).column taken).at 0) (sym (quiet-newest shape (state_at l) event quiet taken)) takes.newest in
         subst (λ (s : State). (s.column taken).newest ≤ (s.column taken).at 0) (sym state) after
 
 -- towers
@@ -216,7 +219,7 @@ tower-noted l l' d d' caller fault tower is same rose pages keeps =
           (rises-more d.opened d.faults fault.count d'.faults (counts_of d.disk l.history.log) tower.rises rose.above rose.within)));
       keeps = keeps-later l (Noted note ∷ []) l'.room [] (kept_on d) (kept_on d') (trail ∙ sym (append-nil (trail_of l.history))) (ap last_from (append-nil (trail_of l.history))) keeps tower.keeps;
       ground = subst (λ (o : Option (List (List ℕ))). ShowsGround (later l (Noted note ∷ []) l'.room) o) (sym pages)
-          (subst (λ (es : List Event). IfSome (pages_on d) (λ ps. (page : ℕ) → page < l.pages → slice_get ps page ≡ Some (shown (tree_of l.shape) l.shape.page_size l.history.opening es 0 page))) (sym trail) tower.ground);
+          (subst (λ (es : List Event). IfSome (pages_on d) (λ ps. (page : ℕ) → page < l.pages → slice_get ps page ≡ Some (shown (tree_of l) l.shape.page_size l.history.opening es 0 page))) (sym trail) tower.ground);
     })
 
 some_is : (a b : ℕ) → Some a ≡ Some b → a ≡ b
@@ -309,7 +312,7 @@ page_size-le size h =
 opened-ground : (l : LogSeen) (pages : Option (List (List ℕ))) → l.history.log ≡ [] → HasMany l.pages pages → IfSome pages (ArePages l.shape.page_size l.history.opening) → ShowsGround l pages
 opened-ground l None none many are = tt
 opened-ground l (Some ps) none many are = λ page inside.
-    subst (λ (log : List Logged). slice_get ps page ≡ Some (shown (tree_of l.shape) l.shape.page_size l.history.opening (events_of log) 0 page)) (sym none)
+    subst (λ (log : List Logged). slice_get ps page ≡ Some (shown (tree_of l) l.shape.page_size l.history.opening (events_of log) 0 page)) (sym none)
     (are.each page (subst (λ n. page < n) (sym many) inside))
 
 -- a tower without an entry
@@ -325,30 +328,29 @@ tower-opened l d none image many pages since = record {
 }
 
 -- a tower over a disk whose pages were read
-pub opened-over : (l : LogSeen) (d d' : Disk) (size pages : ℕ) (bytes : List ℕ) → l.shape.page_size ≡ size → l.pages ≡ pages → l.history ≡ record { opening = bytes; log = [] }
-    → d.shape ≡ record { page_size = size; pages = pages } → d' ≡ counting d'.faults d → HasMany pages (pages_on d') → IfSome (pages_on d) (λ ps. ArePages size bytes ps) → d'.opened ≤ d'.faults → IsTower (tower_over l d')
-opened-over l d d' size pages bytes is_size is_pages history image same many are since =
-    tower-opened l d' (ap (λ (h : History). h.log) history)
-    (ap (λ (x : Disk). x.shape) same ∙ (image ∙ (ap (λ n. let i : ImageShape = record { page_size = n; pages = pages } in i) (sym is_size) ∙ ap (λ n. let i : ImageShape = record { page_size = l.shape.page_size; pages = n } in i) (sym is_pages))))
-    (subst (λ n. HasMany n (pages_on d')) (sym is_pages) many)
-    (subst (λ n. IfSome (pages_on d') (ArePages n l.history.opening)) (sym is_size)
-    (subst (λ (b : List ℕ). IfSome (pages_on d') (ArePages size b)) (sym (ap (λ (h : History). h.opening) history))
-    (subst (λ (o : Option (List (List ℕ))). IfSome o (ArePages size bytes)) (sym (ap (λ (x : Disk). pages_on x) same)) are)))
+pub opened-over : (l : LogSeen) (d : Disk) (file : FileShape) (bytes : List ℕ) → IsFresh file bytes l → d.shape ≡ record { page_size = file.page_size; pages = file.pages }
+    → HasMany d.shape.pages (pages_on d) → IfSome (pages_on d) (ArePages d.shape.page_size bytes) → d.opened ≤ d.faults → IsTower (tower_over l d)
+opened-over l d file bytes fresh image many are since =
+    let image' : d.shape ≡ image_of l = image ∙ (ap (λ n. let i : ImageShape = record { page_size = n; pages = file.pages } in i) (sym fresh.size_is) ∙ ap (λ n. let i : ImageShape = record { page_size = l.shape.page_size; pages = n } in i) (sym fresh.pages_are)) in
+    tower-opened l d (ap (λ (h : History). h.log) fresh.history_is) image'
+    (subst (λ (i : ImageShape). HasMany i.pages (pages_on d)) image' many)
+    (subst (λ (b : List ℕ). IfSome (pages_on d) (ArePages l.shape.page_size b)) (sym (ap (λ (h : History). h.opening) fresh.history_is))
+    (subst (λ (i : ImageShape). IfSome (pages_on d) (ArePages i.page_size bytes)) image' are))
     since
 
 -- the log with one more message
-pub next-log : (l : LogSeen) (event : Event) (room : ℕ) → IsLegalLog l → IsNextMessage l event → place_of l.history < 4194304 → IsLegalLog (later l (Entered event ∷ []) room)
+pub next-log : (l : LogSeen) (event : Event) (room : ℕ) → IsLegalLog l → IsNextMessage l event → place_of l.history < MAX_EVENTS → IsLegalLog (later l (Entered event ∷ []) room)
 next-log l event room log next few =
     legal-later l event room log next.legal (history-entered l.shape l.pages l.history event log.history (legal-suits l event log.history log.legal next.legal) few)
 
-pub message-taken : (l : LogSeen) (event : Event) (taken : ℕ) (bytes : List ℕ) (pages pages' : Option (List (List ℕ))) → IsLegalLog l → IsNextMessage l event → place_of l.history < 4194304 → HasMany l.pages pages
-    → GroundTakes (tree_of l.shape) l.pages (state_at l.shape l.history) event taken → ShowsGround l pages → bytes ≡ page_in l.shape.page_size (file_of l.shape l.history).bytes taken → pages' ≡ with_page taken bytes pages
+pub message-taken : (l : LogSeen) (event : Event) (taken : ℕ) (bytes : List ℕ) (pages pages' : Option (List (List ℕ))) → IsLegalLog l → IsNextMessage l event → place_of l.history < MAX_EVENTS → HasMany l.pages pages
+    → GroundTakes (tree_of l) l.pages (state_at l) event taken → ShowsGround l pages → bytes ≡ page_in l.shape.page_size (file_of l.shape l.history).bytes taken → pages' ≡ with_page taken bytes pages
     → ShowsGround (record l { history = more l.history (Entered event ∷ []) }) pages'
 message-taken l event taken bytes pages pages' log next few many takes h is after =
     subst (λ (o : Option (List (List ℕ))). ShowsGround (later l (Entered event ∷ []) l.room) o) (sym (after ∙ ap (λ (b : List ℕ). with_page taken b pages) is))
     (shows-taken l event l.room taken pages log (next-log l event l.room log next few) next.quiet many takes h)
 
-pub message-kept : (l : LogSeen) (event : Event) (pages : Option (List (List ℕ))) → IsLegalLog l → KeepsGround (tree_of l.shape) (state_at l.shape l.history) event → ShowsGround l pages
+pub message-kept : (l : LogSeen) (event : Event) (pages : Option (List (List ℕ))) → IsLegalLog l → KeepsGround (tree_of l) (state_at l) event → ShowsGround l pages
     → ShowsGround (record l { history = more l.history (Entered event ∷ []) }) pages
 message-kept l event pages log kept h = shows-kept l event l.room pages log kept h
 
@@ -359,7 +361,7 @@ pub tower-accessed : (l l' : LogSeen) (d : Disk) (caller node life : ℕ) (op : 
 tower-accessed l l' d caller node life op (Ok answered) tower log above same entered refused =
     let event : Event = events.Access caller entered.number node life op in
     tower-entered l l' d d event tower (later-is l l' (Entered event ∷ []) same entered.log) tt (disk-same d) tower.many refl
-    (shows-kept l event l'.room (pages_on d) log (ground-kept (tree_of l.shape) (state_at l.shape l.history) event above refl) tower.ground)
+    (shows-kept l event l'.room (pages_on d) log (ground-kept (tree_of l) (state_at l) event above refl) tower.ground)
 tower-accessed l l' d caller node life op (Err err) tower log above same entered refused =
     tower-roomy l l' d tower (same ∙ ap (λ (h : History). let k : LogSeen = record l { history = h; room = l'.room } in k) refused)
 
@@ -434,26 +436,28 @@ disk-flushed a b same k = record {
 pub sent-shape : (a b : TowerSeen) → Sent a b → b.log.shape ≡ a.log.shape
 sent-shape a b sent = ap (λ (t : TowerSeen). t.log.shape) sent.goes.same
 
+pub sent-tree : (a b : TowerSeen) → Sent a b → tree_of b.log ≡ tree_of a.log
+sent-tree a b sent = ap (λ (t : TowerSeen). tree_of t.log) sent.goes.same
+
 pub sent-pages : (a b : TowerSeen) → Sent a b → b.log.pages ≡ a.log.pages
 sent-pages a b sent = ap (λ (t : TowerSeen). t.log.pages) sent.goes.same
 
 -- the state after one more event
-pub state-entered : (l l' : LogSeen) (event : Event) → l'.shape ≡ l.shape → l'.history ≡ more l.history (Entered event ∷ []) → state_at l'.shape l'.history ≡ state_after (tree_of l.shape) (state_at l.shape l.history) event
-state-entered l l' event shape log =
-    ap (λ (s : Shape). state_at s l'.history) shape ∙ (ap (λ (es : List Event). state_of (tree_of l.shape) es) (ap trail_of log ∙ trail_of-entered l.history event) ∙ state_of-snoc (tree_of l.shape) (trail_of l.history) event)
+pub state-entered : (a b : TowerSeen) (event : Event) → Sent a b → b.log.history ≡ more a.log.history (Entered event ∷ []) → state_at b.log ≡ state_after (tree_of a.log) (state_at a.log) event
+state-entered a b event sent log =
+    ap (λ (t : TreeShape). state_of t (trail_of b.log.history)) (sent-tree a b sent)
+    ∙ (ap (λ (es : List Event). state_of (tree_of a.log) es) (ap trail_of log ∙ trail_of-entered a.log.history event) ∙ state_of-snoc (tree_of a.log) (trail_of a.log.history) event)
 
 -- what an access costs falls by each message of its plan
 pub cost-falls : (t t' : TowerSeen) (event : Event) (node page : ℕ) (want : Right) → Sent t t' → t'.log.history ≡ more t.log.history (Entered event ∷ [])
-    → cost_of (tree_of t.log.shape) t.log.pages (state_after (tree_of t.log.shape) (state_at t.log.shape t.log.history) event) node page want + 1
-    ≡ cost_of (tree_of t.log.shape) t.log.pages (state_at t.log.shape t.log.history) node page want
-    → cost_of (tree_of t'.log.shape) t'.log.pages (state_at t'.log.shape t'.log.history) node page want < cost_of (tree_of t.log.shape) t.log.pages (state_at t.log.shape t.log.history) node page want
+    → cost_of (tree_of t.log) t.log.pages (state_after (tree_of t.log) (state_at t.log) event) node page want + 1 ≡ cost_of (tree_of t.log) t.log.pages (state_at t.log) node page want
+    → cost_of (tree_of t'.log) t'.log.pages (state_at t'.log) node page want < cost_of (tree_of t.log) t.log.pages (state_at t.log) node page want
 cost-falls t t' event node page want sent log cheaper =
-    let state = state-entered t.log t'.log event (sent-shape t t' sent) log in
-    let same : cost_of (tree_of t'.log.shape) t'.log.pages (state_at t'.log.shape t'.log.history) node page want
-    ≡ cost_of (tree_of t.log.shape) t.log.pages (state_after (tree_of t.log.shape) (state_at t.log.shape t.log.history) event) node page want =
-    ap (λ (s : Shape). cost_of (tree_of s) t'.log.pages (state_at t'.log.shape t'.log.history) node page want) (sent-shape t t' sent)
-    ∙ (ap (λ n. cost_of (tree_of t.log.shape) n (state_at t'.log.shape t'.log.history) node page want) (sent-pages t t' sent)
-    ∙ ap (λ (s : State). cost_of (tree_of t.log.shape) t.log.pages s node page want) state) in
+    let state = state-entered t t' event sent log in
+    let same : cost_of (tree_of t'.log) t'.log.pages (state_at t'.log) node page want ≡ cost_of (tree_of t.log) t.log.pages (state_after (tree_of t.log) (state_at t.log) event) node page want =
+    ap (λ (s : TreeShape). cost_of s t'.log.pages (state_at t'.log) node page want) (sent-tree t t' sent)
+    ∙ (ap (λ n. cost_of (tree_of t.log) n (state_at t'.log) node page want) (sent-pages t t' sent)
+    ∙ ap (λ (s : State). cost_of (tree_of t.log) t.log.pages s node page want) state) in
     omega arith
 
 pub place-grows : (t t' : TowerSeen) (event : Event) → t'.log.history ≡ more t.log.history (Entered event ∷ []) → place_of t'.log.history ≡ place_of t.log.history + 1
@@ -462,16 +466,16 @@ place-grows t t' event log = ap place_of log ∙ place_of-entered t.log.history 
 -- a message writes no page
 pub written-before-stays : (t t' : TowerSeen) (event : Event) (from : ℕ) → Sent t t' → t'.log.history ≡ more t.log.history (Entered event ∷ []) → caller_of event ≡ None → IsWrittenBefore t.log from → IsWrittenBefore t'.log from
 written-before-stays t t' event from sent log quiet old = λ page.
-    let state = state-entered t.log t'.log event (sent-shape t t' sent) log in
-    subst (λ n. n ≤ from) (sym (ap (λ (s : State). (s.column page).newest) state ∙ quiet-newest (tree_of t.log.shape) (state_at t.log.shape t.log.history) event quiet page)) (old page)
+    let state = state-entered t t' event sent log in
+    subst (λ n. n ≤ from) (sym (ap (λ (s : State). (s.column page).newest) state ∙ quiet-newest (tree_of t.log) (state_at t.log) event quiet page)) (old page)
 
 -- pages that the ground shows as they are stay such
 pub ground-newest-stays : (t t' : TowerSeen) (event : Event) (pages : ℕ) → Sent t t' → t'.log.history ≡ more t.log.history (Entered event ∷ []) → IsNextMessage t.log event → IsGroundNewest t.log pages → IsGroundNewest t'.log pages
 ground-newest-stays t t' event pages sent log next newest = λ page inside.
-    let state = state-entered t.log t'.log event (sent-shape t t' sent) log in
+    let state = state-entered t t' event sent log in
     subst (λ (s : State). (s.column page).newest ≤ (s.column page).at 0) (sym state)
-    (subst (λ n. n ≤ ((state_after (tree_of t.log.shape) (state_at t.log.shape t.log.history) event).column page).at 0)
-    (sym (quiet-newest (tree_of t.log.shape) (state_at t.log.shape t.log.history) event next.quiet page)) (ground-stays t.log event page next (newest page inside)))
+    (subst (λ n. n ≤ ((state_after (tree_of t.log) (state_at t.log) event).column page).at 0)
+    (sym (quiet-newest (tree_of t.log) (state_at t.log) event next.quiet page)) (ground-stays t.log event page next (newest page inside)))
 
 -- a settled page that was not written since is shown as it is
 pub newest-settled : (l : LogSeen) (page from : ℕ) → IsWrittenBefore l from → IsGroundNewest l page → IsSettled from (column_at l page) → IsGroundNewest l (page + 1)
@@ -480,12 +484,12 @@ newest-settled l page from old newest settled = λ p inside. elim (same_or_not p
   | inl same ↦ subst (λ q. (column_at l q).newest ≤ (column_at l q).at 0) (sym same) (let before = old page in elim settled [ inl late ↦ omega arith | inr now ↦ now ])
 ]
 
-pub all-settled : (l : LogSeen) (from : ℕ) → IsGroundNewest l l.pages → IsAllSettled l.pages from (state_at l.shape l.history)
+pub all-settled : (l : LogSeen) (from : ℕ) → IsGroundNewest l l.pages → IsAllSettled l.pages from (state_at l)
 all-settled l from newest = λ page inside. inr (newest page inside)
 
 -- at its end a trail has no later write
 pub written-before-end : (l : LogSeen) (from : ℕ) → from ≡ place_of l.history → IsWrittenBefore l from
-written-before-end l from is = λ page. subst (λ n. (column_at l page).newest ≤ n) (sym is) (newest_of-le (tree_of l.shape) (trail_of l.history) page)
+written-before-end l from is = λ page. subst (λ n. (column_at l page).newest ≤ n) (sym is) (newest_of-le (tree_of l) (trail_of l.history) page)
 
 -- of a call that succeeds something else holds too
 pub on-ok : {T E : Type 0} {P Q : Type 0} (r : Result T E) → OnOk r P → (P → Q) → OnOk r Q
@@ -518,11 +522,12 @@ refused-noted l m n caller d d' fault err roomy same noted is stays kept rose =
 
 -- a message that was entered
 pub sent-message : (l m n : LogSeen) (d d' : Disk) (event : Event) → m ≡ record l { room = m.room } → n ≡ record m { history = n.history; room = n.room }
-    → n.history ≡ more m.history (Entered event ∷ []) → caller_of event ≡ None → SameDisk d d' → kept_on d' ≡ kept_on d → Sent (tower_over l d) (tower_over n d')
-sent-message l m n d d' event roomy same entered quiet stays keeps =
+    → n.history ≡ more m.history (Entered event ∷ []) → caller_of event ≡ None → SameDisk d d' → d'.faults ≡ d.faults → kept_on d' ≡ kept_on d → Sent (tower_over l d) (tower_over n d')
+sent-message l m n d d' event roomy same entered quiet stays calm keeps =
     let on = later-roomy l m n (Entered event ∷ []) roomy same entered in
     record {
       goes = goes-over l n (Entered event ∷ []) d d' on stays keeps;
+      calm = calm;
       sends = sends-one l.history n.history event quiet (ap (λ (k : LogSeen). k.history) on);
     }
 
@@ -543,8 +548,8 @@ completed-pages l n d d' caller node from keep log many newest ground same enter
     (synced-pages l d d' caller entered.number node from keep log many newest ground pages kept)
 
 -- in a loop of messages
-pub sent-upper : (a b : TowerSeen) (node : ℕ) → Sent a b → IsUpper (tree_of a.log.shape) node → IsUpper (tree_of b.log.shape) node
-sent-upper a b node sent upper = subst (λ (s : Shape). IsUpper (tree_of s) node) (sym (sent-shape a b sent)) upper
+pub sent-upper : (a b : TowerSeen) (node : ℕ) → Sent a b → IsUpper (tree_of a.log) node → IsUpper (tree_of b.log) node
+sent-upper a b node sent upper = subst (λ (s : TreeShape). IsUpper s node) (sym (sent-tree a b sent)) upper
 
 pub sent-page : (a b : TowerSeen) (page : ℕ) → Sent a b → page < a.log.pages → page < b.log.pages
 sent-page a b page sent inside = subst (λ n. page < n) (sym (sent-pages a b sent)) inside

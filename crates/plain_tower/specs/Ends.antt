@@ -31,11 +31,11 @@ pub record Stops (caller : ℕ) (old new : History) (err : CallErr) : Type 0 whe
   pub log : new ≡ more old (map Entered messages ++ last)
   pub fails : Fails caller err (more old (map Entered messages)) last
 
--- the end of a call whose messages were entered before; a Synced is not from before the place
-pub record EndsFrom (shape : Shape) (caller : ℕ) (ask : Ask) (least : ℕ) (old new : History) (out : List ℕ) (r : Result Answered CallErr) : Type 0 where
+-- the end of a call that began at a place and whose messages were entered before
+pub record EndsFrom (shape : Shape) (caller : ℕ) (ask : Ask) (began : ℕ) (old new : History) (out : List ℕ) (r : Result Answered CallErr) : Type 0 where
   pub last : List Logged
   pub log : new ≡ more old last
-  pub ends : Ends shape caller ask least old last out r
+  pub ends : Ends shape caller ask began old last out r
 
 -- an access was entered
 pub record EntersAccess (caller node life : ℕ) (op : Op) (old new : History) : Type 0 where

@@ -1,43 +1,33 @@
 -- What keeps a file's trail legal over the tree of its nodes, and what a page message may be.
-use Rattle.std.specs.Prelude.{◌≡◌, ◌≢◌, ℕ, ◌<◌, ◌≤◌, length, replicate, Option, Some, None, IfSome}
+use Rattle.std.specs.Prelude.{◌≡◌, ◌≢◌, ℕ, ◌<◌, ◌≤◌, length, Option, Some, None, IfSome}
 use Rattle.hist_plain.specs.declared.event.Event.{Event}
 use Rattle.hist_plain.specs.Event.{caller_of}
-use Rattle.hist_plain.specs.File.{Shape}
-use Rattle.run_defs.specs.declared.log.History.{History}
-use Rattle.run_defs.specs.Log.{trail_of, IsHistory}
+use Rattle.run_defs.specs.Log.{trail_of, IsHistory, IsLegalTrail}
 use Rattle.tower_core.specs.declared.sheet.Sheet.{Sheet}
 use Rattle.tower_core.specs.TreeShape.{TreeShape, parent, IsTree}
 use Rattle.tower_core.specs.Column.{Column}
 use Rattle.tower_core.specs.Trail.{State, state_of, state_after, IsAllowed}
-use Rattle.tower_core.specs.Legal.{IsLegal, IsLegalNext, FitsFile}
+use Rattle.tower_core.specs.Legal.{IsLegalNext, FitsFile}
 use Rattle.tower_core.specs.Sheet.{nodes_of, pages_of, seen}
 use Rattle.plain_tower.specs.declared.coherence.Copied.{Copied}
-use Rattle.plain_tower.specs.Seen.{LogSeen}
+use Rattle.plain_tower.specs.Seen.{LogSeen, tree_of}
 
--- the tree of a file's nodes, none of which has frames
-abbrev pub tree_of : Shape → TreeShape
-tree_of shape = record { parents = shape.parents; frames = replicate (length shape.parents) 0 }
-
--- the trail of the history is legal over the tree with these parents and no frames, from the opening bytes on
-abbrev pub IsLegalTrail : Shape → ℕ → History → Type 0
-IsLegalTrail shape pages history = IsLegal (tree_of shape) shape.page_size pages history.opening (trail_of history)
-
--- the rights and places after a history
-abbrev pub state_at : Shape → History → State
-state_at shape history = state_of (tree_of shape) (trail_of history)
+-- the rights and places after the history
+abbrev pub state_at : LogSeen → State
+state_at l = state_of (tree_of l) (trail_of l.history)
 
 abbrev pub column_at : LogSeen → ℕ → Column
-column_at l page = (state_at l.shape l.history).column page
+column_at l page = (state_at l).column page
 
 -- the event may come next in the file's trail
 abbrev pub IsLegalHere : LogSeen → Event → Type 0
-IsLegalHere l event = IsLegalNext (tree_of l.shape) l.shape.page_size l.pages l.history.opening (trail_of l.history) event
+IsLegalHere l event = IsLegalNext (tree_of l) l.shape.page_size l.pages l.history.opening (trail_of l.history) event
 
 -- the history is one of this file, and its trail is legal over a tree
 pub record IsLegalLog (l : LogSeen) : Type 0 where
-  pub tree : IsTree (tree_of l.shape)
+  pub tree : IsTree (tree_of l)
   pub history : IsHistory l.shape l.pages l.history
-  pub legal : IsLegalTrail l.shape l.pages l.history
+  pub legal : IsLegalTrail (tree_of l) l.shape.page_size l.pages l.history
 
 -- the copy that a node gives to its parent by an event
 abbrev pub handed_by : Event → Option Copied
@@ -58,7 +48,7 @@ HandsNewest shape s event =
 pub record IsNextMessage (l : LogSeen) (event : Event) : Type 0 where
   pub legal : IsLegalHere l event
   pub quiet : caller_of event ≡ None
-  pub newest : HandsNewest (tree_of l.shape) (state_at l.shape l.history) event
+  pub newest : HandsNewest (tree_of l) (state_at l) event
 
 -- an event of the plan on the way to an access
 abbrev pub IsOfPlan : Event → Type 0
@@ -73,7 +63,7 @@ IsOfPlan event = ⊥
 pub record IsPlanned (l : LogSeen) (event : Event) : Type 0 where
   pub of_plan : IsOfPlan event
   pub fits : FitsFile l.shape.page_size l.pages event
-  pub allowed : IsAllowed (tree_of l.shape) l.pages (state_at l.shape l.history) event
+  pub allowed : IsAllowed (tree_of l) l.pages (state_at l) event
 
 -- the event leaves the ground's copies as they are
 abbrev pub KeepsGround : TreeShape → State → Event → Type 0
@@ -93,10 +83,9 @@ IsGroundNewest l pages = (page : ℕ) → page < pages → (column_at l page).ne
 abbrev pub IsWrittenBefore : LogSeen → ℕ → Type 0
 IsWrittenBefore l from = (page : ℕ) → (column_at l page).newest ≤ from
 
--- the tree is the file's, the sheet stands at the end of its trail, and the trail is legal
-pub record IsCore (l : LogSeen) (tree : TreeShape) (sheet : Sheet) : Type 0 where
-  pub tree_is : tree ≡ tree_of l.shape
+-- the sheet stands at the end of the file's trail, which is legal
+pub record IsCore (l : LogSeen) (sheet : Sheet) : Type 0 where
   pub nodes_are : nodes_of sheet ≡ length l.shape.parents
   pub pages_are : pages_of sheet ≡ l.pages
-  pub state_is : seen sheet ≡ state_at l.shape l.history
-  pub legal : IsLegalTrail l.shape l.pages l.history
+  pub state_is : seen sheet ≡ state_at l
+  pub legal : IsLegalTrail (tree_of l) l.shape.page_size l.pages l.history

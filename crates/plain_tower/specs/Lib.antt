@@ -1,4 +1,5 @@
 pub mod Seen
+pub mod Fresh
 pub mod Legal
 pub mod Ends
 pub mod Counts

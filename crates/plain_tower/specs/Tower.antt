@@ -1,19 +1,19 @@
 -- What contracts see of a tower: a file's log over its disk.
-use Rattle.std.specs.Prelude.{◌≡◌, ℕ, ◌<◌, ◌≤◌, List, length, slice_get, Option, Some, IfSome}
+use Rattle.std.specs.Prelude.{◌≡◌, ℕ, ◌<◌, ◌≤◌, List, length, slice_get, Option, Some, None, IfSome}
 use Rattle.std.specs.List.{AllByRecursion}
 use Rattle.run_defs.specs.declared.call.CallErr.{CallErr}
 use Rattle.run_defs.specs.declared.call.CallErr.TheVariants as errs
 use Rattle.run_defs.specs.declared.log.Logged.{Logged}
 use Rattle.run_defs.specs.declared.log.Logged.TheVariants.{Entered, Noted}
 use Rattle.run_defs.specs.Log.{trail_of, first_file}
+use Rattle.run_defs.specs.Fits.{GoesOn as LogGoesOn}
 use Rattle.run_defs.specs.Kept.{Holds, last_from, counts_of, Rises}
 use Rattle.disk_format.specs.declared.shape.ImageShape.{ImageShape}
 use Rattle.disk_format.specs.Image.{Imaged}
 use Rattle.disk_layer.specs.declared.fault.StoreFault.{StoreFault}
 use Rattle.disk_layer.specs.Disk.{Disk, pages_on, kept_on}
 use Rattle.tower_core.specs.Legal.{shown}
-use Rattle.plain_tower.specs.Seen.{LogSeen}
-use Rattle.plain_tower.specs.Legal.{tree_of}
+use Rattle.plain_tower.specs.Seen.{LogSeen, tree_of}
 use Rattle.plain_tower.specs.Pages.{KeepsPages}
 use Rattle.plain_tower.specs.Ends.{Sends, Stops}
 
@@ -43,7 +43,7 @@ KeepsSynced l kept = (from : ℕ) → last_from (trail_of l.history) ≡ Some fr
 -- each page of the disk is the page as the ground shows it
 abbrev pub ShowsGround : LogSeen → Option (List (List ℕ)) → Type 0
 ShowsGround l pages = IfSome pages (λ ps. (page : ℕ) → page < l.pages
-    → slice_get ps page ≡ Some (shown (tree_of l.shape) l.shape.page_size l.history.opening (trail_of l.history) 0 page))
+    → slice_get ps page ≡ Some (shown (tree_of l) l.shape.page_size l.history.opening (trail_of l.history) 0 page))
 
 -- what every tower keeps: its disk's shape; notes of its disk alone, with rising counts since it was opened; the last
 -- sync's pages; and the ground's copies on the disk
@@ -61,11 +61,23 @@ pub record IsFaultOf (before now : Disk) (fault : StoreFault) : Type 0 where
   pub above : before.faults < fault.count
   pub within : fault.count ≤ now.faults
 
--- a call that a store ended has such a fault
+-- a call that a store ended has such a fault; a full trail and want of memory are no cover for one
 abbrev pub Faults : Disk → Disk → CallErr → Type 0
 Faults before now (errs.StoreFault disk count) = IsFaultOf before now (record { disk = disk; count = count })
-Faults before now errs.TrailFull = Unit {0}
-Faults before now errs.Memory = Unit {0}
+Faults before now errs.TrailFull = now.faults ≡ before.faults
+Faults before now errs.Memory = now.faults ≡ before.faults
+
+-- how many failures of a tower's disk its log notes
+abbrev pub notes_of : TowerSeen → ℕ
+notes_of t = length (counts_of t.disk.disk t.log.history.log)
+
+-- The same file later on: as long as no sync was completed, its disk keeps what it kept; and if no failure was noted, its store
+-- had no fault.
+pub record IsLater (before now : TowerSeen) : Type 0 where
+  pub log : LogGoesOn before.log.history now.log.history
+  pub disk : now.disk.disk ≡ before.disk.disk
+  pub unsynced : last_from (trail_of now.log.history) ≡ None → kept_on now.disk ≡ kept_on before.disk
+  pub calm : notes_of now ≡ notes_of before → now.disk.faults ≡ before.disk.faults
 
 -- the same disk with the same image, whose store counts no fewer faults
 pub record SameDisk (before after : Disk) : Type 0 where
@@ -81,9 +93,10 @@ pub record GoesOn (old new : TowerSeen) : Type 0 where
   pub disk : SameDisk old.disk new.disk
   pub keeps : kept_on new.disk ≡ kept_on old.disk
 
--- page messages were entered
+-- page messages were entered, without a fault
 pub record Sent (old new : TowerSeen) : Type 0 where
   pub goes : GoesOn old new
+  pub calm : new.disk.faults ≡ old.disk.faults
   pub sends : Sends old.log.history new.log.history
 
 -- page messages were entered, and then a caller's call was refused

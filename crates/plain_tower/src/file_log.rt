@@ -1,24 +1,29 @@
 //! The log of one file, with the plain file that stands at its end.
 
 ghost use Rattle.std.specs.Prelude.{◌≡◌, ℕ, ◌∷◌, ◌++◌, ◌+◌, ◌*◌, ◌-◌, [], ◌<◌, ◌≤◌, ◌^◌, IfOk, IfErr, Ok, OnOk, OnErr, IfSome, length, slice_index, Some, IsTrue, ◌↔◌};
+ghost use Rattle.hist_plain.specs.declared.TheConstants.{MAX_EVENTS, MAX_PAGES};
+ghost use Rattle.tower_core.specs.TreeShape.{IsTree};
 ghost use Rattle.plain_tower.specs.Counts.{Counts};
+ghost use Rattle.plain_tower.specs.Seen.{tree_of};
+ghost use Rattle.plain_tower.specs.Fresh.{IsFresh};
 ghost use Rattle.std.specs.Option.{option_map};
 ghost use Rattle.hist_plain.specs.Event.{caller_of, number_of};
-ghost use Rattle.hist_plain.specs.Plain.{IsTree, IsPageSize, Suits, asked_len, reply};
+ghost use Rattle.hist_plain.specs.Plain.{IsPageSize, Suits, asked_len, reply};
 ghost use Rattle.hist_plain.specs.History.{mine, page_in, IsNumbered};
 ghost use Rattle.run_defs.specs.Log.{trail_of, file_of, place_of, more, IsHistory};
 
-use hist_plain::{Answer, Bytes, Event, Items, Plain};
-use run_defs::{History, Logged, Note};
+use crate::shape::{FileShape, copy_tree};
+use hist_plain::{Answer, Event, MAX_EVENTS, Plain};
+use run_defs::{History, Logged, Note, parents_of};
+use seen_values::{Bytes, Items};
 use std::alloc::{AllocError, Global};
 use std::marker::Model;
+use tower_core::Tree;
 
-/// How many events a file's trail may have.
-const EVENTS: u64 = 4_194_304;
-
-/// The bytes that a file began with, all that was logged since, and the file at its end.
+/// The bytes that a file began with, all that was logged since over its tree, and the file at the end.
 #[derive(Drop)]
 pub struct FileLog {
+    tree: Tree,
     opening: Bytes,
     log: Vec<Logged>,
     plain: Plain,
@@ -32,38 +37,45 @@ impl Model for FileLog {
 
     ghost Value = { LogSeen };
 
-    ghost view = { λ l. record { shape = l.plain.shape; pages = l.pages; callers = length l.numbers.items; history = record { opening = l.opening; log = l.log.items }; room = vec_capacity l.log - vec_len l.log } };
+    ghost view = { λ l. record { shape = l.plain.shape; frames = l.tree.frames; pages = l.pages; callers = length l.numbers.items; history = record { opening = l.opening; log = l.log.items }; room = vec_capacity l.log - vec_len l.log } };
 
-    ghost invariant = { λ l. IsLog (record { shape = l.plain.shape; pages = l.pages; callers = length l.numbers.items; history = record { opening = l.opening; log = l.log.items }; room = vec_capacity l.log - vec_len l.log }) l.plain l.numbers.items };
+    ghost invariant = { λ l. IsLog (record { shape = l.plain.shape; frames = l.tree.frames; pages = l.pages; callers = length l.numbers.items; history = record { opening = l.opening; log = l.log.items }; room = vec_capacity l.log - vec_len l.log }) l.tree l.plain l.numbers.items };
 }
 
 impl FileLog {
     /// A log without entries, of a file of whole pages and so many callers.
-    pub fn new(
-        alloc: Global,
-        page_size: u32,
-        parents: &[u32],
-        pages: u32,
-        opening: Bytes,
-        callers: u32,
-    ) -> Result<FileLog, AllocError>
-        requires tree { IsTree parents.now }
-        requires size { IsPageSize page_size }
-        requires pages { (1 ≤ pages) × (pages ≤ 1024) }
-        requires opening { length opening ≡ pages * page_size }
-        ensures shape { IfOk result (λ log. log.shape ≡ record { page_size = page_size; parents = parents.now }) }
-        ensures pages { IfOk result (λ log. log.pages ≡ pages) }
-        ensures callers { IfOk result (λ log. log.callers ≡ callers) }
-        ensures history { IfOk result (λ log. log.history ≡ record { opening = opening; log = [] }) }
+    pub fn new(alloc: Global, file: &FileShape<'_>, opening: Bytes) -> Result<FileLog, AllocError>
+        requires size { IsPageSize file.now.page_size }
+        requires pages { (1 ≤ file.now.pages) × (file.now.pages ≤ MAX_PAGES) }
+        requires opening { length opening ≡ file.now.pages * file.now.page_size }
+        ensures log { IfOk result (IsFresh file.now opening) }
     {
-        let plain = Plain::new(alloc, page_size, parents, opening.as_slice())?;
+        let parents = parents_of(alloc, file.tree)?;
+        let plain = Plain::new(alloc, file.page_size, &parents, opening.as_slice())?;
         Ok(FileLog {
+            tree: copy_tree(alloc, file.tree)?,
             opening,
             log: Vec::new(alloc),
             plain,
-            pages,
-            numbers: vec![in alloc; 0; callers as usize]?,
+            pages: file.pages,
+            numbers: vec![in alloc; 0; file.callers as usize]?,
         })
+    }
+
+    /// The tree of the file's nodes.
+    pub fn tree(&self) -> &Tree
+        ensures { result.now ≡ tree_of self.now }
+    {
+        &self.tree
+    }
+
+    /// What holds of every log, for proofs alone: its history is one of the file, over a tree.
+    pub fn sound(&self)
+        ensures history { IsHistory self.now.shape self.now.pages self.now.history }
+        ensures tree { IsTree (tree_of self.now) }
+    {
+        // The proof reads here that this is a tree.
+        let _nodes = self.tree.nodes();
     }
 
     /// How many events there are.
@@ -75,10 +87,9 @@ impl FileLog {
 
     /// Whether there are as many events as a file may have.
     pub fn is_full(&self) -> bool
-        ensures full { IsTrue result ↔ (4194304 ≤ place_of self.now.history) }
-        ensures legal { IsHistory self.now.shape self.now.pages self.now.history }
+        ensures { IsTrue result ↔ (MAX_EVENTS ≤ place_of self.now.history) }
     {
-        self.plain.len() >= EVENTS
+        self.plain.len() >= MAX_EVENTS
     }
 
     /// The bytes of the file at the end of its history.
@@ -120,7 +131,7 @@ impl FileLog {
     /// Enters an event, and answers it. The bytes that it reads are then in `out`.
     pub fn enter(&mut self, event: Event, out: &mut [u8]) -> Option<Answer>
         requires room { 0 < self.old.room }
-        requires few { place_of self.old.history < 4194304 }
+        requires few { place_of self.old.history < MAX_EVENTS }
         requires suits { Suits self.old.shape (file_of self.old.shape self.old.history) event }
         requires next { (c : ℕ) → caller_of event ≡ Some c → (c < self.old.callers) × (number_of event ≡ length (mine (trail_of self.old.history) c)) }
         requires out { length out.old ≡ asked_len event }

@@ -4,11 +4,12 @@
 mod coherence;
 mod file_log;
 mod pages;
+mod shape;
 mod tower;
 
-pub use file_log::FileLog;
-pub use pages::{ReadErr, read_pages};
-pub use tower::{OpenErr, Opening, Tower, open};
+pub use pages::TowerErr;
+pub use shape::FileShape;
+pub use tower::{Tower, open};
 
 #[cfg(test)]
 mod tests;

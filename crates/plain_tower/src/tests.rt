@@ -1,18 +1,20 @@
 //! Two trails, worked out by hand.
 
-ghost use Rattle.std.specs.Prelude.{◌≡◌, ◌<◌, IfOk, IsTrue, length};
+ghost use Rattle.std.specs.Prelude.{◌≡◌, ◌<◌, ◌≤◌, IfOk, IsTrue, length};
 ghost use Rattle.disk_format.specs.Shape.{IsShape};
-ghost use Rattle.hist_plain.specs.Plain.{IsTree};
+ghost use Rattle.tower_core.specs.TreeShape.{IsTree};
 
 use super::*;
 use disk_format::ImageShape;
-use disk_layer::Disk;
-use hist_plain::{Bytes, Event, Keep, Op, fits};
-use run_defs::Logged;
+use disk_layer::{Disk, ONLY_DISK};
+use hist_plain::{Event, Keep, MAX_EVENTS, Op, fits};
+use run_defs::{CallErr, Logged};
+use seen_values::Bytes;
 use spr_io::MemStore;
 use std::alloc::{AllocError, Global};
 use std::process::Abort;
 use std::test::Fail;
+use tower_core::Tree;
 
 /// The shape of a file of two pages of 64 bytes.
 fn small() -> ImageShape
@@ -30,7 +32,7 @@ fn fresh(alloc: Global) -> Result<Disk<MemStore>, Fail>
     ensures { IfOk result (λ disk. disk.shape ≡ record { page_size = 64; pages = 2 }) }
 {
     let store = MemStore::new(alloc, 64, 4, &[], &[], &[])?;
-    match Disk::format(alloc, store, 0, &small()) {
+    match Disk::format(alloc, store, ONLY_DISK, &small()) {
         Ok(disk) => Ok(disk),
         Err(_) => Err(Fail::from("the disk")),
     }
@@ -123,26 +125,41 @@ fn may_ask(caller: u32, node: u32, parents: &[u32]) -> bool
     caller < 2 && node > 0 && (node as usize) < parents.len()
 }
 
+/// A file of two pages on a fresh disk, under a tree, for two callers.
+fn opened(alloc: Global, parents: &[u32], frames: &[u32]) -> Result<Tower<MemStore>, Fail>
+    requires tree { IsTree (record { parents = parents.now; frames = frames.now }) }
+    requires few { length parents.now ≤ 32 }
+    ensures size { IfOk result (λ t. t.log.shape.page_size ≡ 64) }
+    ensures parents { IfOk result (λ t. t.log.shape.parents ≡ parents.now) }
+    ensures pages { IfOk result (λ t. t.log.pages ≡ 2) }
+    ensures callers { IfOk result (λ t. t.log.callers ≡ 2) }
+{
+    let tree = Tree::new(alloc, parents, frames)?;
+    let file = FileShape {
+        page_size: 64,
+        tree: &tree,
+        pages: 2,
+        callers: 2,
+    };
+    match open(alloc, &file, fresh(alloc)?) {
+        Ok(tower) => Ok(tower),
+        Err(_) => Err(Fail::from("the file is not open")),
+    }
+}
+
 /// Follows the wishes over a fresh disk, and compares the log with what is expected.
 fn follow(
     rt: &impl Abort,
     alloc: Global,
     parents: &[u32],
+    frames: &[u32],
     wishes: &[(u32, u32, Wish)],
     want: &str,
 ) -> Result<(), Fail>
-    requires { IsTree parents.now }
+    requires tree { IsTree (record { parents = parents.now; frames = frames.now }) }
+    requires few { length parents.now ≤ 32 }
 {
-    let disk = fresh(alloc)?;
-    let opening = Opening {
-        page_size: 64,
-        parents,
-        pages: 2,
-        callers: 2,
-    };
-    let Ok(mut tower) = open(alloc, &opening, disk) else {
-        panic!(rt; "the file is not open");
-    };
+    let mut tower = opened(alloc, parents, frames)?;
     for (caller, node, wish) in wishes {
         let may = may_ask(*caller, *node, parents);
         assert!(rt; may);
@@ -172,6 +189,7 @@ fn trails(rt: HostRuntime) -> Result<(), Fail> {
         &rt,
         alloc,
         &[0, 0],
+        &[0, 0],
         &one,
         "open 1; zero fill 1 0 true; write 1; read 1; sync out 1 0; synced 1 from 4; synced 1 from 6; ",
     )?;
@@ -186,8 +204,24 @@ fn trails(rt: HostRuntime) -> Result<(), Fail> {
         &rt,
         alloc,
         &[0, 0, 1],
+        &[0, 0, 0],
         &two,
         "open 2; zero fill 1 0 true; zero fill 2 0 true; write 2; open 1; deny 2 0; read 1; sync out 1 0; synced 1 from 7; ",
     )?;
+    Ok(())
+}
+
+/// A full trail answers a sync and an access of another life.
+#[test]
+fn full(rt: HostRuntime) -> Result<(), Fail> {
+    let mut tower = opened(rt.alloc(), &[0, 0], &[0, 0])?;
+    for _event in 0..MAX_EVENTS {
+        assert!(rt; tower.access(0, 1, 0, Op::Open, &mut []).is_ok());
+    }
+    let clear = Op::Clear { page: 0 };
+    assert!(rt; fits(&clear, 64, 2));
+    let other = tower.access(0, 1, 7, clear, &mut []);
+    assert!(rt; other == Err(CallErr::TrailFull));
+    assert!(rt; tower.sync(0, 1, Keep::Write) == Err(CallErr::TrailFull));
     Ok(())
 }

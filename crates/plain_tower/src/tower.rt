@@ -5,27 +5,30 @@ ghost use Rattle.std.specs.List.{AllByRecursion};
 ghost use Rattle.hist_plain.specs.Event.{fits_page};
 ghost use Rattle.hist_plain.specs.Plain.{IsTree, IsPageSize, asked_by};
 ghost use Rattle.hist_plain.specs.History.{IsNumbered};
-ghost use Rattle.run_defs.specs.Log.{trail_of, file_of, more, place_of, IsHistory};
+ghost use Rattle.hist_plain.specs.declared.TheConstants.{MAX_EVENTS, MAX_PAGES};
+ghost use Rattle.run_defs.specs.Log.{IsLegalTrail, trail_of, file_of, more, place_of, IsHistory};
 ghost use Rattle.run_defs.specs.Plan.{access, sync};
 ghost use Rattle.run_defs.specs.Calls.{Called};
 ghost use Rattle.run_defs.specs.Kept.{ArePages, counts_of, Rises};
 ghost use Rattle.disk_layer.specs.Disk.{pages_on, kept_on, counting};
 ghost use Rattle.plain_tower.specs.Pages.{KeepsPages};
-ghost use Rattle.plain_tower.specs.Tower.{HasMany, IsOnDisk, IsFaultOf, KeepsSynced, SameDisk, Faults, Sent, ShowsGround, Stopped, image_of};
+ghost use Rattle.plain_tower.specs.Tower.{HasMany, IsLater, IsOnDisk, IsFaultOf, KeepsSynced, SameDisk, Faults, Sent, ShowsGround, Stopped, image_of};
 ghost use Rattle.plain_tower.specs.Ends.{EndsFrom};
-ghost use Rattle.plain_tower.specs.Legal.{IsGroundNewest, IsLegalTrail, IsNextMessage, IsWrittenBefore, state_at, tree_of};
+ghost use Rattle.plain_tower.specs.Legal.{IsGroundNewest, IsNextMessage, IsWrittenBefore, state_at};
+ghost use Rattle.plain_tower.specs.Seen.{tree_of};
 ghost use Rattle.tower_core.specs.Trail.{MayAccess};
 ghost use Rattle.tower_core.specs.TreeShape.{IsUpper};
 ghost use Rattle.tower_plan.specs.Plan.{MayAccessFor};
 ghost use Rattle.plain_tower.specs.Opened.{Opens, FaultsOpening};
 
 use crate::coherence::Core;
-use crate::pages::{ReadErr, read_pages};
+use crate::pages::{TowerErr, read_file};
+use crate::shape::FileShape;
 use disk_layer::{Disk, Ground, StoreFault};
 use hist_plain::{Event, Keep, Op};
 use run_defs::{Answered, CallErr, History, Logged, Note};
 use spr_io::Store;
-use std::alloc::Global;
+use std::alloc::{AllocError, Global};
 use std::marker::Model;
 use tower_core::Right;
 use tower_plan::Next;
@@ -47,31 +50,6 @@ impl<S: Store> Model for Tower<S> {
     ghost invariant = { λ t. IsTower (record { log = t.log; disk = t.disk }) };
 }
 
-/// Why a file could not be opened.
-#[derive(Clone, Copy, Debug, PartialEq, Eq)]
-pub enum OpenErr {
-    /// The disk's store failed.
-    StoreFault {
-        /// The disk, and the store's count of faults then.
-        fault: StoreFault,
-    },
-    /// Memory ran out.
-    Memory,
-}
-
-/// The tree, the page size and the file that a tower is opened for.
-#[derive(Clone, Copy)]
-pub struct Opening<'a> {
-    /// The size of a page, in bytes.
-    pub page_size: u32,
-    /// The parent of each node of the tree.
-    pub parents: &'a [u32],
-    /// How many pages the file has.
-    pub pages: u32,
-    /// How many callers there are.
-    pub callers: u32,
-}
-
 impl<S: Store> Tower<S> {
     /// Makes an access of a caller at a node, of a life. The messages that bring the page to the node
     /// come first; an `Open`, or an access of another life than the node's, needs none.
@@ -91,10 +69,12 @@ impl<S: Store> Tower<S> {
         ensures keeps { kept_on self.new.disk ≡ kept_on self.old.disk }
         ensures same { self.new ≡ record self.old { log = record self.old.log { history = self.new.log.history; room = self.new.log.room }; disk = self.new.disk } }
         ensures disk { SameDisk self.old.disk self.new.disk }
+        ensures calm { OnOk result (self.new.disk.faults ≡ self.old.disk.faults) }
         ensures cause { IfErr result (Faults self.old.disk self.new.disk) }
+        ensures later { IsLater self.old self.new }
     {
         self.prepare(caller, node, life, &op)?;
-        let _len = self.log.len();
+        self.log.sound();
         self.log.access(caller, node, life, op, out)
     }
 
@@ -107,7 +87,9 @@ impl<S: Store> Tower<S> {
         ensures refused { OnErr result (kept_on self.new.disk ≡ kept_on self.old.disk) }
         ensures same { self.new ≡ record self.old { log = record self.old.log { history = self.new.log.history; room = self.new.log.room }; disk = self.new.disk } }
         ensures disk { SameDisk self.old.disk self.new.disk }
+        ensures calm { OnOk result (self.new.disk.faults ≡ self.old.disk.faults) }
         ensures cause { IfErr result (Faults self.old.disk self.new.disk) }
+        ensures later { IsLater self.old self.new }
     {
         let from = self.log.len();
         self.settle_all(caller, node, from, keep)?;
@@ -118,7 +100,7 @@ impl<S: Store> Tower<S> {
     fn prepare(&mut self, caller: u32, node: u32, life: u32, op: &Op) -> Result<(), CallErr>
         requires node { (0 < node) × (node < length self.old.log.shape.parents) }
         requires fits { IsTrue (fits_page self.old.log.shape.page_size self.old.log.pages op.now) }
-        ensures may { OnOk result (life ≡ (state_at self.new.log.shape self.new.log.history).life node → MayAccess (tree_of self.new.log.shape) (state_at self.new.log.shape self.new.log.history) node op.now) }
+        ensures may { OnOk result (life ≡ (state_at self.new.log).life node → MayAccess (tree_of self.new.log) (state_at self.new.log) node op.now) }
         ensures sent { OnOk result (Sent self.old self.new) }
         ensures stopped { IfErr result (Stopped caller self.old self.new) }
     {
@@ -136,10 +118,10 @@ impl<S: Store> Tower<S> {
 
     /// Brings a page to a node that wants this right.
     fn bring(&mut self, caller: u32, node: u32, page: u32, want: Right) -> Result<(), CallErr>
-        requires upper { IsUpper (tree_of self.old.log.shape) node }
+        requires upper { IsUpper (tree_of self.old.log) node }
         requires page_in { page < self.old.log.pages }
         requires want { want ≢ Right.Nothing }
-        ensures may { OnOk result (MayAccessFor (tree_of self.new.log.shape) ((state_at self.new.log.shape self.new.log.history).column page) node want) }
+        ensures may { OnOk result (MayAccessFor (tree_of self.new.log) ((state_at self.new.log).column page) node want) }
         ensures sent { OnOk result (Sent self.old self.new) }
         ensures stopped { IfErr result (Stopped caller self.old self.new) }
     {
@@ -153,7 +135,7 @@ impl<S: Store> Tower<S> {
 
     /// Brings each page to the ground that is not there as it was at the place, or later.
     fn settle_all(&mut self, caller: u32, node: u32, from: u64, keep: Keep) -> Result<(), CallErr>
-        requires upper { IsUpper (tree_of self.old.log.shape) node }
+        requires upper { IsUpper (tree_of self.old.log) node }
         requires from { from ≡ place_of self.old.log.history }
         ensures settled { OnOk result (IsGroundNewest self.new.log self.new.log.pages) }
         ensures sent { OnOk result (Sent self.old self.new) }
@@ -174,7 +156,7 @@ impl<S: Store> Tower<S> {
         from: u64,
         keep: Keep,
     ) -> Result<(), CallErr>
-        requires upper { IsUpper (tree_of self.old.log.shape) node }
+        requires upper { IsUpper (tree_of self.old.log) node }
         requires page_in { page < self.old.log.pages }
         requires from { from ≤ place_of self.old.log.history }
         requires newest { IsWrittenBefore self.old.log from }
@@ -196,7 +178,7 @@ impl<S: Store> Tower<S> {
     fn message(&mut self, caller: u32, event: Event) -> Result<(), CallErr>
         requires next { IsNextMessage self.old.log event }
         ensures entered { OnOk result (self.new.log.history ≡ more self.old.log.history (Logged.Entered event ∷ [])) }
-        ensures few { OnOk result (place_of self.old.log.history < 4194304) }
+        ensures few { OnOk result (place_of self.old.log.history < MAX_EVENTS) }
         ensures sent { OnOk result (Sent self.old self.new) }
         ensures stopped { IfErr result (Stopped caller self.old self.new) }
     {
@@ -224,7 +206,7 @@ impl<S: Store> Tower<S> {
         keep: Keep,
     ) -> Result<Answered, CallErr>
         requires caller { caller < self.old.log.callers }
-        requires upper { IsUpper (tree_of self.old.log.shape) node }
+        requires upper { IsUpper (tree_of self.old.log) node }
         requires from { from ≤ place_of self.old.log.history }
         requires settled { IsGroundNewest self.old.log self.old.log.pages }
         ensures ends { EndsFrom self.old.log.shape caller (sync node keep) from self.old.log.history self.new.log.history [] result }
@@ -232,6 +214,7 @@ impl<S: Store> Tower<S> {
         ensures refused { OnErr result (kept_on self.new.disk ≡ kept_on self.old.disk) }
         ensures same { self.new ≡ record self.old { log = record self.old.log { history = self.new.log.history; room = self.new.log.room }; disk = self.new.disk } }
         ensures disk { SameDisk self.old.disk self.new.disk }
+        ensures calm { OnOk result (self.new.disk.faults ≡ self.old.disk.faults) }
         ensures cause { IfErr result (Faults self.old.disk self.new.disk) }
     {
         if self.log.is_full() {
@@ -240,7 +223,7 @@ impl<S: Store> Tower<S> {
         let Ok(()) = self.log.reserve() else {
             return Err(CallErr::Memory);
         };
-        let _len = self.log.len();
+        self.log.sound();
         match self.disk.flush() {
             Ok(()) => Ok(self.log.synced(caller, node, from, keep)),
             Err(fault) => Err(noted(&mut self.log, caller, fault)),
@@ -253,7 +236,7 @@ impl<S: Store> Tower<S> {
         ensures image { result.0.shape ≡ image_of self.log }
         ensures history { result.1 ≡ self.log.history }
         ensures legal { IsHistory self.log.shape self.log.pages result.1 }
-        ensures trail { IsLegalTrail self.log.shape self.log.pages result.1 }
+        ensures trail { IsLegalTrail (tree_of self.log) self.log.shape.page_size self.log.pages result.1 }
         ensures numbered { IsNumbered (trail_of result.1) }
         ensures disks { AllByRecursion (IsOnDisk self.disk.disk) result.1.log }
         ensures rises { Rises self.disk.opened self.disk.faults (counts_of self.disk.disk result.1.log) }
@@ -266,7 +249,7 @@ impl<S: Store> Tower<S> {
 /// Writes the page that a message brings to the ground to the disk, if it brings one.
 fn write_taken<S: Store>(log: &Core, event: &Event, disk: &mut Disk<S>) -> Result<(), StoreFault>
     requires next { IsNextMessage log.now event.now }
-    requires few { place_of log.now.history < 4194304 }
+    requires few { place_of log.now.history < MAX_EVENTS }
     requires image { disk.old.shape ≡ image_of log.now }
     requires many { HasMany log.now.pages (pages_on disk.old) }
     requires ground { ShowsGround log.now (pages_on disk.old) }
@@ -275,9 +258,10 @@ fn write_taken<S: Store>(log: &Core, event: &Event, disk: &mut Disk<S>) -> Resul
     ensures many { HasMany log.now.pages (pages_on disk.new) }
     ensures keeps { kept_on disk.new ≡ kept_on disk.old }
     ensures same { SameDisk disk.old disk.new }
+    ensures calm { OnOk result (disk.new.faults ≡ disk.old.faults) }
     ensures cause { IfErr result (IsFaultOf disk.old disk.new) }
 {
-    let _len = log.len();
+    log.sound();
     match log.taken(event) {
         Some(page) => disk.write(page, log.page(page)),
         None => Ok(()),
@@ -303,33 +287,24 @@ fn noted(log: &mut Core, caller: u32, fault: StoreFault) -> CallErr
 /// Opens a file over its disk, and reads its pages. A refusal hands the disk back.
 pub fn open<S: Store>(
     alloc: Global,
-    opening: &Opening<'_>,
+    file: &FileShape<'_>,
     disk: Disk<S>,
-) -> Result<Tower<S>, (OpenErr, Disk<S>)>
-    requires tree { IsTree opening.now.parents.now }
-    requires size { IsPageSize opening.now.page_size }
-    requires pages { (1 ≤ opening.now.pages) × (opening.now.pages ≤ 1024) }
-    requires image { disk.shape ≡ record { page_size = opening.now.page_size; pages = opening.now.pages } }
-    ensures opened { IfOk result (Opens (record { page_size = opening.now.page_size; parents = opening.now.parents.now }) opening.now.pages opening.now.callers disk) }
+) -> Result<Tower<S>, (TowerErr, Disk<S>)>
+    requires size { IsPageSize file.now.page_size }
+    requires pages { (1 ≤ file.now.pages) × (file.now.pages ≤ MAX_PAGES) }
+    requires image { disk.shape ≡ record { page_size = file.now.page_size; pages = file.now.pages } }
+    ensures opened { IfOk result (Opens file.now.page_size file.now.tree.now file.now.pages file.now.callers disk) }
     ensures same { IfErr result (λ e. e.1 ≡ counting e.1.faults disk) }
     ensures later { IfErr result (λ e. disk.faults ≤ e.1.faults) }
     ensures cause { IfErr result (λ e. FaultsOpening disk e.1 e.0) }
 {
     let mut disk = disk;
-    let bytes = match read_pages(alloc, &mut disk, opening.page_size, opening.pages) {
+    let bytes = match read_file(alloc, &mut disk) {
         Ok(bytes) => bytes,
-        Err(ReadErr::Store { fault }) => return Err((OpenErr::StoreFault { fault }, disk)),
-        Err(ReadErr::Memory) => return Err((OpenErr::Memory, disk)),
+        Err(err) => return Err((err, disk)),
     };
-    match Core::new(
-        alloc,
-        opening.page_size,
-        opening.parents,
-        opening.pages,
-        bytes,
-        opening.callers,
-    ) {
+    match Core::new(alloc, file, bytes) {
         Ok(log) => Ok(Tower { log, disk }),
-        Err(_) => Err((OpenErr::Memory, disk)),
+        Err(AllocError) => Err((TowerErr::Memory, disk)),
     }
 }

@@ -1,41 +1,18 @@
-use Rattle.std.proofs.Common.{◌≡◌, ◌∷◌, [], ◌++◌, List, refl, ap, sym, ◌∙◌, rules}
-use Rattle.hist_plain.specs.declared.event.Op.TheVariants as ops
-use Rattle.hist_plain.specs.Plain.{Told}
-use Rattle.script_text.specs.declared.script.Reply.{Reply}
-use Rattle.run_defs.specs.declared.object.OpenObject.{OpenObject}
-use Rattle.run_defs.specs.Plan.{Request, Plan, ends, calls, asking, access, opened, reply_of}
-use Rattle.plain_run.proofs.LineLaws.{done-lacks, done-left, done-ok, done-refused, called-shape, may-access, file-lt, opened-is, no-bytes}
+use Rattle.std.proofs.Common.{◌≡◌, ℕ, List, subst, sym, ◌∙◌}
+use Rattle.run_defs.specs.declared.client.OpenObject.{OpenObject}
+use Rattle.run_defs.specs.declared.found.Found.TheVariants.{Route}
+use Rattle.run_defs.specs.Plan.{plan_found}
+use Rattle.plain_run.specs.Lines.{LineDone, state_with}
 use Rattle.plain_run.proofs.client.open_route.Goals as goal
 
-pub returns-in_default-clause-done : goal.returns-in_default-clause-done
-returns-in_default-clause-done g c =
-    done-left c.args.setting.now c.args.client.now.caller c.args.client.now.objects.items _ c.args.towers.now c.args.towers.now _ c.args.client.now.objects.items _ c.in_default.ensures.items
-    (done-lacks c.args.setting.now c.args.client.now.caller c.args.client.now.objects.items _ c.args.towers.now)
-
-pub access_at-requires-clause-file : goal.access_at-requires-clause-file
-access_at-requires-clause-file g c κs within = file-lt c.args.setting.now c.args.client.now.caller c.args.towers.now c.args.file c.requires.towers c.requires.route.0
-
-pub access_at-requires-clause-call : goal.access_at-requires-clause-call
-access_at-requires-clause-call g c κs within = may-access c.args.setting.now c.args.client.now.caller c.args.towers.now c.args.file c.args.node ops.Open c.requires.towers c.requires.route.1 c.requires.route.2 (search rules)
-
-pub returns-in-Ok-access_at-clause-done : goal.returns-in-Ok-access_at-clause-done
-returns-in-Ok-access_at-clause-done g c =
-    let objects = c.args.client.now.objects.items in
-    let ask : Request = asking c.args.file (access c.args.node 0 ops.Open) in
-    let go_on : Told → Plan = λ told. ends (reply_of told) (objects ++ opened c.args.name c.args.file c.args.node told ∷ []) in
-    done-ok c.args.setting.now c.args.client.now.caller objects (calls ask objects go_on) ask objects go_on c.args.towers.now c.access_at.new.towers c.access_at.new.out c.in-Ok-access_at.answered c.reply_to.result c.push_reserved.new.self.items refl
-    (called-shape c.args.setting.now c.args.client.now.caller ask c.args.towers.now _ c.access_at.new.out _ c.requires.towers c.requires.route.0 c.in-Ok-access_at.ensures.called)
-    (λ t answer bytes.
-    let said : c.reply_to.result ≡ reply_of t = c.reply_to.ensures t answer (λ read. bytes read ∙ (no-bytes c.access_at.new.out c.access_at.auto.out ∙ sym c.new.ensures.items)) in
-    let left = opened-is c.args.name c.args.file c.args.node c.life_in.result objects c.reserve.new.self.items c.push_reserved.new.self.items t c.in-Ok-access_at.answered c.reserve.ensures.items c.push_reserved.ensures.items c.life_in.ensures answer in
-    ap (λ (r : Reply). ends r (objects ++ opened c.args.name c.args.file c.args.node t ∷ [])) (sym said) ∙ ap (λ (os : List OpenObject). ends c.reply_to.result os) left)
-    c.access_at.ensures.same
-
-pub returns-in-Err-clause-done : goal.returns-in-Err-clause-done
-returns-in-Err-clause-done g c =
-    let objects = c.args.client.now.objects.items in
-    let ask : Request = asking c.args.file (access c.args.node 0 ops.Open) in
-    let go_on : Told → Plan = λ told. ends (reply_of told) (objects ++ opened c.args.name c.args.file c.args.node told ∷ []) in
-    done-left c.args.setting.now c.args.client.now.caller objects _ c.args.towers.now c.access_at.new.towers _ objects _ c.reserve.ensures.items
-    (done-refused c.args.setting.now c.args.client.now.caller objects (calls ask objects go_on) ask objects go_on c.args.towers.now c.access_at.new.towers c.access_at.new.out c.in-Err.err c.refused.result
-    c.requires.towers c.requires.route.0 refl c.in-Err.ensures.called c.refused.ensures c.access_at.ensures.same)
+pub returns-clause-done : goal.returns-clause-done
+returns-clause-done g c =
+    let machine : ℕ = c.args.client.now.state.machine in
+    let began : c.into_vec-objects.result.items ≡ c.args.client.now.state.objects = c.into_vec-objects.ensures ∙ c.replace.ensures.value in
+    let done = c.open_object-reply.ensures.done machine in
+    let from : LineDone c.args.mount.now c.args.client.now.caller c.args.client.now.state (plan_found c.args.client.now.state c.args.name (Route c.args.file c.args.node)) c.args.towers.now c.open_object-reply.new.towers c.open_object-reply.result
+    (state_with machine c.open_object-reply.new.objects.items) =
+    subst (λ (os : List OpenObject). LineDone c.args.mount.now c.args.client.now.caller (state_with machine os) (plan_found (state_with machine os) c.args.name (Route c.args.file c.args.node)) c.args.towers.now c.open_object-reply.new.towers c.open_object-reply.result
+    (state_with machine c.open_object-reply.new.objects.items)) began done in
+    subst (λ (os : List OpenObject). LineDone c.args.mount.now c.args.client.now.caller c.args.client.now.state (plan_found c.args.client.now.state c.args.name (Route c.args.file c.args.node)) c.args.towers.now c.open_object-reply.new.towers c.open_object-reply.result
+    (state_with machine os)) (sym c.from_vec.ensures) from

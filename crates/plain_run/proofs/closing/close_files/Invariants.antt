@@ -1,14 +1,14 @@
 use Rattle.std.proofs.Common.{◌≡◌, ◌≤◌, length, take, vec_capacity}
-use Rattle.plain_run.specs.Towers.{frames, AreTowers}
+use Rattle.plain_run.specs.Towers.{AreTowers, AreLater}
 use Rattle.plain_run.specs.Phases.{FilesClosed}
 use Rattle.plain_run.proofs.closing.close_files.Given as goal
 
 -- the files so far are closed
 abbrev pub invariant-loop-file : goal.invariant-loop-file
 invariant-loop-file g l = record {
-  closed : FilesClosed l.setting l.mount (take l.file l.setting.files) l.closing.items l.fn.towers l.towers;
-  towers : AreTowers l.setting l.mount l.towers;
-  same : frames l.towers ≡ frames l.fn.towers;
+  closed : FilesClosed l.mount l.closer (take l.file l.mount.files) l.closing.items l.fn.towers l.towers;
+  towers : AreTowers l.mount l.closer l.towers;
+  later : AreLater l.fn.towers l.towers;
   len : length l.closing.items ≡ l.file;
   room : length l.fn.towers ≤ vec_capacity l.closing;
 }

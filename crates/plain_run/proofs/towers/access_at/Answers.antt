@@ -1,8 +1,8 @@
-use Rattle.std.proofs.Common.{◌<◌, length, get_or, IsTrue}
+use Rattle.std.proofs.Common.{◌<◌, length, IsTrue}
 use Rattle.hist_plain.specs.Event.{fits_page}
 use Rattle.run_defs.specs.Plan.{access}
 use Rattle.plain_tower.specs.Tower.{TowerSeen}
-use Rattle.plain_run.proofs.TowerLaws.{called-at, read-tower, frames-set, frame-goes}
+use Rattle.plain_run.proofs.TowerLaws.{called-at, read-tower, towers-set}
 use Rattle.plain_run.proofs.towers.access_at.Goals as goal
 
 pub access-requires-clause-caller : goal.access-requires-clause-caller
@@ -21,5 +21,5 @@ pub returns-clause-called : goal.returns-clause-called
 returns-clause-called g c = λ t there.
     called-at c.args.towers.now c.args.file c.args.caller (access c.args.node c.args.life c.args.op) c.index-towers-file.result c.access.new.self t c.access.new.out c.access.result c.requires.file c.access.ensures.called there
 
-pub returns-clause-same : goal.returns-clause-same
-returns-clause-same g c = frames-set c.args.towers.now c.args.file c.index-towers-file.result c.access.new.self (frame-goes (get_or c.args.towers.now c.args.file c.index-towers-file.result) c.access.new.self c.access.ensures.same c.access.ensures.disk)
+pub returns-clause-later : goal.returns-clause-later
+returns-clause-later g c = towers-set c.args.towers.now c.args.file c.index-towers-file.result c.access.new.self c.access.ensures.same c.access.ensures.disk c.access.ensures.later

@@ -1,7 +1,7 @@
 use Rattle.std.proofs.Common.{◌<◌, [], length, get_or}
 use Rattle.run_defs.specs.Plan.{sync}
 use Rattle.plain_tower.specs.Tower.{TowerSeen}
-use Rattle.plain_run.proofs.TowerLaws.{called-at, read-tower, frames-set, frame-goes}
+use Rattle.plain_run.proofs.TowerLaws.{called-at, read-tower, towers-set}
 use Rattle.plain_run.proofs.PhaseLaws.{slice_get-set_other}
 use Rattle.plain_run.proofs.ClosingLaws.{closed-result}
 use Rattle.plain_run.proofs.towers.sync_at.Goals as goal
@@ -18,8 +18,8 @@ pub returns-clause-called : goal.returns-clause-called
 returns-clause-called g c = λ t there.
     called-at c.args.towers.now c.args.file c.args.caller (sync c.args.node c.args.keep) c.index-towers-file.result c.sync.new.self t [] c.sync.result c.requires.file c.sync.ensures.called there
 
-pub returns-clause-same : goal.returns-clause-same
-returns-clause-same g c = frames-set c.args.towers.now c.args.file c.index-towers-file.result c.sync.new.self (frame-goes (get_or c.args.towers.now c.args.file c.index-towers-file.result) c.sync.new.self c.sync.ensures.same c.sync.ensures.disk)
+pub returns-clause-later : goal.returns-clause-later
+returns-clause-later g c = towers-set c.args.towers.now c.args.file c.index-towers-file.result c.sync.new.self c.sync.ensures.same c.sync.ensures.disk c.sync.ensures.later
 
 pub returns-clause-closed : goal.returns-clause-closed
 returns-clause-closed g c =

@@ -12,4 +12,4 @@ enter-requires-clause-legal c = synced-legal c.args.self.now c.args.caller c.num
 pub returns-clause-ends : goal.returns-clause-ends
 returns-clause-ends c =
     sync-ends c.args.self.now.shape c.args.self.now.history c.enter.new.self.history c.args.caller c.number.result c.args.node c.args.from c.args.keep c.in-Some.answer c.len-place.result
-    c.enter.ensures.entered (c.number.ensures ∙ ap (λ (l : LogSeen). length (mine (trail_of l.history) c.args.caller)) c.self.view_is) c.len-place.ensures.len c.in-Some.ensures.answer
+    c.enter.ensures.entered (c.number.ensures ∙ ap (λ (l : LogSeen). length (mine (trail_of l.history) c.args.caller)) c.self.view_is) c.len-place.ensures c.in-Some.ensures.answer

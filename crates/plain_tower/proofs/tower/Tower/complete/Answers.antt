@@ -17,7 +17,7 @@ invariant_of-self-in-Ok-flush g c =
     let d : Disk = c.self.inside.disk in
     let d' : Disk = c.flush.new.self in
     tower-completed m c.synced.new.self d d' c.args.caller c.args.node c.args.from c.args.keep
-    (tower-roomy l m d c.self.invariant c.reserve.ensures.same) c.len-len.ensures.legal c.synced.ensures.same c.synced.ensures.entered
+    (tower-roomy l m d c.self.invariant c.reserve.ensures.same) c.sound.ensures c.synced.ensures.same c.synced.ensures.entered
     (roomy-says (λ (k : LogSeen). c.args.from ≤ place_of k.history) l m c.reserve.ensures.same (subst (λ (t : TowerSeen). c.args.from ≤ place_of t.log.history) (sym c.self.view_is) c.requires.from))
     (roomy-says (λ (k : LogSeen). IsGroundNewest k k.pages) l m c.reserve.ensures.same (subst (λ (t : TowerSeen). IsGroundNewest t.log t.log.pages) (sym c.self.view_is) c.requires.settled))
     (disk-flushed d d' c.in-Ok-flush.ensures.settled c.flush.ensures.keeps) c.flush.ensures.same (kept-of d' c.in-Ok-flush.ensures.ok)
@@ -39,7 +39,7 @@ returns-in-Ok-flush-clause-kept g c =
     let m : LogSeen = c.reserve.new.self in
     let d : Disk = c.self.inside.disk in
     let d' : Disk = c.flush.new.self in
-    completed-pages m c.synced.new.self d d' c.args.caller c.args.node c.args.from c.args.keep c.len-len.ensures.legal
+    completed-pages m c.synced.new.self d d' c.args.caller c.args.node c.args.from c.args.keep c.sound.ensures
     (roomy-says (λ (k : LogSeen). HasMany k.pages (pages_on d)) l m c.reserve.ensures.same c.self.invariant.many)
     (roomy-says (λ (k : LogSeen). IsGroundNewest k k.pages) l m c.reserve.ensures.same (subst (λ (t : TowerSeen). IsGroundNewest t.log t.log.pages) (sym c.self.view_is) c.requires.settled))
     (roomy-says (λ (k : LogSeen). ShowsGround k (pages_on d)) l m c.reserve.ensures.same c.self.invariant.ground)

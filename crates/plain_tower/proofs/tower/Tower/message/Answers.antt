@@ -38,7 +38,7 @@ pub returns-in-Ok-write_taken-clause-sent : goal.returns-in-Ok-write_taken-claus
 returns-in-Ok-write_taken-clause-sent g c =
     subst (λ (t : TowerSeen). Sent t (tower_over c.message.new.self c.write_taken.new.disk)) c.self.view_is
     (sent-message c.self.inside.log c.reserve.new.self c.message.new.self c.self.inside.disk c.write_taken.new.disk c.args.event c.reserve.ensures.same c.message.ensures.same c.message.ensures.entered c.requires.next.quiet
-    c.write_taken.ensures.same c.write_taken.ensures.keeps)
+    c.write_taken.ensures.same c.in-Ok-write_taken.ensures.calm c.write_taken.ensures.keeps)
 
 pub returns-in-Err-clause-stopped : goal.returns-in-Err-clause-stopped
 returns-in-Err-clause-stopped g c =

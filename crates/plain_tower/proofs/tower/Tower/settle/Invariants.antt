@@ -2,6 +2,7 @@ use Rattle.std.proofs.Common.{◌-◌}
 use Rattle.run_defs.specs.Log.{place_of}
 use Rattle.plain_tower.specs.Legal.{IsGroundNewest, IsWrittenBefore}
 use Rattle.plain_tower.specs.Tower.{Sent}
+use Rattle.hist_plain.specs.declared.TheConstants.{MAX_EVENTS}
 use Rattle.plain_tower.proofs.tower.Tower.settle.Given as goal
 
 -- messages were entered, which write no page and leave what the ground has; the trail has room for fewer
@@ -13,4 +14,4 @@ invariant-loop-event g l = record {
 }
 
 abbrev pub decreases-loop-event : goal.decreases-loop-event
-decreases-loop-event g l = 4194304 - place_of l.self.log.history
+decreases-loop-event g l = MAX_EVENTS - place_of l.self.log.history
