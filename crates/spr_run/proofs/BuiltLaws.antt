@@ -1,13 +1,13 @@
 -- Where no line of a script is later, the program makes its calls.
-use Rattle.std.proofs.Common.{◌≡◌, ℕ, ◌<◌, length, arith, Bool, true, false, cond, not, List, [], ◌∷◌, Option, Some, None, refl, sym, ap, subst, ◌∙◌}
-use Rattle.std.specs.Option.{option_map, option_or}
-use Rattle.std.specs.List.{AllByRecursion, find}
+use Rattle.std.proofs.Common.{◌≡◌, ℕ, ◌<◌, length, arith, Bool, true, false, cond, not, List, [], ◌∷◌, Option, Some, None, refl}
+use Rattle.std.specs.Option.{option_or}
+use Rattle.std.specs.List.{AllByRecursion}
 use Rattle.script_text.specs.declared.script.Call.{Call}
 use Rattle.script_text.specs.declared.script.Call.TheVariants as calls
 use Rattle.script_text.specs.declared.script.CallLine.{CallLine}
 use Rattle.plain_run.specs.Lines.{IsCallOf}
 use Rattle.plain_run.specs.Phases.{AreCalls}
-use Rattle.spr_run.specs.Built.{is_built, has_part, later_in, later_call}
+use Rattle.run_texts.specs.Later.{is_built, has_part, later_in, later_call}
 
 path-part : (path : List (List ℕ)) → has_part path ≡ true → 0 < length path
 path-part [] e = absurd cc
@@ -29,18 +29,11 @@ or-none : (a b : Option CallLine) → option_or a b ≡ None → (a ≡ None) ×
 or-none None b e = (refl, e)
 or-none (Some x) b e = absurd cc
 
-map-none : (o : Option CallLine) → option_map (λ l. l.line) o ≡ None → o ≡ None
-map-none None e = refl
-map-none (Some x) e = absurd cc
-
 lines-built : (lines : List CallLine) → later_in lines ≡ None → AreCalls lines
 lines-built [] e = tt
 lines-built (l ∷ lines) e = let both = built-or (is_built l.call) l (later_in lines) e in (call-built l.call both.0, lines-built lines both.1)
 
-phases-built : (phases : List (List CallLine)) → later_call phases ≡ None → AllByRecursion AreCalls phases
+-- a script without a later call has calls that the program makes
+pub phases-built : (phases : List (List CallLine)) → later_call phases ≡ None → AllByRecursion AreCalls phases
 phases-built [] e = tt
 phases-built (phase ∷ phases) e = let both = or-none (later_in phase) (later_call phases) e in (lines-built phase both.0, phases-built phases both.1)
-
--- where the search of the script found no line
-pub all-built : (phases : List (List CallLine)) → option_map (λ l. l.line) (later_call phases) ≡ None → AllByRecursion AreCalls phases
-all-built phases e = phases-built phases (map-none (later_call phases) e)

@@ -1,11 +1,1 @@
-pub mod Built
-pub mod Stacks
-pub mod Interfaces
-pub mod Refusal
-pub mod Ended
-pub mod Play
-pub mod Store
-pub mod Held
 pub mod Ways
-pub mod Opening
-pub mod Images

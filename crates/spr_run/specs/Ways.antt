@@ -1,265 +1,97 @@
--- The ways in which a command ends, each with the text that it writes and its status.
-use Rattle.std.specs.Prelude.{◌≡◌, ℕ, List, [], ◌++◌, codes, Option, Some, None, Bool}
+-- The ways in which a command ends, each with the text that it writes and its status. The line of the status follows the text.
+use Rattle.std.specs.Prelude.{◌≡◌, ℕ, List, [], codes, Some, None}
 use Rattle.script_text.specs.declared.script.Script.{Script}
-use Rattle.run_defs.specs.declared.setting.Setting.{Setting}
-use Rattle.spr_io.specs.Berth.{SameBerths}
+use Rattle.stack_accept.specs.Mount.{Mount}
+use Rattle.spr_io.specs.Berth.{BaySeen}
+use Rattle.spr_io.specs.Texts.{ShelfSeen, SinkSeen}
 use Rattle.spr_report.specs.declared.status.Status.{Status}
 use Rattle.spr_report.specs.declared.status.Status.TheVariants as statuses
 use Rattle.spr_words.specs.declared.words.Asked.TheVariants.{Run, Check, Format, Dump, Idl}
 use Rattle.spr_words.specs.Asked.{asked}
-use Rattle.spr_run.specs.declared.refusal.Refusal.{Refusal}
-use Rattle.file_stores.specs.declared.stop.Stop.{Stop}
-use Rattle.image_commands.specs.Formats.{Formats}
-use Rattle.image_commands.specs.Dumps.{Dumps}
-use Rattle.spr_run.specs.Stacks.{Texts, TextNames, IsTreeOf, AreStoresOf}
-use Rattle.spr_run.specs.Images.{SaysFormat, SaysDump}
-use Rattle.spr_run.specs.Interfaces.{AreTablesOf, IsInterfacesCause}
-use Rattle.spr_run.specs.Refusal.{HasFile, IsPrepared, IsStackCause, IsFileCause, IsCause, refusal_text, refusal_status}
-use Rattle.file_stores.specs.Stop.{stop_text, stop_status}
-use Rattle.file_stores.specs.Store.{AtBay, Stops}
-use Rattle.file_stores.specs.Writing.{Finishes}
-use Rattle.spr_run.specs.Store.{Ran, RanOut}
+use Rattle.file_stores.specs.Keys.{stores_of}
+use Rattle.file_stores.specs.Written.{Written}
+use Rattle.image_commands.specs.Says.{SaysFormat, SaysDump}
+use Rattle.run_texts.specs.declared.refusal.Refusal.{Refusal}
+use Rattle.run_texts.specs.Stacks.{IsMounted, IsTreeOf}
+use Rattle.run_texts.specs.Interfaces.{AreTablesOf, IsInterfacesCause}
+use Rattle.run_texts.specs.Refusal.{Names, HasFile, IsPrepared, IsStackCause, IsFileCause, IsCause, refusal_text, refusal_status}
+use Rattle.run_files.specs.Run.{SaysRun}
 
--- what was told of the outside before a command, and after it
+-- what was told of the shelf and the bay before a command, and after it
 pub record Outside : Type 0 where
-  pub texts : Texts
-  pub shelf : ℕ
-  pub shelf_after : ℕ
-  pub bay : AtBay
-  pub written : Option (List ℕ)
-  pub written_after : Option (List ℕ)
-  pub sink : ℕ
-  pub sink_after : ℕ
+  pub shelf : ShelfSeen
+  pub shelf_after : ShelfSeen
+  pub bay : BaySeen
+  pub bay_after : BaySeen
 
--- the words ask for a run, with these names of the interfaces, the stack and the script
-abbrev pub IsRun : List (List ℕ) → TextNames → Type 0
-IsRun words names = asked words ≡ Some (Run names.idl names.stack names.script)
-
--- the name of a stack, without others
-abbrev pub only_stack : List ℕ → TextNames
-only_stack stack = record { idl = []; stack = stack; script = [] }
-
--- the words ask for a check, with this name of the stack
-abbrev pub IsCheck : List (List ℕ) → List ℕ → Type 0
-IsCheck words stack = asked words ≡ Some (Check stack)
-
-abbrev pub usage_text : List ℕ
-usage_text = codes "usage: spring run, gen, check, format, dump or idl\nstatus 2\n"
+abbrev pub outside : ShelfSeen → ShelfSeen → BaySeen → BaySeen → Outside
+outside shelf shelf_after bay bay_after = record { shelf = shelf; shelf_after = shelf_after; bay = bay; bay_after = bay_after }
 
 -- nothing happened at the bay
-abbrev pub IsIdle : AtBay → Type 0
-IsIdle bay = SameBerths bay.berths bay.berths_after
+abbrev pub IsIdle : Outside → Type 0
+IsIdle o = o.bay_after ≡ o.bay
 
--- the name of the interfaces, without others
-abbrev pub only_idl : List ℕ → TextNames
+-- nor at the shelf
+abbrev pub IsUntouched : Outside → Type 0
+IsUntouched o = (o.shelf_after ≡ o.shelf) × IsIdle o
+
+-- the name of a stack or of interfaces, without others
+abbrev pub only_stack : List ℕ → Names
+only_stack stack = record { idl = []; stack = stack; script = [] }
+
+abbrev pub only_idl : List ℕ → Names
 only_idl idl = record { idl = idl; stack = []; script = [] }
 
--- the words ask for the tables of interfaces, with this name
-abbrev pub IsIdl : List (List ℕ) → List ℕ → Type 0
-IsIdl words idl = asked words ≡ Some (Idl idl)
+-- a command that is refused, for a reason of which this holds
+pub record Refuses (Cause : Refusal → Type 0) (names : Names) (text : List ℕ) (status : Status) : Type 0 where
+  pub why : Refusal
+  pub cause : Cause why
+  pub text_is : text ≡ refusal_text names why
+  pub status_is : status ≡ refusal_status why
 
--- the words ask for fresh images, with this name of the stack
-abbrev pub IsFormat : List (List ℕ) → List ℕ → Type 0
-IsFormat words stack = asked words ≡ Some (Format stack)
+-- `check`: the stack can be mounted, and the text is its tree; or it is refused, or could not be read
+pub data SaysCheck (stack : List ℕ) (shelf after : ShelfSeen) (text : List ℕ) (status : Status) : Type 0 where
+  mounts : IsTreeOf shelf stack text → after.faults ≡ shelf.faults → status ≡ statuses.Good → SaysCheck stack shelf after text status
+  unchecked : Refuses (IsStackCause shelf after stack) (only_stack stack) text status → SaysCheck stack shelf after text status
 
--- the words ask for the pages of a file, with these names of the stack and the file
-abbrev pub IsDump : List (List ℕ) → List ℕ → List ℕ → Type 0
-IsDump words stack file = asked words ≡ Some (Dump stack file)
+-- `idl`: the interfaces fit together, and the text is that of their tables; or they are refused, or could not be read
+pub data SaysTables (idl : List ℕ) (shelf after : ShelfSeen) (text : List ℕ) (status : Status) : Type 0 where
+  prints : AreTablesOf shelf idl text → after.faults ≡ shelf.faults → status ≡ statuses.Good → SaysTables idl shelf after text status
+  untabled : Refuses (IsInterfacesCause shelf after idl) (only_idl idl) text status → SaysTables idl shelf after text status
 
--- the words ask for no command
-pub record SaysUsage (words : List (List ℕ)) (o : Outside) (text : List ℕ) (status : Status) : Type 0 where
-  pub none : asked words ≡ None
-  pub text_is : text ≡ usage_text
-  pub status_is : status ≡ statuses.Usage
-  pub idle : IsIdle o.bay
+-- `format`: the stores of the stack, by file and then by disk, were formatted, or not all of them; or the stack is refused
+pub data SaysFormatted (stack : List ℕ) (o : Outside) (text : List ℕ) (status : Status) : Type 0 where
+  formats : (mount : Mount) → IsMounted o.shelf stack mount → o.shelf_after.faults ≡ o.shelf.faults
+      → SaysFormat mount o.bay o.bay_after (stores_of mount) text status → SaysFormatted stack o text status
+  unformatted : IsIdle o → Refuses (IsStackCause o.shelf o.shelf_after stack) (only_stack stack) text status → SaysFormatted stack o text status
 
--- memory lacked before the words were read
-pub record SaysUnread (o : Outside) (text : List ℕ) (status : Status) : Type 0 where
-  pub text_is : text ≡ codes "status 8\n"
-  pub status_is : status ≡ statuses.Memory
-  pub idle : IsIdle o.bay
+-- `dump`: the pages of the stack's file of the name, on its disk, were printed, or could not be; or the stack is refused, or has
+-- no such file
+pub data SaysDumped (stack name : List ℕ) (o : Outside) (text : List ℕ) (status : Status) : Type 0 where
+  dumps : (mount : Mount) (file : ℕ) → HasFile o.shelf stack name mount file → o.shelf_after.faults ≡ o.shelf.faults
+      → SaysDump mount o.bay o.bay_after (record { file = file; disk = 0 }) text status → SaysDumped stack name o text status
+  undumped : IsIdle o → Refuses (IsFileCause o.shelf o.shelf_after stack name) (only_stack stack) text status → SaysDumped stack name o text status
 
--- the stack can be mounted, and the text is its tree
-pub record SaysCheck (words : List (List ℕ)) (o : Outside) (text : List ℕ) (status : Status) : Type 0 where
-  pub name : List ℕ
-  pub check : IsCheck words name
-  pub tree : List ℕ
-  pub tree_is : IsTreeOf o.texts name tree
-  pub text_is : text ≡ tree ++ codes "status 0\n"
-  pub status_is : status ≡ statuses.Good
-  pub idle : IsIdle o.bay
+-- `run`: the script was run over the files of the stack, or they could not be opened; or a text is refused, or could not be read
+pub data SaysRan (names : Names) (o : Outside) (text : List ℕ) (status : Status) : Type 0 where
+  runs : (mount : Mount) (script : Script) → IsPrepared o.shelf names mount script → o.shelf_after.faults ≡ o.shelf.faults
+      → SaysRun mount script o.bay o.bay_after text status → SaysRan names o text status
+  unrun : IsIdle o → Refuses (IsCause o.shelf o.shelf_after names) names text status → SaysRan names o text status
 
--- the stack cannot be mounted, or could not be read
-pub record SaysUnchecked (words : List (List ℕ)) (o : Outside) (text : List ℕ) (status : Status) : Type 0 where
-  pub stack : List ℕ
-  pub check : IsCheck words stack
-  pub refusal : Refusal
-  pub cause : IsStackCause o.texts o.shelf o.shelf_after stack refusal
-  pub text_is : text ≡ refusal_text (only_stack stack) refusal
-  pub status_is : status ≡ refusal_status refusal
-  pub idle : IsIdle o.bay
+abbrev pub usage_text : List ℕ
+usage_text = codes "usage: spring run, gen, check, format, dump or idl\n"
 
--- the interfaces fit together, and the text is that of their tables
-pub record SaysTables (words : List (List ℕ)) (o : Outside) (text : List ℕ) (status : Status) : Type 0 where
-  pub name : List ℕ
-  pub idl : IsIdl words name
-  pub tables : List ℕ
-  pub tables_are : AreTablesOf o.texts name tables
-  pub text_is : text ≡ tables ++ codes "status 0\n"
-  pub status_is : status ≡ statuses.Good
-  pub idle : IsIdle o.bay
-
--- the interfaces are refused, or could not be read
-pub record SaysUntabled (words : List (List ℕ)) (o : Outside) (text : List ℕ) (status : Status) : Type 0 where
-  pub name : List ℕ
-  pub idl : IsIdl words name
-  pub refusal : Refusal
-  pub cause : IsInterfacesCause o.texts o.shelf o.shelf_after name refusal
-  pub text_is : text ≡ refusal_text (only_idl name) refusal
-  pub status_is : status ≡ refusal_status refusal
-  pub idle : IsIdle o.bay
-
--- a text cannot be run, or could not be read
-pub record SaysRefusal (words : List (List ℕ)) (o : Outside) (text : List ℕ) (status : Status) : Type 0 where
-  pub names : TextNames
-  pub run : IsRun words names
-  pub refusal : Refusal
-  pub cause : IsCause o.texts o.shelf o.shelf_after names refusal
-  pub text_is : text ≡ refusal_text names refusal
-  pub status_is : status ≡ refusal_status refusal
-  pub idle : IsIdle o.bay
-
--- the files could not be taken or opened
-pub record SaysStop (words : List (List ℕ)) (o : Outside) (text : List ℕ) (status : Status) : Type 0 where
-  pub names : TextNames
-  pub run : IsRun words names
-  pub setting : Setting
-  pub script : Script
-  pub prepared : IsPrepared o.texts names setting script
-  pub gone : List Bool
-  pub stop : Stop
-  pub stops : Stops setting o.bay gone stop
-  pub text_is : text ≡ stop_text setting gone stop
-  pub status_is : status ≡ stop_status stop
-
--- the script was run, and the text is the report of it
-pub record SaysReport (words : List (List ℕ)) (o : Outside) (text : List ℕ) (status : Status) : Type 0 where
-  pub names : TextNames
-  pub run : IsRun words names
-  pub setting : Setting
-  pub script : Script
-  pub prepared : IsPrepared o.texts names setting script
-  pub ran : Ran setting o.bay script text status
-
--- memory lacked after the phases began
-pub record SaysMemory (words : List (List ℕ)) (o : Outside) (text : List ℕ) (status : Status) : Type 0 where
-  pub names : TextNames
-  pub run : IsRun words names
-  pub setting : Setting
-  pub script : Script
-  pub prepared : IsPrepared o.texts names setting script
-  pub ran : RanOut setting o.bay
-  pub text_is : text ≡ codes "status 8\n"
-  pub status_is : status ≡ statuses.Memory
-
--- fresh images were written on the stores of the stack, or not on all of them
-pub record SaysFormatted (words : List (List ℕ)) (o : Outside) (text : List ℕ) (status : Status) : Type 0 where
-  pub stack : List ℕ
-  pub format : IsFormat words stack
-  pub stores : Setting
-  pub stores_are : AreStoresOf o.texts stack stores
-  pub says : SaysFormat stores o.bay text status
-
--- the stack is refused, or could not be read
-pub record SaysUnformatted (words : List (List ℕ)) (o : Outside) (text : List ℕ) (status : Status) : Type 0 where
-  pub stack : List ℕ
-  pub format : IsFormat words stack
-  pub refusal : Refusal
-  pub cause : IsStackCause o.texts o.shelf o.shelf_after stack refusal
-  pub text_is : text ≡ refusal_text (only_stack stack) refusal
-  pub status_is : status ≡ refusal_status refusal
-  pub idle : IsIdle o.bay
-
--- the pages of the stack's file of the name were printed, or could not be
-pub record SaysDumped (words : List (List ℕ)) (o : Outside) (text : List ℕ) (status : Status) : Type 0 where
-  pub stack : List ℕ
-  pub name : List ℕ
-  pub dump : IsDump words stack name
-  pub setting : Setting
-  pub file : ℕ
-  pub has : HasFile o.texts stack name setting file
-  pub says : SaysDump setting file o.bay text status
-
--- the stack is refused, or could not be read, or has no file of the name
-pub record SaysUndumped (words : List (List ℕ)) (o : Outside) (text : List ℕ) (status : Status) : Type 0 where
-  pub stack : List ℕ
-  pub name : List ℕ
-  pub dump : IsDump words stack name
-  pub refusal : Refusal
-  pub cause : IsFileCause o.texts o.shelf o.shelf_after stack name refusal
-  pub text_is : text ≡ refusal_text (only_stack stack) refusal
-  pub status_is : status ≡ refusal_status refusal
-  pub idle : IsIdle o.bay
-
--- the ways in which a command ends
+-- The ways in which a command ends: memory ran out before the words were read; the words ask for no command; or they ask for
+-- one, which ends in one of its own ways.
 pub data Says (words : List (List ℕ)) (o : Outside) (text : List ℕ) (status : Status) : Type 0 where
-  unread : SaysUnread o text status → Says words o text status
-  usage : SaysUsage words o text status → Says words o text status
-  check : SaysCheck words o text status → Says words o text status
-  unchecked : SaysUnchecked words o text status → Says words o text status
-  tables : SaysTables words o text status → Says words o text status
-  untabled : SaysUntabled words o text status → Says words o text status
-  refusal : SaysRefusal words o text status → Says words o text status
-  stop : SaysStop words o text status → Says words o text status
-  report : SaysReport words o text status → Says words o text status
-  memory : SaysMemory words o text status → Says words o text status
-  formatted : SaysFormatted words o text status → Says words o text status
-  unformatted : SaysUnformatted words o text status → Says words o text status
-  dumped : SaysDumped words o text status → Says words o text status
-  undumped : SaysUndumped words o text status → Says words o text status
+  unread : IsUntouched o → text ≡ [] → status ≡ statuses.Memory → Says words o text status
+  usage : asked words ≡ None → IsUntouched o → text ≡ usage_text → status ≡ statuses.Usage → Says words o text status
+  checked : (stack : List ℕ) → asked words ≡ Some (Check stack) → IsIdle o → SaysCheck stack o.shelf o.shelf_after text status → Says words o text status
+  tabled : (idl : List ℕ) → asked words ≡ Some (Idl idl) → IsIdle o → SaysTables idl o.shelf o.shelf_after text status → Says words o text status
+  formatted : (stack : List ℕ) → asked words ≡ Some (Format stack) → SaysFormatted stack o text status → Says words o text status
+  dumped : (stack name : List ℕ) → asked words ≡ Some (Dump stack name) → SaysDumped stack name o text status → Says words o text status
+  ran : (names : Names) → asked words ≡ Some (Run names.idl names.stack names.script) → SaysRan names o text status → Says words o text status
 
--- How a run over the files ended, and what was written then.
-pub data RunsScript (setting : Setting) (bay : AtBay) (script : Script) (before after : Option (List ℕ)) (faults faults_after : ℕ) (result : Status) : Type 0 where
-  reported : (text : List ℕ) (status : Status) → Ran setting bay script text status → Finishes before after faults faults_after text status result → RunsScript setting bay script before after faults faults_after result
-  stopped : (stop : Stop) (gone : List Bool) → Stops setting bay gone stop → Finishes before after faults faults_after (stop_text setting gone stop) (stop_status stop) result → RunsScript setting bay script before after faults faults_after result
-  lacked : RanOut setting bay → Finishes before after faults faults_after (codes "status 8\n") statuses.Memory result → RunsScript setting bay script before after faults faults_after result
-
--- How a run of the texts of these names ended: it was refused, or the script was run.
-pub data RunsNames (names : TextNames) (o : Outside) (result : Status) : Type 0 where
-  is_refused : (why : Refusal) → IsCause o.texts o.shelf o.shelf_after names why → IsIdle o.bay
-      → Finishes o.written o.written_after o.sink o.sink_after (refusal_text names why) (refusal_status why) result → RunsNames names o result
-  is_run : (setting : Setting) (script : Script) → IsPrepared o.texts names setting script
-      → RunsScript setting o.bay script o.written o.written_after o.sink o.sink_after result → RunsNames names o result
-
--- How a check of the stack of a name ended, and what was written then.
-pub data ChecksStack (told : Texts) (shelf shelf_after : ℕ) (name : List ℕ) (before after : Option (List ℕ)) (faults faults_after : ℕ) (result : Status) : Type 0 where
-  mounts : (tree : List ℕ) → IsTreeOf told name tree → Finishes before after faults faults_after (tree ++ codes "status 0\n") statuses.Good result
-      → ChecksStack told shelf shelf_after name before after faults faults_after result
-  refuses : (refusal : Refusal) → IsStackCause told shelf shelf_after name refusal → Finishes before after faults faults_after (refusal_text (only_stack name) refusal) (refusal_status refusal) result
-      → ChecksStack told shelf shelf_after name before after faults faults_after result
-
--- How the printing of the tables of the interfaces of a name ended, and what was written then.
-pub data PrintsTables (told : Texts) (shelf shelf_after : ℕ) (name : List ℕ) (before after : Option (List ℕ)) (faults faults_after : ℕ) (result : Status) : Type 0 where
-  prints : (tables : List ℕ) → AreTablesOf told name tables → Finishes before after faults faults_after (tables ++ codes "status 0\n") statuses.Good result
-      → PrintsTables told shelf shelf_after name before after faults faults_after result
-  prints_none : (refusal : Refusal) → IsInterfacesCause told shelf shelf_after name refusal → Finishes before after faults faults_after (refusal_text (only_idl name) refusal) (refusal_status refusal) result
-      → PrintsTables told shelf shelf_after name before after faults faults_after result
-
--- How the formatting of the stores of a stack of a name ended, and what was written then.
-pub data FormatsStack (name : List ℕ) (o : Outside) (result : Status) : Type 0 where
-  formats_none : (why : Refusal) → IsStackCause o.texts o.shelf o.shelf_after name why → IsIdle o.bay
-      → Finishes o.written o.written_after o.sink o.sink_after (refusal_text (only_stack name) why) (refusal_status why) result → FormatsStack name o result
-  formats_files : (stores : Setting) → AreStoresOf o.texts name stores → Formats stores o.bay o.written o.written_after o.sink o.sink_after result → FormatsStack name o result
-
--- How the printing of the pages of a file of a name ended, and what was written then.
-pub data DumpsNamed (stack name : List ℕ) (o : Outside) (result : Status) : Type 0 where
-  dumps_none : (why : Refusal) → IsFileCause o.texts o.shelf o.shelf_after stack name why → IsIdle o.bay
-      → Finishes o.written o.written_after o.sink o.sink_after (refusal_text (only_stack stack) why) (refusal_status why) result → DumpsNamed stack name o result
-  dumps_file : (setting : Setting) (file : ℕ) → HasFile o.texts stack name setting file → Dumps setting file o.bay o.written o.written_after o.sink o.sink_after result → DumpsNamed stack name o result
-
--- How a command ends: in one of the ways, whose text is written, or written in part where the sink failed.
-pub record Ends (words : List (List ℕ)) (o : Outside) (result : Status) : Type 0 where
-  pub text : List ℕ
-  pub status : Status
-  pub says : Says words o text status
-  pub finishes : Finishes o.written o.written_after o.sink o.sink_after text status result
+-- How a command ends: in one of the ways, whose text and status are written; or the sink failed.
+abbrev pub Ends : List (List ℕ) → Outside → SinkSeen → SinkSeen → Status → Type 0
+Ends words o before after result = Written (Says words o) before after result

@@ -1,25 +1,36 @@
 //! The command `check`: the tree of a stack.
 
-ghost use Rattle.std.specs.Prelude.{IfOk, IfErr};
-ghost use Rattle.spr_run.specs.Stacks.{IsTreeOf};
-ghost use Rattle.spr_run.specs.Refusal.{IsStackCause};
-ghost use Rattle.spr_run.specs.Ways.{ChecksStack};
+ghost use Rattle.std.specs.Prelude.{◌≡◌, [], IfOk, IfErr, OnOk};
+ghost use Rattle.file_stores.specs.Written.{Written};
+ghost use Rattle.run_texts.specs.Stacks.{IsTreeOf};
+ghost use Rattle.run_texts.specs.Refusal.{IsStackCause, names_of};
+ghost use Rattle.spr_run.specs.Ways.{only_stack, SaysCheck};
 
-use crate::refusal::{Refusal, refuse};
-use crate::texts::read_accepted;
-use file_stores::finish;
-use hist_plain::Text;
+use run_texts::{Refusal, TextNames, read_stack, refuse};
+use seen_values::Text;
 use spr_io::{Shelf, Sink};
-use spr_report::Status;
+use spr_report::{Status, finish};
 use stack_accept::put_check;
 use std::alloc::{AllocError, Global};
 
+/// The names of a command that has a stack alone.
+pub(crate) fn only_stack(name: &Text) -> TextNames<'_>
+    ensures { names_of result ≡ only_stack name.now }
+{
+    TextNames {
+        idl: "",
+        stack: name.as_str(),
+        script: "",
+    }
+}
+
 /// The lines of the tree that the stack of a name makes.
 fn tree_text<H: Shelf>(alloc: Global, shelf: &mut H, name: &Text) -> Result<Vec<u8>, Refusal>
-    ensures ok { IfOk result (λ text. IsTreeOf (H.text shelf.old) name.now text.items) }
-    ensures err { IfErr result (IsStackCause (H.text shelf.old) (H.faults shelf.old) (H.faults shelf.new) name.now) }
+    ensures ok { IfOk result (λ text. IsTreeOf (H.told shelf.old) name.now text.items) }
+    ensures err { IfErr result (IsStackCause (H.told shelf.old) (H.told shelf.new) name.now) }
+    ensures calm { OnOk result ((H.told shelf.new).faults ≡ (H.told shelf.old).faults) }
 {
-    let (_stack, mount) = read_accepted(alloc, shelf, name)?;
+    let mount = read_stack(alloc, shelf, name)?;
     let mut text = Vec::new(alloc);
     match put_check(&mut text, &mount) {
         Ok(()) => Ok(text),
@@ -34,10 +45,10 @@ pub(crate) fn check_stack<H: Shelf, K: Sink>(
     name: &Text,
     sink: &mut K,
 ) -> Status
-    ensures { ChecksStack (H.text shelf.old) (H.faults shelf.old) (H.faults shelf.new) name.now (K.written sink.old) (K.written sink.new) (K.faults sink.old) (K.faults sink.new) result }
+    ensures { Written (SaysCheck name.now (H.told shelf.old) (H.told shelf.new)) (K.told sink.old) (K.told sink.new) result }
 {
     match tree_text(alloc, shelf, name) {
-        Ok(text) => finish(sink, &[&text, b"status 0\n"], Status::Good),
-        Err(refusal) => refuse(sink, "", name.as_str(), "", refusal),
+        Ok(text) => finish(sink, &[&text], Status::Good),
+        Err(refusal) => refuse(sink, &only_stack(name), refusal),
     }
 }

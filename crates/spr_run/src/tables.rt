@@ -1,14 +1,26 @@
 //! The command `idl`: the tables of interfaces.
 
-ghost use Rattle.spr_run.specs.Ways.{PrintsTables};
+ghost use Rattle.std.specs.Prelude.{◌≡◌};
+ghost use Rattle.file_stores.specs.Written.{Written};
+ghost use Rattle.run_texts.specs.Refusal.{names_of};
+ghost use Rattle.spr_run.specs.Ways.{only_idl, SaysTables};
 
-use crate::interfaces::read_tables;
-use crate::refusal::refuse;
-use file_stores::finish;
-use hist_plain::Text;
+use run_texts::{TextNames, read_tables, refuse};
+use seen_values::Text;
 use spr_io::{Shelf, Sink};
-use spr_report::Status;
+use spr_report::{Status, finish};
 use std::alloc::Global;
+
+/// The names of a command that has interfaces alone.
+fn only_idl(name: &Text) -> TextNames<'_>
+    ensures { names_of result ≡ only_idl name.now }
+{
+    TextNames {
+        idl: name.as_str(),
+        stack: "",
+        script: "",
+    }
+}
 
 /// Writes the tables of the interfaces of a name.
 pub(crate) fn put_tables<H: Shelf, K: Sink>(
@@ -17,10 +29,10 @@ pub(crate) fn put_tables<H: Shelf, K: Sink>(
     name: &Text,
     sink: &mut K,
 ) -> Status
-    ensures { PrintsTables (H.text shelf.old) (H.faults shelf.old) (H.faults shelf.new) name.now (K.written sink.old) (K.written sink.new) (K.faults sink.old) (K.faults sink.new) result }
+    ensures { Written (SaysTables name.now (H.told shelf.old) (H.told shelf.new)) (K.told sink.old) (K.told sink.new) result }
 {
     match read_tables(alloc, shelf, name) {
-        Ok(lines) => finish(sink, &[lines.as_slice(), b"status 0\n"], Status::Good),
-        Err(refusal) => refuse(sink, name.as_str(), "", "", refusal),
+        Ok(lines) => finish(sink, &[lines.as_slice()], Status::Good),
+        Err(refusal) => refuse(sink, &only_idl(name), refusal),
     }
 }

@@ -1,7 +1,7 @@
 //! Whole runs over the forms in memory, each with its text and status.
 
 use crate::spring;
-use hist_plain::Text;
+use seen_values::Text;
 use spr_io::{Bay, HostBay, MemBay, MemShelf, MemSink, MemStore, OpenGate};
 use spr_report::Status;
 use std::alloc::Global;
@@ -26,6 +26,12 @@ const SCRIPT: &[u8] =
 
 const REPORT: &str =
     "client a\n3 life 0\n4 done\n5 61626364\n6 done\nfile f\n0 a 0 c 0 open life 0\n2 a 1 c 0 write 0 0 61626364 done\n3 a 2 c 0 read 0 0 4 61626364\n5 a 3 c synced 4 done\n6 mount 0 c synced 6 done\nstatus 0\n";
+
+/// The same without a sync: the closing sync writes the page.
+const UNSAVED: &[u8] = b"client a m\nphase\na open x c/f\na write x 0 0 61626364\na read x 0 0 4\n";
+
+const UNSAVED_REPORT: &str =
+    "client a\n3 life 0\n4 done\n5 61626364\nfile f\n0 a 0 c 0 open life 0\n2 a 1 c 0 write 0 0 61626364 done\n3 a 2 c 0 read 0 0 4 61626364\n5 mount 0 c synced 4 done\nstatus 0\n";
 
 /// The disk refuses the page of the first sync.
 const UNWRITTEN: &[u8] =
@@ -118,6 +124,10 @@ const FILES_SCRIPT: &[u8] = b"client a m\nphase\na open x c/f\na open y c/g\na w
 
 const FILES_REPORT: &[u8] =
     b"client a\n3 life 0\n4 life 0\n5 done\nfile f\n0 a 0 c 0 open life 0\n1 mount 0 c synced 1 done\nfile g\n0 a 0 c 0 open life 0\n2 a 1 c 0 write 1 0 62 done\n4 mount 0 c synced 3 done\nstatus 0\n";
+
+/// The first file is synced, and the store of the second refuses its page.
+const FILES_UNCLOSED: &[u8] =
+    b"client a\n3 life 0\n4 life 0\n5 done\nfile f\n0 a 0 c 0 open life 0\n1 mount 0 c synced 1 done\nfile g\n0 a 0 c 0 open life 0\n2 a 1 c 0 write 1 0 62 done\nclosing g store d 1\nstatus 1\n";
 
 const FILES_LOST: &[u8] =
     b"client a\n3 life 0\n4 life 0\n5 done\nfile f\n0 a 0 c 0 open life 0\n1 mount 0 c synced 1 done\nfile g\n0 a 0 c 0 open life 0\n2 a 1 c 0 write 1 0 62 done\n4 mount 0 c synced 3 done\nbay d g\nstatus 5\n";
@@ -262,13 +272,14 @@ const DUMP: &[&str] = &["dump", "S", "f"];
 const TABLES: &str =
     "interface rights\ninterface file\n0 read file\ninterface log\n0 read file\n1 add log\nstatus 0\n";
 
+/// Commands that end before a store is taken, and those that take none.
 #[test]
 fn refusals(rt: HostRuntime) -> Result<(), Fail> {
     let usage = "usage: spring run, gen, check, format, dump or idl\nstatus 2\n";
-    let rows: [(&[&str], &[u8], &[u8], Status, &str); 24] = [
+    let rows: [(&[&str], &[u8], &[u8], Status, &str); 14] = [
         (&[], STACK, SCRIPT, Status::Usage, usage),
         (&["run", "I", "S"], STACK, SCRIPT, Status::Usage, usage),
-        (&["check", "S", "T"], STACK, SCRIPT, Status::Usage, usage),
+        (&["idl", "I", "S"], b"", b"", Status::Usage, usage),
         (
             RUN,
             STACK,
@@ -279,9 +290,9 @@ fn refusals(rt: HostRuntime) -> Result<(), Fail> {
         (
             RUN,
             STACK,
-            b"client a m\nphase\na jump x\n",
+            b"client a m\nclient b n\n",
             Status::Refused,
-            "script 3 verb\nstatus 3\n",
+            "script 2 unknown\nstatus 3\n",
         ),
         (
             &["run", "I", "U", "T"],
@@ -291,27 +302,6 @@ fn refusals(rt: HostRuntime) -> Result<(), Fail> {
             "shelf U\nstatus 4\n",
         ),
         (
-            &["run", "I", "S", "U"],
-            STACK,
-            SCRIPT,
-            Status::ShelfFault,
-            "shelf U\nstatus 4\n",
-        ),
-        (
-            &["run", "I", "S", "U"],
-            b"page 96\n",
-            b"",
-            Status::Refused,
-            "stack 1 A10\nstatus 3\n",
-        ),
-        (
-            RUN,
-            b"page 64\nfile f 2\ndisk d m\ncoherency c m d",
-            b"",
-            Status::Refused,
-            "stack 4 end\nstatus 3\n",
-        ),
-        (
             RUN,
             b"page 64\nfile f 2\ndisk d m\ncoherency c m d\nvmm v m c 2\n",
             b"",
@@ -319,40 +309,11 @@ fn refusals(rt: HostRuntime) -> Result<(), Fail> {
             "stack 5 later\nstatus 3\n",
         ),
         (
-            RUN,
-            b"page 64\nfile f 2\ndisk d m\ncoherency c m d\nvmm v m c 4\ncoherency k m v\n",
-            b"",
-            Status::Refused,
-            "stack 6 A8\nstatus 3\n",
-        ),
-        (RUN, b"", b"", Status::Refused, "stack 1 A1\nstatus 3\n"),
-        (
             &["run", "unknown", "S", "T"],
             b"",
             b"",
             Status::Refused,
             "idl 14 unknown\nstatus 3\n",
-        ),
-        (
-            &["run", "bad", "S", "T"],
-            b"",
-            b"",
-            Status::Refused,
-            "idl 16 byte\nstatus 3\n",
-        ),
-        (
-            &["run", "U", "S", "T"],
-            b"",
-            b"",
-            Status::ShelfFault,
-            "shelf U\nstatus 4\n",
-        ),
-        (
-            &["run", "--trace", "I", "S", "T"],
-            STACK,
-            SCRIPT,
-            Status::Usage,
-            usage,
         ),
         (&["idl", "I"], b"", b"", Status::Good, TABLES),
         (
@@ -362,14 +323,6 @@ fn refusals(rt: HostRuntime) -> Result<(), Fail> {
             Status::Refused,
             "idl 16 byte\nstatus 3\n",
         ),
-        (
-            &["idl", "U"],
-            b"",
-            b"",
-            Status::ShelfFault,
-            "shelf U\nstatus 4\n",
-        ),
-        (&["idl", "I", "S"], b"", b"", Status::Usage, usage),
         (CHECK, SPREAD, b"", Status::Good, SPREAD_TREE),
         (
             &["check", "U"],
@@ -380,17 +333,17 @@ fn refusals(rt: HostRuntime) -> Result<(), Fail> {
         ),
         (
             CHECK,
-            b"page 64\nfile f two\n",
-            b"",
-            Status::Refused,
-            "stack 2 number\nstatus 3\n",
-        ),
-        (
-            CHECK,
             b"page 64\nfile f 2\ndisk d m\nvmm v m d 4\n",
             b"",
             Status::Refused,
             "stack 4 A7\nstatus 3\n",
+        ),
+        (
+            &["format", "U"],
+            b"",
+            b"",
+            Status::ShelfFault,
+            "shelf U\nstatus 4\n",
         ),
     ];
     for (words, stack, script, status, text) in rows {
@@ -404,7 +357,8 @@ fn refusals(rt: HostRuntime) -> Result<(), Fail> {
 #[test]
 fn runs(rt: HostRuntime) -> Result<(), Fail> {
     let empty = "file f\n0 mount 0 c synced 0 done\nstatus 0\n";
-    let rows: [(&[u8], &[u8], &str); 11] = [
+    let rows: [(&[u8], &[u8], &str); 12] = [
+        (STACK, UNSAVED, UNSAVED_REPORT),
         (STACK, SCRIPT, REPORT),
         (STACK, b"", empty),
         (STACK, LOST_NAMES, LOST_NAMES_REPORT),
@@ -541,7 +495,16 @@ const FAULTS: [(Outside<'static>, Status, &[u8]); 13] = [
 ];
 
 /// The same over two files, whose images were made by two takes and two gives.
-const FILES_FAULTS: [(Outside<'static>, Status, &[u8]); 5] = [
+const FILES_FAULTS: [(Outside<'static>, Status, &[u8]); 6] = [
+    (
+        Outside {
+            file: "g",
+            writes: &[3],
+            ..SOUND
+        },
+        Status::Faulted,
+        FILES_UNCLOSED,
+    ),
     (Outside { file: "g", ..SOUND }, Status::Good, FILES_REPORT),
     (
         Outside {
@@ -610,9 +573,9 @@ fn each_call(rt: HostRuntime) -> Result<(), Fail> {
         (Call::Read, 0, 2),
         (Call::Write, 2, 2),
         (Call::Flush, 1, 2),
-        (Call::Sink, 0, 1),
+        (Call::Sink, 0, 4),
     ] {
-        for nth in 1..5 {
+        for nth in 1..6 {
             let fails = [before + nth];
             let (got, _sink) = run(&rt, alloc, STACK, SCRIPT, &refusing(call, &fails))?;
             assert_eq!(rt; got == Status::Good, nth > count, "at {call:?} {nth}");
@@ -773,28 +736,6 @@ fn images_on_two_disks(rt: HostRuntime) -> Result<(), Fail> {
         let (got, sink) = command_at(&rt, alloc, words, stack, b"", &SOUND, &mut bay)?;
         assert_eq!(rt; got, status, "at {text}");
         assert_eq!(rt; sink.bytes(), text.as_bytes(), "at {text}");
-    }
-    Ok(())
-}
-
-/// After the first run the page lies on the store's third block, and the map's first entry names it.
-#[test]
-fn blocks_of_a_run(rt: HostRuntime) -> Result<(), Fail> {
-    let alloc = rt.alloc();
-    let mut bay = bay_of(alloc, &SOUND)?;
-    for words in [FORMAT, RUN] {
-        let (_got, _sink) = command_at(&rt, alloc, words, STACK, SCRIPT, &SOUND, &mut bay)?;
-    }
-    match bay.look("d", "f") {
-        Some(store) if store.has_shape(64, 4) => {
-            assert!(rt;
-                store
-                    .kept(1)
-                    .starts_with(b"\x00\x00\x00\x02\x00\x00\x00\x00")
-            );
-            assert!(rt; store.kept(2).starts_with(b"abcd\x00\x00"));
-        }
-        _ => panic!(rt; "the store is not there"),
     }
     Ok(())
 }

@@ -1,6 +1,6 @@
 //! What `--help`, `-h` and `--version` print.
 
-use hist_plain::Text;
+use seen_values::Text;
 
 /// What the program does, its commands, and an example.
 pub const HELP: &str =
@@ -25,7 +25,7 @@ IDL, STACK and SCRIPT are names of host files; FILE is a file of the stack. The 
 file F is D.F.img in the current folder.
 
 example: spring format examples/first/first.stack
-         spring run examples/first/first.idl examples/first/first.stack examples/first/first.script";
+         spring run examples/spring.idl examples/first/first.stack examples/first/first.script";
 
 /// The program's name and version.
 pub const VERSION: &str = "spring 0.1.0";

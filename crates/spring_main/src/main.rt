@@ -4,7 +4,7 @@
 mod help;
 
 use crate::help::{HELP, VERSION, asks_help, asks_version};
-use hist_plain::Text;
+use seen_values::Text;
 use spr_io::{HostBay, HostShelf, OpenGate, StdSink};
 use spr_run::spring;
 use std::alloc::{AllocError, Global};

@@ -1,18 +1,8 @@
-use Rattle.std.proofs.Common.{◌≡◌, refl, []}
-use Rattle.spr_run.specs.Ways.{dumps_none, dumps_file}
-use Rattle.spr_run.proofs.TopLaws.{refusal-named}
-use Rattle.file_stores.proofs.StockLaws.{built_stocked}
+use Rattle.spr_run.specs.Ways.{outside}
+use Rattle.spr_run.proofs.WayLaws.{ends-dumps}
 use Rattle.spr_run.proofs.images.dump_named.Goals as goal
 
 pub returns-in-Ok : goal.returns-in-Ok
-returns-in-Ok g c = record { ends = dumps_file c.in-Ok.setting c.in-Ok.file c.in-Ok.ensures.ok c.dump_file.ensures.dumps }
-
-pub returns-in-Err : goal.returns-in-Err
-returns-in-Err g c = record {
-  ends = dumps_none c.in-Err.refusal c.in-Err.ensures.err (λ disk file. refl)
-      (refusal-named (g.K.Sink.written c.args.sink.now) (g.K.Sink.written c.refuse.new.sink) (g.K.Sink.faults c.args.sink.now) (g.K.Sink.faults c.refuse.new.sink)
-      (record { idl = []; stack = c.as_str.result.now; script = [] }) (record { idl = []; stack = c.args.stack.now; script = [] }) c.in-Err.refusal c.refuse.result refl c.as_str.ensures refl c.refuse.ensures);
-}
-
-pub dump_file-requires-clause-stocked : goal.dump_file-requires-clause-stocked
-dump_file-requires-clause-stocked g c κs within = built_stocked c.in-Ok.setting c.in-Ok.ensures.built
+returns-in-Ok g c =
+    let o = outside (g.H.Shelf.told c.args.shelf.now) (g.H.Shelf.told c.read_file.new.shelf) (g.B.Bay.told c.args.bay.now) (g.B.Bay.told c.dump_file.new.bay) in
+    record { ends = ends-dumps c.args.stack.now c.args.name.now o c.in-Ok.mount c.in-Ok.file (g.K.Sink.told c.args.sink.now) (g.K.Sink.told c.dump_file.new.sink) c.dump_file.result c.in-Ok.ensures.ok c.in-Ok.ensures.calm c.dump_file.ensures.dumps }

@@ -1,14 +1,8 @@
-use Rattle.std.proofs.Common.{◌≡◌, refl, []}
-use Rattle.spr_run.specs.Ways.{formats_none, formats_files}
-use Rattle.spr_run.proofs.TopLaws.{refusal-named}
+use Rattle.spr_run.specs.Ways.{outside}
+use Rattle.spr_run.proofs.WayLaws.{ends-formats}
 use Rattle.spr_run.proofs.images.format_stack.Goals as goal
 
 pub returns-in-Ok : goal.returns-in-Ok
-returns-in-Ok g c = record { ends = formats_files c.in-Ok.stores c.in-Ok.ensures.stores c.format_files.ensures.formats }
-
-pub returns-in-Err : goal.returns-in-Err
-returns-in-Err g c = record {
-  ends = formats_none c.in-Err.refusal c.in-Err.ensures.err (λ disk file. refl)
-      (refusal-named (g.K.Sink.written c.args.sink.now) (g.K.Sink.written c.refuse.new.sink) (g.K.Sink.faults c.args.sink.now) (g.K.Sink.faults c.refuse.new.sink)
-      (record { idl = []; stack = c.as_str.result.now; script = [] }) (record { idl = []; stack = c.args.name.now; script = [] }) c.in-Err.refusal c.refuse.result refl c.as_str.ensures refl c.refuse.ensures);
-}
+returns-in-Ok g c =
+    let o = outside (g.H.Shelf.told c.args.shelf.now) (g.H.Shelf.told c.read_stack.new.shelf) (g.B.Bay.told c.args.bay.now) (g.B.Bay.told c.format_files.new.bay) in
+    record { ends = ends-formats c.args.name.now o c.in-Ok.mount (g.K.Sink.told c.args.sink.now) (g.K.Sink.told c.format_files.new.sink) c.format_files.result c.in-Ok.ensures.mounted c.in-Ok.ensures.calm c.format_files.ensures.formats }

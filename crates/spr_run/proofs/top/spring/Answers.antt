@@ -1,28 +1,52 @@
-use Rattle.std.proofs.Common.{◌≡◌, ◌∙◌, ap, refl, Some}
-use Rattle.spr_run.proofs.TopLaws.{ends-check, ends-dump, ends-format, ends-names, ends-tables}
+use Rattle.std.proofs.Common.{ℕ, List, ◌∙◌, ap, refl, subst, Some}
+use Rattle.file_stores.specs.Written.{Written}
+use Rattle.run_texts.specs.Refusal.{Names}
+use Rattle.spr_run.specs.Ways.{outside, SaysCheck, SaysTables, SaysFormatted}
+use Rattle.spr_run.proofs.WayLaws.{ends-check, ends-dump, ends-format, ends-run, ends-tables, named-dump, named-run}
 use Rattle.spr_run.proofs.top.spring.Goals as goal
 
 pub returns-in-Ok-Run : goal.returns-in-Ok-Run
 returns-in-Ok-Run g c =
     let asks = c.in-Ok-Run.ensures.ok ∙ ap Some c.in-Ok-Run.field-0-is in
-    record { ends = ends-names c.args.words.now (record { idl = c.in-Ok-Run.idl; stack = c.in-Ok-Run.stack; script = c.in-Ok-Run.script }) _ c.run_names.result asks c.run_names.ensures.ends }
+    let o = outside (g.H.Shelf.told c.args.shelf.now) (g.H.Shelf.told c.run_named.new.shelf) (g.B.Bay.told c.args.bay.now) (g.B.Bay.told c.run_named.new.bay) in
+    let names : Names = record { idl = c.in-Ok-Run.idl; stack = c.in-Ok-Run.stack; script = c.in-Ok-Run.script } in
+    record {
+      ends = ends-run c.args.words.now names o (g.K.Sink.told c.args.sink.now) (g.K.Sink.told c.run_named.new.sink) c.run_named.result asks
+          (named-run o (g.K.Sink.told c.args.sink.now) (g.K.Sink.told c.run_named.new.sink) c.run_named.result c.in-Ok-Run.idl-is c.in-Ok-Run.stack-is c.in-Ok-Run.script-is c.run_named.ensures.ends);
+    }
 
 pub returns-in-Ok-Check : goal.returns-in-Ok-Check
 returns-in-Ok-Check g c =
     let asks = c.in-Ok-Check.ensures.ok ∙ ap Some c.in-Ok-Check.field-0-is in
-    record { ends = ends-check c.args.words.now c.in-Ok-Check.stack _ c.check_stack.result asks (λ disk file. refl) c.check_stack.ensures }
+    let o = outside (g.H.Shelf.told c.args.shelf.now) (g.H.Shelf.told c.check_stack.new.shelf) (g.B.Bay.told c.args.bay.now) (g.B.Bay.told c.args.bay.now) in
+    record {
+      ends = ends-check c.args.words.now c.in-Ok-Check.stack o (g.K.Sink.told c.args.sink.now) (g.K.Sink.told c.check_stack.new.sink) c.check_stack.result asks refl
+          (subst (λ (s : List ℕ). Written (SaysCheck s o.shelf o.shelf_after) (g.K.Sink.told c.args.sink.now) (g.K.Sink.told c.check_stack.new.sink) c.check_stack.result) c.in-Ok-Check.stack-is c.check_stack.ensures);
+    }
 
 pub returns-in-Ok-Idl : goal.returns-in-Ok-Idl
 returns-in-Ok-Idl g c =
     let asks = c.in-Ok-Idl.ensures.ok ∙ ap Some c.in-Ok-Idl.field-0-is in
-    record { ends = ends-tables c.args.words.now c.in-Ok-Idl.idl _ c.put_tables.result asks (λ disk file. refl) c.put_tables.ensures }
+    let o = outside (g.H.Shelf.told c.args.shelf.now) (g.H.Shelf.told c.put_tables.new.shelf) (g.B.Bay.told c.args.bay.now) (g.B.Bay.told c.args.bay.now) in
+    record {
+      ends = ends-tables c.args.words.now c.in-Ok-Idl.idl o (g.K.Sink.told c.args.sink.now) (g.K.Sink.told c.put_tables.new.sink) c.put_tables.result asks refl
+          (subst (λ (s : List ℕ). Written (SaysTables s o.shelf o.shelf_after) (g.K.Sink.told c.args.sink.now) (g.K.Sink.told c.put_tables.new.sink) c.put_tables.result) c.in-Ok-Idl.idl-is c.put_tables.ensures);
+    }
 
 pub returns-in-Ok-Format : goal.returns-in-Ok-Format
 returns-in-Ok-Format g c =
     let asks = c.in-Ok-Format.ensures.ok ∙ ap Some c.in-Ok-Format.field-0-is in
-    record { ends = ends-format c.args.words.now c.in-Ok-Format.stack _ c.format_stack.result asks c.format_stack.ensures.ends }
+    let o = outside (g.H.Shelf.told c.args.shelf.now) (g.H.Shelf.told c.format_stack.new.shelf) (g.B.Bay.told c.args.bay.now) (g.B.Bay.told c.format_stack.new.bay) in
+    record {
+      ends = ends-format c.args.words.now c.in-Ok-Format.stack o (g.K.Sink.told c.args.sink.now) (g.K.Sink.told c.format_stack.new.sink) c.format_stack.result asks
+          (subst (λ (s : List ℕ). Written (SaysFormatted s o) (g.K.Sink.told c.args.sink.now) (g.K.Sink.told c.format_stack.new.sink) c.format_stack.result) c.in-Ok-Format.stack-is c.format_stack.ensures.ends);
+    }
 
 pub returns-in-Ok-Dump : goal.returns-in-Ok-Dump
 returns-in-Ok-Dump g c =
     let asks = c.in-Ok-Dump.ensures.ok ∙ ap Some c.in-Ok-Dump.field-0-is in
-    record { ends = ends-dump c.args.words.now c.in-Ok-Dump.stack c.in-Ok-Dump.file _ c.dump_named.result asks c.dump_named.ensures.ends }
+    let o = outside (g.H.Shelf.told c.args.shelf.now) (g.H.Shelf.told c.dump_named.new.shelf) (g.B.Bay.told c.args.bay.now) (g.B.Bay.told c.dump_named.new.bay) in
+    record {
+      ends = ends-dump c.args.words.now c.in-Ok-Dump.stack c.in-Ok-Dump.file o (g.K.Sink.told c.args.sink.now) (g.K.Sink.told c.dump_named.new.sink) c.dump_named.result asks
+          (named-dump o (g.K.Sink.told c.args.sink.now) (g.K.Sink.told c.dump_named.new.sink) c.dump_named.result c.in-Ok-Dump.stack-is c.in-Ok-Dump.file-is c.dump_named.ensures.ends);
+    }

@@ -1,0 +1,224 @@
+-- The files over the stores that are out, one after another.
+use Rattle.std.proofs.Common.{◌≡◌, ℕ, zero, suc, Bool, true, false, ◌+◌, ◌≤◌, List, [], ◌∷◌, ◌++◌, length, take, drop, Option, Some, None, refl, sym, ap, subst, ◌∙◌, arith, append_assoc, length-append}
+use Rattle.std.specs.Prelude.{slice_get, is_some}
+use Rattle.std.proofs.lemmas.List.{map-append}
+use Rattle.stack_accept.specs.Mount.{Mount}
+use Rattle.run_defs.specs.declared.store.StoreKey.{StoreKey}
+use Rattle.run_defs.specs.Stack.{pages_of}
+use Rattle.disk_layer.specs.Disk.{Disk}
+use Rattle.disk_layer.specs.declared.refused.OpenWhy.{OpenWhy}
+use Rattle.disk_layer.specs.declared.refused.OpenWhy.TheVariants as whys
+use Rattle.disk_layer.specs.declared.fault.StoreFault.{StoreFault}
+use Rattle.disk_layer.specs.Calls as disks
+use Rattle.plain_tower.specs.Tower.{TowerSeen}
+use Rattle.plain_tower.specs.declared.pages.TowerErr.{TowerErr}
+use Rattle.plain_tower.specs.declared.pages.TowerErr.TheVariants as errs
+use Rattle.plain_tower.specs.Opened as towers
+use Rattle.plain_run.specs.Towers.{histories}
+use Rattle.file_stores.specs.declared.stop.Stop.{Stop}
+use Rattle.file_stores.specs.declared.stop.Stop.TheVariants as stops
+use Rattle.file_stores.specs.State.{StoreState}
+use Rattle.file_stores.specs.Stop.{refused}
+use Rattle.file_stores.specs.Held.{StoreSeen, keys_of}
+use Rattle.file_stores.proofs.Lists.{some-is, no-item}
+use Rattle.run_files.specs.Held.{under, unread, IsUnread, Opens, OpensEach, OpensSome, IsUnopened, IsShut, AreShut}
+
+-- a tower over the disk that was opened on a store
+pub opens-of : (mount : Mount) (callers : ℕ) (s : StoreSeen) (d : Disk) (t : TowerSeen) → disks.Opened (under mount s) d → towers.Opens mount.page_size mount.tree (pages_of mount s.key.file) callers d t → Opens mount callers s t
+opens-of mount callers s d t over opens = record {
+  over = subst (λ (x : Disk). disks.Opened (under mount s) x) (sym opens.disk_is) over;
+  opens = subst (λ (x : Disk). towers.Opens mount.page_size mount.tree (pages_of mount s.key.file) callers x t) (sym opens.disk_is) opens;
+}
+
+same-state : (a b : StoreState) → a.content ≡ b.content → a.faults ≡ b.faults → a ≡ b
+same-state a b c f = λ i. record { content = c i; faults = f i }
+
+-- the image on a store was refused
+pub refused-unopened : (mount : Mount) (old new : StoreSeen) (why : OpenWhy) → new.state.content ≡ old.state.content → disks.IsRefusal (under mount old) new.state.faults why → IsUnopened mount old new (refused old.key why)
+refused-unopened mount old new (whys.BadImage bad) content refusal = (refl, record { reason = refusal.0; told = refusal.1 }, same-state new.state old.state content refusal.2)
+refused-unopened mount old new (whys.StoreFault fault) content refusal =
+    let count : fault.count ≡ new.state.faults = ap (λ (f : StoreFault). f.count) refusal.1 in
+    let rose = refusal.0 in
+    (refl, record { above = omega (arith, rose, count); within = omega (arith, count) })
+refused-unopened mount old new whys.Memory content refusal = same-state new.state old.state content refusal
+
+-- the pages of a disk that was opened were not read
+pub unread-of : (key : StoreKey) (before now : Disk) (why : TowerErr) (faults : ℕ) → faults ≡ now.faults → towers.FaultsOpening before now why → IsUnread key before faults (unread key why)
+unread-of key before now (errs.StoreFault fault) faults same cause = (refl, cause.above, (let within = cause.within in omega (arith, same, within)))
+unread-of key before now errs.Memory faults same cause = same ∙ cause
+
+pub unread-unopened : (mount : Mount) (old new : StoreSeen) (key : StoreKey) (d : Disk) (stop : Stop) → key ≡ old.key → disks.Opened (under mount old) d → new.state.content ≡ d.content → IsUnread key d new.state.faults stop
+    → IsUnopened mount old new stop
+unread-unopened mount old new key d (stops.Store store count) is over content cause =
+    let calm = over.calm in
+    let above = cause.1 in
+    (cause.0 ∙ is, record { above = omega (arith, above, calm); within = cause.2 })
+unread-unopened mount old new key d stops.Memory is over content cause = same-state new.state old.state (content ∙ over.content) (cause ∙ over.calm)
+unread-unopened mount old new key d (stops.Bay store) is over content cause = absurd cause
+unread-unopened mount old new key d (stops.Image store place why) is over content cause = absurd cause
+
+pub opens-more : (mount : Mount) (callers : ℕ) (ss : List StoreSeen) (ts : List TowerSeen) (s : StoreSeen) (t : TowerSeen) → OpensEach mount callers ss ts → Opens mount callers s t → OpensEach mount callers (ss ++ s ∷ []) (ts ++ t ∷ [])
+opens-more mount callers [] [] s t h last = (last, tt)
+opens-more mount callers [] (y ∷ ts) s t h last = absurd h
+opens-more mount callers (x ∷ ss) [] s t h last = absurd h
+opens-more mount callers (x ∷ ss) (y ∷ ts) s t h last = (h.0, opens-more mount callers ss ts s t h.1 last)
+
+pub opens-length : (mount : Mount) (callers : ℕ) (ss : List StoreSeen) (ts : List TowerSeen) → OpensEach mount callers ss ts → length ts ≡ length ss
+opens-length mount callers [] [] h = refl
+opens-length mount callers [] (y ∷ ts) h = absurd h
+opens-length mount callers (x ∷ ss) [] h = absurd h
+opens-length mount callers (x ∷ ss) (y ∷ ts) h = ap suc (opens-length mount callers ss ts h.1)
+
+-- the store over which a tower was opened
+pub opens-at : (mount : Mount) (callers : ℕ) (ss : List StoreSeen) (ts : List TowerSeen) (k : ℕ) (s : StoreSeen) (t : TowerSeen) → OpensEach mount callers ss ts → slice_get ss k ≡ Some s → slice_get ts k ≡ Some t → Opens mount callers s t
+opens-at mount callers [] ts k s t h is at = absurd (no-item k s is)
+opens-at mount callers (x ∷ ss) [] k s t h is at = absurd h
+opens-at mount callers (x ∷ ss) (y ∷ ts) zero s t h is at = subst (λ (z : StoreSeen). Opens mount callers z t) (some-is x s is) (subst (λ (z : TowerSeen). Opens mount callers x z) (some-is y t at) h.0)
+opens-at mount callers (x ∷ ss) (y ∷ ts) (suc k) s t h is at = opens-at mount callers ss ts k s t h.1 is at
+
+pub is-none : {A : Type 0} (o : Option A) (b : Bool) → b ≡ is_some o → b ≡ false → o ≡ None
+is-none None b e f = refl
+is-none (Some x) b e f = absurd cc
+
+pub is-some : {A : Type 0} (o : Option A) (b : Bool) → b ≡ is_some o → b ≡ true → o ≡ None → ⊥
+is-some None b e t n = cc
+is-some (Some x) b e t n = cc
+
+-- which files were opened so far: all, or one was not
+abbrev pub Opening : Mount → ℕ → List StoreSeen → List TowerSeen → List StoreSeen → Option Stop → Type 0
+Opening mount callers stores towers rest None = OpensEach mount callers stores towers × (rest ≡ [])
+Opening mount callers stores towers rest (Some stop) = OpensSome mount callers stores towers rest stop
+
+-- how many stores were opened, and how many are left over
+pub opening-count : (mount : Mount) (callers : ℕ) (stores : List StoreSeen) (towers : List TowerSeen) (rest : List StoreSeen) (stopped : Option Stop) → Opening mount callers stores towers rest stopped
+    → length towers + length rest ≡ length stores
+opening-count mount callers stores towers rest None h =
+    let many = opens-length mount callers stores towers h.0 in
+    let none = ap length h.1 in
+    omega (arith, many, none)
+opening-count mount callers stores towers rest (Some stop) h =
+    let many = opens-length mount callers h.first towers h.opened in
+    let all = ap length h.all in
+    let sum = length-append h.first (h.old ∷ h.behind) in
+    let left = ap length h.left in
+    omega (arith, many, all, sum, left)
+
+-- one more was opened
+pub opening-next : (mount : Mount) (callers : ℕ) (stores : List StoreSeen) (towers : List TowerSeen) (rest : List StoreSeen) (stopped : Option Stop) (s : StoreSeen) (t : TowerSeen) → stopped ≡ None → Opening mount callers stores towers rest stopped
+    → Opens mount callers s t → Opening mount callers (stores ++ s ∷ []) (towers ++ t ∷ []) rest stopped
+opening-next mount callers stores towers rest None s t none h opens = (opens-more mount callers stores towers s t h.0 opens, h.1)
+opening-next mount callers stores towers rest (Some stop) s t none h opens = absurd cc
+
+-- one was not opened
+pub opening-stops : (mount : Mount) (callers : ℕ) (stores : List StoreSeen) (towers : List TowerSeen) (rest : List StoreSeen) (stopped : Option Stop) (old new : StoreSeen) (stop : Stop) → stopped ≡ None
+    → Opening mount callers stores towers rest stopped → new.key ≡ old.key → new.state.content ≡ old.state.content → IsUnopened mount old new stop → OpensSome mount callers (stores ++ old ∷ []) towers (rest ++ new ∷ []) stop
+opening-stops mount callers stores towers rest None old new stop none h key content cause = record {
+  first = stores;
+  old = old;
+  new = new;
+  behind = [];
+  all = refl;
+  opened = h.0;
+  left = ap (λ (r : List StoreSeen). r ++ new ∷ []) h.1;
+  key = key;
+  content = content;
+  cause = cause;
+}
+opening-stops mount callers stores towers rest (Some was) old new stop none h key content cause = absurd cc
+
+-- one more is left
+pub opening-left : (mount : Mount) (callers : ℕ) (stores : List StoreSeen) (towers : List TowerSeen) (rest : List StoreSeen) (stopped : Option Stop) (s : StoreSeen) → (stopped ≡ None → ⊥) → Opening mount callers stores towers rest stopped
+    → Opening mount callers (stores ++ s ∷ []) towers (rest ++ s ∷ []) stopped
+opening-left mount callers stores towers rest None s some h = absurd (some refl)
+opening-left mount callers stores towers rest (Some stop) s some h = record {
+  first = h.first;
+  old = h.old;
+  new = h.new;
+  behind = h.behind ++ s ∷ [];
+  all = ap (λ (o : List StoreSeen). o ++ s ∷ []) h.all ∙ append_assoc h.first (h.old ∷ h.behind) (s ∷ []);
+  opened = h.opened;
+  left = ap (λ (r : List StoreSeen). r ++ s ∷ []) h.left;
+  key = h.key;
+  content = h.content;
+  cause = h.cause;
+}
+
+pub shut-more : (keys : List StoreKey) (ts : List TowerSeen) (ss : List StoreSeen) (key : StoreKey) (t : TowerSeen) (s : StoreSeen) → slice_get keys (length ts) ≡ Some key → AreShut keys ts ss → IsShut key t s
+    → AreShut keys (ts ++ t ∷ []) (ss ++ s ∷ [])
+shut-more [] ts ss key t s is h last = absurd (no-item (length ts) key is)
+shut-more (k ∷ keys) [] [] key t s is h last = (subst (λ (x : StoreKey). IsShut x t s) (sym (some-is k key is)) last, tt)
+shut-more (k ∷ keys) [] (y ∷ ss) key t s is h last = absurd h
+shut-more (k ∷ keys) (x ∷ ts) [] key t s is h last = absurd h
+shut-more (k ∷ keys) (x ∷ ts) (y ∷ ss) key t s is h last = (h.0, shut-more keys ts ss key t s is h.1 last)
+
+pub shut-length : (keys : List StoreKey) (ts : List TowerSeen) (ss : List StoreSeen) → AreShut keys ts ss → length ss ≡ length ts
+shut-length keys [] [] h = refl
+shut-length keys [] (y ∷ ss) h = absurd h
+shut-length keys (x ∷ ts) [] h = absurd h
+shut-length [] (x ∷ ts) (y ∷ ss) h = absurd h
+shut-length (k ∷ keys) (x ∷ ts) (y ∷ ss) h = ap suc (shut-length keys ts ss h.1)
+
+-- the stores of closed towers are the first ones
+pub shut-keys : (keys : List StoreKey) (ts : List TowerSeen) (ss : List StoreSeen) → AreShut keys ts ss → keys_of ss ≡ take (length ts) keys
+shut-keys keys [] [] h = refl
+shut-keys keys [] (y ∷ ss) h = absurd h
+shut-keys keys (x ∷ ts) [] h = absurd h
+shut-keys [] (x ∷ ts) (y ∷ ss) h = absurd h
+shut-keys (k ∷ keys) (x ∷ ts) (y ∷ ss) h = ap (λ (z : StoreKey). z ∷ keys_of ss) h.0.key_is ∙ ap (λ (l : List StoreKey). k ∷ l) (shut-keys keys ts ss h.1)
+
+-- the tower that was closed
+pub shut-at : (keys : List StoreKey) (ts : List TowerSeen) (ss : List StoreSeen) (k : ℕ) (s : StoreSeen) → AreShut keys ts ss → slice_get ss k ≡ Some s → (t : TowerSeen) × (slice_get ts k ≡ Some t) × IsShut s.key t s
+shut-at keys ts [] k s h is = absurd (no-item k s is)
+shut-at keys [] (y ∷ ss) k s h is = absurd h
+shut-at [] (x ∷ ts) (y ∷ ss) k s h is = absurd h
+shut-at (key ∷ keys) (x ∷ ts) (y ∷ ss) zero s h is =
+    let here : IsShut y.key x y = subst (λ (z : StoreKey). IsShut z x y) (sym h.0.key_is) h.0 in
+    (x, refl, subst (λ (z : StoreSeen). IsShut z.key x z) (some-is y s is) here)
+shut-at (key ∷ keys) (x ∷ ts) (y ∷ ss) (suc k) s h is = shut-at keys ts ss k s h.1 is
+
+pub length-histories : (ts : List TowerSeen) → length (histories ts) ≡ length ts
+length-histories [] = refl
+length-histories (t ∷ ts) = ap suc (length-histories ts)
+
+pub histories-more : (ts : List TowerSeen) (t : TowerSeen) → histories (ts ++ t ∷ []) ≡ histories ts ++ t.log.history ∷ []
+histories-more ts t = map-append (λ (x : TowerSeen). x.log.history) ts (t ∷ [])
+
+pub number-keys : (stores : List StoreSeen) → length (keys_of stores) ≡ length stores
+number-keys [] = refl
+number-keys (s ∷ ss) = ap suc (number-keys ss)
+
+drop-first : (xs ys : List StoreKey) → drop (length xs) (xs ++ ys) ≡ ys
+drop-first [] ys = refl
+drop-first (x ∷ xs) ys = drop-first xs ys
+
+-- which stores are left over
+pub left-keys : (mount : Mount) (callers : ℕ) (keys : List StoreKey) (stores : List StoreSeen) (towers : List TowerSeen) (rest : List StoreSeen) (stop : Stop) → keys_of stores ≡ keys → OpensSome mount callers stores towers rest stop
+    → keys_of rest ≡ drop (length towers) keys
+left-keys mount callers keys stores towers rest stop is some =
+    let behind : List StoreKey = some.old.key ∷ keys_of some.behind in
+    let number : length (keys_of some.first) ≡ length towers = number-keys some.first ∙ sym (opens-length mount callers some.first towers some.opened) in
+    let all : keys_of some.first ++ behind ≡ keys = sym (map-append (λ (s : StoreSeen). s.key) some.first (some.old ∷ some.behind)) ∙ (ap keys_of (sym some.all) ∙ is) in
+    ap keys_of some.left
+    ∙ (ap (λ (k : StoreKey). k ∷ keys_of some.behind) some.key
+    ∙ (sym (drop-first (keys_of some.first) behind) ∙ (ap (λ n. drop n (keys_of some.first ++ behind)) number ∙ ap (λ (ks : List StoreKey). drop (length towers) ks) all)))
+
+-- no more files were opened than there are stores
+pub few-opened : (mount : Mount) (callers : ℕ) (keys : List StoreKey) (stores : List StoreSeen) (towers : List TowerSeen) (rest : List StoreSeen) (stop : Stop) → keys_of stores ≡ keys → OpensSome mount callers stores towers rest stop
+    → length towers ≤ length keys
+few-opened mount callers keys stores towers rest stop is some =
+    let count = opening-count mount callers stores towers rest (Some stop) some in
+    let number = number-keys stores in
+    let same = ap length is in
+    omega (arith, count, number, same)
+
+take-and-drop : (n : ℕ) (xs : List StoreKey) → take n xs ++ drop n xs ≡ xs
+take-and-drop zero xs = refl
+take-and-drop (suc n) [] = refl
+take-and-drop (suc n) (x ∷ xs) = ap (λ (l : List StoreKey). x ∷ l) (take-and-drop n xs)
+
+-- the stores of the closed files and those that are left over are all stores
+pub all-keys : (keys : List StoreKey) (towers : List TowerSeen) (closed rest : List StoreSeen) → AreShut keys towers closed → keys_of rest ≡ drop (length towers) keys → keys_of (closed ++ rest) ≡ keys
+all-keys keys towers closed rest shut left =
+    map-append (λ (s : StoreSeen). s.key) closed rest
+    ∙ (ap (λ (ks : List StoreKey). ks ++ keys_of rest) (shut-keys keys towers closed shut)
+    ∙ (ap (λ (ks : List StoreKey). take (length towers) keys ++ ks) left ∙ take-and-drop (length towers) keys))

@@ -1,0 +1,5 @@
+pub mod EndedLaws
+pub mod HeldLaws
+pub mod PlayLaws
+pub mod StopLaws
+pub mod RunLaws

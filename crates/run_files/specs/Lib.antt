@@ -1,0 +1,6 @@
+pub mod Ended
+pub mod Held
+pub mod Play
+pub mod Room
+pub mod Run
+pub mod Told

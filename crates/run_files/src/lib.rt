@@ -1,0 +1,14 @@
+//! A run of a script over the files of a stack: their stores are taken, opened, run over and given back, and the report is
+//! written.
+#![tactic(auto)]
+
+mod ended;
+mod held;
+mod play;
+mod room;
+mod run;
+
+pub use run::run_files;
+
+#[cfg(test)]
+mod tests;

@@ -1,0 +1,6 @@
+use Rattle.std.proofs.lemmas.Result.{err_from_is_err_and}
+use Rattle.run_texts.proofs.texts.accept_script.Goals as goal
+
+pub returns-in_err-script-clause-err : goal.returns-in_err-script-clause-err
+returns-in_err-script-clause-err c =
+    let p = err_from_is_err_and c.from_residual.result c.from_residual.ensures.1 in rw (p.1, p.2) (c.in_err-script.ensures.err c.args.mount.now)

@@ -1,0 +1,43 @@
+-- What a text asks for that the program does not make yet.
+use Rattle.std.specs.Prelude.{ℕ, ◌+◌, List, [], ◌∷◌, not, find, position, Bool, true, false, Option, None}
+use Rattle.std.specs.Option.{option_map, option_or}
+use Rattle.stack_text.specs.declared.stack.StackLine.{StackLine}
+use Rattle.stack_text.specs.declared.stack.StackLine.TheVariants.{Page, File, Disk, Mirror, Coherency, Dfs, Vmm}
+use Rattle.script_text.specs.declared.script.Call.{Call}
+use Rattle.script_text.specs.declared.script.Call.TheVariants.{Open, Read, Write, Clear, Sync}
+use Rattle.script_text.specs.declared.script.CallLine.{CallLine}
+
+-- a mirror, a distributed layer or a memory manager
+abbrev pub is_later : StackLine → Bool
+is_later (Page size) = false
+is_later (File name pages) = false
+is_later (Disk name machine) = false
+is_later (Mirror name machine left right) = true
+is_later (Coherency name machine below) = false
+is_later (Dfs name machine below) = true
+is_later (Vmm name machine below frames) = true
+
+-- the number of the first such line, from 1
+abbrev pub later_line : List StackLine → Option ℕ
+later_line lines = option_map (λ place. place + 1) (position (λ line. is_later line) lines)
+
+abbrev pub has_part : List (List ℕ) → Bool
+has_part [] = false
+has_part (part ∷ parts) = true
+
+-- a call that the program makes
+abbrev pub is_built : Call → Bool
+is_built (Open name path) = has_part path
+is_built (Read name page off len) = true
+is_built (Write name page off bytes) = true
+is_built (Clear name page) = true
+is_built (Sync name) = true
+is_built call = false
+
+-- the first line of a call that the program does not make
+abbrev pub later_in : List CallLine → Option CallLine
+later_in phase = find (λ l. not (is_built l.call)) phase
+
+abbrev pub later_call : List (List CallLine) → Option CallLine
+later_call [] = None
+later_call (phase ∷ phases) = option_or (later_in phase) (later_call phases)

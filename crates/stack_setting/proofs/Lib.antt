@@ -1,5 +1,0 @@
-pub mod Names
-pub mod OneDisk
-pub mod Upper
-pub mod DiskNames
-pub mod BuiltLaws
