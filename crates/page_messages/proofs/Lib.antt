@@ -1,0 +1,5 @@
+pub mod NodeSets
+pub mod KindLaws
+pub mod KeptLaws
+pub mod LetterLaws
+pub mod MeantLaws

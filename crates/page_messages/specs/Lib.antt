@@ -1,0 +1,13 @@
+pub mod Rules
+pub mod Rights
+pub mod Kinds
+pub mod Letters
+pub mod Paged
+pub mod Sealed
+pub mod Carried
+pub mod Masks
+pub mod Kids
+pub mod Kept
+pub mod Slot
+pub mod After
+pub mod Message

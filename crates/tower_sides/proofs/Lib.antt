@@ -1,0 +1,3 @@
+pub mod HandOvers
+pub mod StepLaws
+pub mod TrailLaws

@@ -1,0 +1,4 @@
+pub mod Side
+pub mod Shown
+pub mod Sent
+pub mod Tables
