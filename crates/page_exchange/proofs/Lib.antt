@@ -1,0 +1,7 @@
+pub mod Frames
+pub mod Rooms
+pub mod Exchanges
+pub mod Grounds
+pub mod Allowed
+pub mod Moved
+pub mod Telling

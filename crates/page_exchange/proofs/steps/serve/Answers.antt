@@ -1,0 +1,5 @@
+use Rattle.page_exchange.proofs.Rooms.{answer_room}
+use Rattle.page_exchange.proofs.steps.serve.Goals as goal
+
+pub returns-clause-room : goal.returns-clause-room
+returns-clause-room c = answer_room c.args.ops.now c.args.node.now c.args.child c.args.frame.now c.args.buf.now c.clear.new.self c.serve_pager.new.buf c.requires.allowed c.requires.room c.clear.ensures.bytes c.clear.ensures.spare c.in-Ok.ensures.answered

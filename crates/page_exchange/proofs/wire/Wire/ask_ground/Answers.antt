@@ -1,0 +1,40 @@
+use Rattle.std.proofs.Common.{◌∙◌, sym}
+use Rattle.page_exchange.proofs.Exchanges.{on-err}
+use Rattle.page_exchange.proofs.Grounds as grounds
+use Rattle.page_exchange.proofs.wire.Wire.ask_ground.Goals as goal
+
+pub write_for-requires-clause-size : goal.write_for-requires-clause-size
+write_for-requires-clause-size g c κs within =
+    λ full. grounds.asked_sized c.args.self.now.ops c.args.own.now c.args.page c.args.what c.ask.new.buf.bytes c.sent-question.result c.requires.may c.ask.ensures.sent c.sent-question.ensures full ∙ sym c.requires.under.size ∙ sym (grounds.once_size _ _ c.in_ok-read_for.ensures.call)
+
+pub returns-in_err-write_for-clause-call : goal.returns-in_err-write_for-clause-call
+returns-in_err-write_for-clause-call g c =
+    grounds.asked_once c.args.self.now.ops c.args.own.now c.args.page c.args.what c.ask.new.buf.bytes c.sent-question.result c.requires.may c.ask.ensures.sent c.sent-question.ensures _ _ _ c.in_ok-read_for.ensures.call c.in_ok-read_for.ensures.idle c.in_err-write_for.ensures.call c.in_err-write_for.ensures.idle
+
+pub take-requires-clause-allowed : goal.take-requires-clause-allowed
+take-requires-clause-allowed g c =
+    grounds.ground_taken c.args.self.now.ops c.args.own.now c.args.page c.args.what c.ask.new.buf.bytes c.sent-question.result c.requires.may c.ask.ensures.sent c.sent-question.ensures c.read_for.new.scratch c.answer_of_ground.new.buf.bytes c.sent-answer.result c.answer_of_ground.ensures.sent c.sent-answer.ensures
+
+pub returns-in_err-take-clause-why : goal.returns-in_err-take-clause-why
+returns-in_err-take-clause-why g c =
+    grounds.memory_why c.from_residual-in_err-take.result _ _ c.args.own.now c.args.page c.from_residual-in_err-take.ensures.1 (grounds.ground_lacks c.args.self.now.ops c.args.own.now c.args.page c.args.what c.ask.new.buf.bytes c.sent-question.result c.requires.may c.ask.ensures.sent c.sent-question.ensures c.read_for.new.scratch c.answer_of_ground.new.buf.bytes c.sent-answer.result c.answer_of_ground.ensures.sent c.sent-answer.ensures c.in_err-take.ensures.memory)
+
+pub returns-in_err-take-clause-ground_left : goal.returns-in_err-take-clause-ground_left
+returns-in_err-take-clause-ground_left g c =
+    on-err c.from_residual-in_err-take.result _ (grounds.ground_same c.args.self.now.ops c.args.own.now c.args.page c.args.what c.ask.new.buf.bytes c.sent-question.result c.requires.may c.ask.ensures.sent c.sent-question.ensures c.read_for.new.scratch c.answer_of_ground.new.buf.bytes c.sent-answer.result c.answer_of_ground.ensures.sent c.sent-answer.ensures _ _ _ c.in_ok-read_for.ensures.pages c.in_ok-write_for.ensures.ok c.in_err-take.ensures.memory)
+
+pub returns-in_err-take-clause-call : goal.returns-in_err-take-clause-call
+returns-in_err-take-clause-call g c =
+    grounds.asked_once c.args.self.now.ops c.args.own.now c.args.page c.args.what c.ask.new.buf.bytes c.sent-question.result c.requires.may c.ask.ensures.sent c.sent-question.ensures _ _ _ c.in_ok-read_for.ensures.call c.in_ok-read_for.ensures.idle c.in_ok-write_for.ensures.call c.in_ok-write_for.ensures.idle
+
+pub returns-clause-own : goal.returns-clause-own
+returns-clause-own g c =
+    grounds.ground_answered c.args.self.now.ops c.args.own.now c.args.page c.args.what c.ask.new.buf.bytes c.sent-question.result c.requires.may c.ask.ensures.sent c.sent-question.ensures c.read_for.new.scratch c.answer_of_ground.new.buf.bytes c.sent-answer.result c.answer_of_ground.ensures.sent c.sent-answer.ensures _ c.take.new.node c.in_ok-read_for.ensures.size c.in_ok-read_for.ensures.ok c.in_ok-take.ensures.ok
+
+pub returns-clause-ground : goal.returns-clause-ground
+returns-clause-ground g c =
+    grounds.asked_given c.args.self.now.ops c.args.own.now c.args.page c.args.what c.ask.new.buf.bytes c.sent-question.result c.requires.may c.ask.ensures.sent c.sent-question.ensures _ _ _ c.in_ok-read_for.ensures.pages c.in_ok-write_for.ensures.ok
+
+pub returns-clause-call : goal.returns-clause-call
+returns-clause-call g c =
+    grounds.asked_once c.args.self.now.ops c.args.own.now c.args.page c.args.what c.ask.new.buf.bytes c.sent-question.result c.requires.may c.ask.ensures.sent c.sent-question.ensures _ _ _ c.in_ok-read_for.ensures.call c.in_ok-read_for.ensures.idle c.in_ok-write_for.ensures.call c.in_ok-write_for.ensures.idle

@@ -1,0 +1,30 @@
+use Rattle.page_exchange.proofs.Exchanges as exchange
+use Rattle.page_exchange.proofs.wire.Wire.call_below.Goals as goal
+
+pub obey-requires-clause-allowed : goal.obey-requires-clause-allowed
+obey-requires-clause-allowed c =
+    exchange.obeyed c.args.self.now.ops c.args.own.now c.args.above.now c.args.node c.args.page c.args.what c.call.new.buf.bytes c.sent-order.result c.requires.pair c.requires.may c.requires.obeys c.call.ensures.sent c.sent-order.ensures
+
+pub sent-reply-requires : goal.sent-reply-requires
+sent-reply-requires c =
+    (_, exchange.reply_sent c.args.self.now.ops c.args.own.now c.args.above.now c.args.node c.args.page c.args.what c.call.new.buf.bytes c.sent-order.result c.requires.pair c.requires.may c.requires.obeys c.call.ensures.sent c.sent-order.ensures c.obey.new.buf.bytes c.obey.ensures.sent)
+
+pub take-requires-clause-allowed : goal.take-requires-clause-allowed
+take-requires-clause-allowed c =
+    exchange.hears c.args.self.now.ops c.args.own.now c.args.above.now c.args.node c.args.page c.args.what c.call.new.buf.bytes c.sent-order.result c.requires.pair c.requires.may c.requires.obeys c.call.ensures.sent c.sent-order.ensures c.obey.new.buf.bytes c.obey.ensures.sent c.sent-reply.result c.sent-reply.ensures
+
+pub unreachable-requires : goal.unreachable-requires
+unreachable-requires c =
+    exchange.has_copy c.args.self.now.ops c.args.own.now c.args.above.now c.args.node c.args.page c.args.what c.call.new.buf.bytes c.sent-order.result c.requires.pair c.requires.may c.requires.obeys c.call.ensures.sent c.sent-order.ensures c.obey.new.buf.bytes c.obey.ensures.sent c.sent-reply.result c.sent-reply.ensures c.in-Err.ensures.memory
+
+pub finish-requires-clause-allowed : goal.finish-requires-clause-allowed
+finish-requires-clause-allowed c =
+    exchange.obeyed c.args.self.now.ops c.args.own.now c.args.above.now c.args.node c.args.page c.args.what c.call.new.buf.bytes c.sent-order.result c.requires.pair c.requires.may c.requires.obeys c.call.ensures.sent c.sent-order.ensures
+
+pub returns-clause-own : goal.returns-clause-own
+returns-clause-own c =
+    exchange.obeyer_made c.args.self.now.ops c.args.own.now c.args.above.now c.args.node c.args.page c.args.what c.call.new.buf.bytes c.sent-order.result c.requires.pair c.requires.may c.requires.obeys c.call.ensures.sent c.sent-order.ensures c.finish.new.self c.finish.ensures
+
+pub returns-clause-above : goal.returns-clause-above
+returns-clause-above c =
+    exchange.caller_made c.args.self.now.ops c.args.own.now c.args.above.now c.args.node c.args.page c.args.what c.call.new.buf.bytes c.sent-order.result c.requires.pair c.requires.may c.requires.obeys c.call.ensures.sent c.sent-order.ensures c.obey.new.buf.bytes c.obey.ensures.sent c.sent-reply.result c.sent-reply.ensures c.take.new.node c.in-Ok.ensures.ok

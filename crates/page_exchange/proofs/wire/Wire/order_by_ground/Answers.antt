@@ -1,0 +1,27 @@
+use Rattle.std.proofs.Common.{◌∙◌, sym}
+use Rattle.page_exchange.proofs.Grounds as grounds
+use Rattle.page_exchange.proofs.wire.Wire.order_by_ground.Goals as goal
+
+pub obey-requires-clause-allowed : goal.obey-requires-clause-allowed
+obey-requires-clause-allowed g c =
+    grounds.ground_obeyed c.args.self.now.ops c.args.own.now c.args.page c.args.what c.order_of_ground.new.buf.bytes c.sent-order.result c.requires.page c.requires.obeys c.order_of_ground.ensures.sent c.sent-order.ensures
+
+pub sent-reply-requires : goal.sent-reply-requires
+sent-reply-requires g c =
+    (_, grounds.ground_reply c.args.self.now.ops c.args.own.now c.args.page c.args.what c.order_of_ground.new.buf.bytes c.sent-order.result c.requires.page c.requires.obeys c.order_of_ground.ensures.sent c.sent-order.ensures c.obey.new.buf.bytes c.obey.ensures.sent)
+
+pub write_for-requires-clause-size : goal.write_for-requires-clause-size
+write_for-requires-clause-size g c κs within =
+    λ full. grounds.reply_is_page c.args.self.now.ops c.args.own.now c.args.page c.args.what c.order_of_ground.new.buf.bytes c.sent-order.result c.requires.page c.requires.obeys c.order_of_ground.ensures.sent c.sent-order.ensures c.obey.new.buf.bytes c.obey.ensures.sent c.sent-reply.result c.sent-reply.ensures full ∙ sym c.requires.under.size
+
+pub finish-requires-clause-allowed : goal.finish-requires-clause-allowed
+finish-requires-clause-allowed g c =
+    grounds.ground_obeyed c.args.self.now.ops c.args.own.now c.args.page c.args.what c.order_of_ground.new.buf.bytes c.sent-order.result c.requires.page c.requires.obeys c.order_of_ground.ensures.sent c.sent-order.ensures
+
+pub returns-clause-own : goal.returns-clause-own
+returns-clause-own g c =
+    grounds.ordered_made c.args.self.now.ops c.args.own.now c.args.page c.args.what c.order_of_ground.new.buf.bytes c.sent-order.result c.requires.page c.requires.obeys c.order_of_ground.ensures.sent c.sent-order.ensures c.finish.new.self c.finish.ensures
+
+pub returns-clause-ground : goal.returns-clause-ground
+returns-clause-ground g c =
+    grounds.reply_given c.args.self.now.ops c.args.own.now c.args.page c.args.what c.order_of_ground.new.buf.bytes c.sent-order.result c.requires.page c.requires.obeys c.order_of_ground.ensures.sent c.sent-order.ensures c.obey.new.buf.bytes c.obey.ensures.sent c.sent-reply.result c.sent-reply.ensures _ _ c.in_ok-write_for.ensures.ok

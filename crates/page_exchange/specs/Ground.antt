@@ -1,0 +1,51 @@
+-- An exchange of a node and the ground, which has no table, and what it makes of the ground's pages.
+use Rattle.std.specs.Prelude.{◌≡◌, ◌⊎◌, ◌<◌, ℕ, List, length, slice_get, Option, Some, None, IfSome}
+use Rattle.tower_core.specs.declared.right.Right.{Right}
+use Rattle.tower_core.specs.Column.{updated}
+use Rattle.tower_sides.specs.Side.{brought}
+use Rattle.disk_layer.specs.Seen.{Seen, IsFault, Keeps, ReadsPage, with_page}
+use Rattle.page_messages.specs.declared.kinds.Asked.{Asked}
+use Rattle.page_messages.specs.Carried.{asked_down}
+use Rattle.page_messages.specs.Rights.{IsForPage, asked_right}
+use Rattle.coherency_layer.specs.declared.node.Node.{Node}
+use Rattle.coherency_layer.specs.Node.{file_of, side, about_asked}
+use Rattle.page_exchange.specs.declared.ground.GroundErr.{GroundErr}
+use Rattle.page_exchange.specs.declared.ground.GroundErr.TheVariants as errors
+use Rattle.page_exchange.specs.Exchange.{IsOwnChange, LacksCopy}
+
+-- the ground has the pages of the node's file
+pub record IsUnder (ground : Seen) (node : Node) : Type 0 where
+  pub size : ground.page_size ≡ (file_of node).page_size
+  pub number : ground.number ≡ (file_of node).pages
+
+-- the pages after bytes came up about one of them, or none
+abbrev pub pages_given : ℕ → Option (List ℕ) → Option (List (List ℕ)) → Option (List (List ℕ))
+pages_given page None pages = pages
+pages_given page (Some bytes) pages = with_page page bytes pages
+
+-- where the ground tells its pages, they are these
+abbrev pub Tells : Option (List (List ℕ)) → (ℕ → List ℕ) → Type 0
+Tells pages base = IfSome pages (λ ps. (page : ℕ) → page < length ps → slice_get ps page ≡ Some (base page))
+
+-- the pages after these bytes came up about one of them, or none
+abbrev pub base_given : ℕ → Option (List ℕ) → (ℕ → List ℕ) → ℕ → List ℕ
+base_given page up base = updated base page (brought up (base page))
+
+-- the ground was not called, or by one call
+abbrev pub IsOneCall : Seen → Seen → Type 0
+IsOneCall before after = (after ≡ before) ⊎ Keeps before after
+
+-- a node that has nothing of a page, and asks for it, gets the ground's bytes
+abbrev pub IsOfGround : Option (List (List ℕ)) → Node → Asked → ℕ → List ℕ → Type 0
+IsOfGround pages node what page bytes = IsForPage what → (side node page).right ≡ Right.Nothing → ReadsPage pages page bytes
+
+-- the node's own table after the ground's answer, where the page has these bytes
+pub record IsAnswered (pages : Option (List (List ℕ))) (old new : Node) (what : Asked) (page : ℕ) : Type 0 where
+  pub bytes : List ℕ
+  pub read : IsOfGround pages old what page bytes
+  pub change : IsOwnChange old new (about_asked what page) (asked_right what) (asked_down (side old page).right bytes what)
+
+-- when each error comes
+abbrev pub IsWhy : Seen → Seen → Node → ℕ → GroundErr → Type 0
+IsWhy before after node page (errors.Store fault) = IsFault before after fault
+IsWhy before after node page errors.Memory = LacksCopy node page

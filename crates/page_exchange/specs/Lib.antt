@@ -1,0 +1,5 @@
+pub mod Exchange
+pub mod Wire
+pub mod Ground
+pub mod Allowed
+pub mod Moved

@@ -1,0 +1,157 @@
+//! An exchange of a node and the ground.
+
+ghost use Rattle.std.specs.Prelude.{◌≡◌, ◌<◌, ◌≢◌, Some, None, OnOk, OnErr, IfErr, true, length};
+ghost use Rattle.disk_layer.specs.Seen.{IsFault, ReadsPage};
+ghost use Rattle.pager_channel.specs.Flags.{has_data};
+ghost use Rattle.page_messages.specs.Carried.{asked_down, asked_up, called_up};
+ghost use Rattle.page_messages.specs.Kinds.{bytes_up};
+ghost use Rattle.page_messages.specs.Rights.{IsForPage, asked_right, called_right};
+ghost use Rattle.page_messages.specs.Rules.{MayObey};
+ghost use Rattle.coherency_layer.specs.Node.{file_of, side, OnPages, about_called, MayAskAbout, IsLeft};
+ghost use Rattle.page_exchange.specs.Exchange.{IsOwnChange};
+ghost use Rattle.page_exchange.specs.Ground.{IsUnder, pages_given, IsOneCall, IsOfGround, IsAnswered, IsWhy};
+
+use crate::steps::{answer_of_ground, ask, obey, order_of_ground, sent, take};
+use crate::wire::Wire;
+use coherency_layer::{Asked, Called, Node};
+use disk_layer::{Ground, StoreFault};
+use pager_channel::Frame;
+use std::alloc::AllocError;
+use thiserror::Error;
+use tower_core::Right;
+
+/// Why a node was not answered by the ground. Its table and the ground's pages are as before.
+#[derive(Clone, Copy, Debug, PartialEq, Eq, Error)]
+pub enum GroundErr {
+    /// Every live disk failed.
+    #[error(transparent)]
+    Store(StoreFault),
+    /// Memory ran out.
+    #[error("out of memory")]
+    Memory,
+}
+
+impl From<StoreFault> for GroundErr {
+    ghost use Rattle.page_exchange.specs.declared.ground.GroundErr.TheVariants.{Store};
+
+    ghost from_gives = { λ fault e. e ≡ Store fault };
+
+    fn from(fault: StoreFault) -> GroundErr {
+        GroundErr::Store(fault)
+    }
+}
+
+impl From<AllocError> for GroundErr {
+    ghost use Rattle.page_exchange.specs.declared.ground.GroundErr.TheVariants.{Memory};
+
+    ghost from_gives = { λ _ e. e ≡ Memory };
+
+    fn from(_: AllocError) -> GroundErr {
+        GroundErr::Memory
+    }
+}
+
+/// Reads the page, where the node has nothing of it and asks for it.
+fn read_for<G: Ground>(
+    ground: &mut G,
+    node: &Node,
+    what: Asked,
+    page: u32,
+    scratch: &mut [u8],
+) -> Result<(), StoreFault>
+    requires under { IsUnder (G.seen ground.old) node.now }
+    requires page { page < (file_of node.now).pages }
+    requires scratch { length scratch.old ≡ (file_of node.now).page_size }
+    ensures ok { OnOk result (IsOfGround (G.seen ground.old).pages node.now what page scratch.new) }
+    ensures size { length scratch.new ≡ (file_of node.now).page_size }
+    ensures pages { (G.seen ground.new).pages ≡ (G.seen ground.old).pages }
+    ensures call { IsOneCall (G.seen ground.old) (G.seen ground.new) }
+    ensures fault { IfErr result (IsFault (G.seen ground.old) (G.seen ground.new)) }
+    ensures idle { (IsForPage what → ⊥) → G.seen ground.new ≡ G.seen ground.old }
+{
+    let for_page = matches!(what, Asked::PageInRead | Asked::PageInWrite);
+    if for_page && node.right(page) == Right::Nothing {
+        ground.read(page, scratch)
+    } else {
+        Ok(())
+    }
+}
+
+/// Writes the page, where a frame brings it.
+fn write_for<G: Ground>(ground: &mut G, frame: &Frame<'_>, page: u32) -> Result<(), StoreFault>
+    requires page { page < (G.seen ground.old).number }
+    requires size { has_data frame.now.head.flags ≡ true → frame.now.head.size ≡ (G.seen ground.old).page_size }
+    ensures ok { OnOk result ((G.seen ground.new).pages ≡ pages_given page (bytes_up frame.now) (G.seen ground.old).pages) }
+    ensures err { OnErr result ((G.seen ground.new).pages ≡ (G.seen ground.old).pages) }
+    ensures call { IsOneCall (G.seen ground.old) (G.seen ground.new) }
+    ensures fault { IfErr result (IsFault (G.seen ground.old) (G.seen ground.new)) }
+    ensures idle { bytes_up frame.now ≡ None → G.seen ground.new ≡ G.seen ground.old }
+{
+    match frame.data() {
+        None => Ok(()),
+        Some(bytes) => ground.write(page, bytes),
+    }
+}
+
+impl Wire {
+    /// A node whose parent is the ground asks, and takes the answer. The ground is read before it answers a node that has
+    /// nothing of the page, and it is written once both frames were read. `scratch` has room for a page. An error leaves
+    /// the node's table and the ground's pages; memory may lack only for a page of which the node has nothing and kept no
+    /// copy.
+    pub fn ask_ground<G: Ground>(
+        &mut self,
+        own: &mut Node,
+        ground: &mut G,
+        what: Asked,
+        page: u32,
+        scratch: &mut [u8],
+    ) -> Result<(), GroundErr>
+        requires under { IsUnder (G.seen ground.old) own.old }
+        requires may { MayAskAbout own.old what page }
+        requires scratch { length scratch.old ≡ (file_of own.old).page_size }
+        ensures own { OnOk result (IsAnswered (G.seen ground.old).pages own.old own.new what page) }
+        ensures ground { OnOk result ((G.seen ground.new).pages ≡ pages_given page (asked_up (side own.old page) what) (G.seen ground.old).pages) }
+        ensures why { IfErr result (IsWhy (G.seen ground.old) (G.seen ground.new) own.old page) }
+        ensures own_left { OnErr result (IsLeft own.old own.new) }
+        ensures ground_left { OnErr result ((G.seen ground.new).pages ≡ (G.seen ground.old).pages) }
+        ensures call { IsOneCall (G.seen ground.old) (G.seen ground.new) }
+        ensures scratch { length scratch.new ≡ length scratch.old }
+    {
+        ask(own, &self.ops, what, page, &mut self.first);
+        let question = sent(&self.ops, &self.first);
+        read_for(ground, own, what, page, scratch)?;
+        answer_of_ground(own, &self.ops, what, page, scratch, &mut self.second);
+        let answer = sent(&self.ops, &self.second);
+        write_for(ground, &question, page)?;
+        take(own, None, &answer)?;
+        Ok(())
+    }
+
+    /// The ground orders a node whose parent it is, and takes its answer; it is written once both frames were read. An
+    /// error leaves the node's table and the ground's pages.
+    pub fn order_by_ground<G: Ground>(
+        &mut self,
+        own: &mut Node,
+        ground: &mut G,
+        what: Called,
+        page: u32,
+    ) -> Result<(), StoreFault>
+        requires under { IsUnder (G.seen ground.old) own.old }
+        requires page { page < (file_of own.old).pages }
+        requires obeys { OnPages own.old (about_called what page) (λ s. MayObey s what) }
+        ensures own { OnOk result (IsOwnChange own.old own.new (about_called what page) (called_right what) None) }
+        ensures ground { OnOk result ((G.seen ground.new).pages ≡ pages_given page (called_up (side own.old page) what) (G.seen ground.old).pages) }
+        ensures fault { IfErr result (IsFault (G.seen ground.old) (G.seen ground.new)) }
+        ensures own_left { OnErr result (IsLeft own.old own.new) }
+        ensures ground_left { OnErr result ((G.seen ground.new).pages ≡ (G.seen ground.old).pages) }
+        ensures call { IsOneCall (G.seen ground.old) (G.seen ground.new) }
+    {
+        order_of_ground(own, &self.ops, what, page, &mut self.first);
+        let order = sent(&self.ops, &self.first);
+        obey(own, &self.ops, &order, &mut self.second);
+        let reply = sent(&self.ops, &self.second);
+        write_for(ground, &reply, page)?;
+        own.finish(None, &order);
+        Ok(())
+    }
+}

@@ -1,0 +1,17 @@
+//! A message about a page and its answer: between a node and its parent, and between a node and the ground.
+#![tactic(auto)]
+
+mod between;
+mod ground;
+mod law;
+mod steps;
+mod wire;
+
+pub use ground::GroundErr;
+pub use law::{
+    exchange_is_of_two_tables, ground_tells_its_pages, tables_allow_what_the_trail_does,
+};
+pub use wire::Wire;
+
+#[cfg(test)]
+mod tests;

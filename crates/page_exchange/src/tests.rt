@@ -1,0 +1,134 @@
+//! Exchanges about page 0 of a file of two pages of 64 bytes, as the rules of the messages have them.
+
+ghost use Rattle.std.specs.Prelude.{◌≡◌, IsTrue};
+ghost use Rattle.disk_format.specs.Shape.{IsShape};
+ghost use Rattle.disk_layer.specs.Disk.{seen_of};
+ghost use Rattle.coherency_layer.specs.Node.{file_of};
+ghost use Rattle.page_exchange.specs.Ground.{IsUnder};
+
+use super::*;
+use coherency_layer::{Asked, Called, Node};
+use disk_format::ImageShape;
+use disk_layer::{Disk, Ground, StoreFault};
+use pager_channel::Ops;
+use spr_io::{MemStore, Store};
+use std::alloc::{AllocError, Global};
+use std::test::Fail;
+use tower_core::Right;
+
+/// The numbers of an interface text that declares the operations in this order.
+fn numbers() -> Ops {
+    Ops::new([0, 1, 2, 3, 4], [0, 1, 2, 3, 4, 5], [2, 3, 4, 5, 6, 0, 1])
+}
+
+/// Two pages of 64 bytes, and so four blocks.
+fn small() -> ImageShape
+    ensures shape { result ≡ record { page_size = 64; pages = 2 } }
+    ensures within { IsShape result }
+{
+    ImageShape {
+        page_size: 64,
+        pages: 2,
+    }
+}
+
+/// A disk of a fresh image, whose store fails at one write. The image takes the first two writes.
+fn disk(alloc: Global, fails_at: u64) -> Result<Option<Disk<MemStore>>, AllocError> {
+    let store = MemStore::new(alloc, 64, 4, &[], &[fails_at], &[])?;
+    Ok(Disk::format(alloc, store, 7, &small()).ok())
+}
+
+/// The first bytes of page 0 on the disk.
+fn on_disk(disk: &mut Disk<MemStore>) -> Option<[u8; 2]> {
+    let shape = disk.shape();
+    let mut page = [0u8; 64];
+    if shape.page_size != 64 || shape.pages != 2 || disk.read(0, &mut page).is_err() {
+        return None;
+    }
+    Some([page[0], page[1]])
+}
+
+/// The rights and the bytes of page 0 at a node.
+fn at(node: &Node) -> Option<(Right, [u8; 2])> {
+    let file = node.file();
+    if file.pages != 2 || file.page_size != 64 || !node.may_read(0) {
+        return None;
+    }
+    let bytes = node.lend(0, 0, 2);
+    Some((node.right(0), [bytes[0], bytes[1]]))
+}
+
+/// Whether the disk has the pages of the node's file, two of 64 bytes.
+fn is_under(disk: &Disk<MemStore>, node: &Node) -> bool
+    ensures under { IsTrue result → IsUnder (seen_of disk.now) node.now }
+    ensures size { IsTrue result → (file_of node.now).page_size ≡ 64 }
+    ensures pages { IsTrue result → (file_of node.now).pages ≡ 2 }
+{
+    let shape = disk.shape();
+    let file = node.file();
+    shape.page_size == 64 && shape.pages == 2 && file.page_size == 64 && file.pages == 2
+}
+
+#[test]
+fn a_page_goes_down_and_comes_back(rt: HostRuntime) -> Result<(), Fail> {
+    let mut wire = Wire::new(rt.alloc(), numbers())?;
+    let mut own = Node::new(rt.alloc(), 64, 2, &[], 0)?;
+    let mut above = Node::new(rt.alloc(), 64, 2, &[2], 0)?;
+    let Some(mut ground) = disk(rt.alloc(), 0)? else {
+        return Err(Fail::from(GroundErr::Memory));
+    };
+    let mut scratch = [0u8; 64];
+    assert!(rt; is_under(&ground, &above));
+    assert!(rt; above.right(0) == Right::Nothing);
+    wire.ask_ground(&mut above, &mut ground, Asked::PageInWrite, 0, &mut scratch)?;
+    // The child asks, and its parent serves it.
+    assert!(rt; own.file() == above.file());
+    assert!(rt; above.has_child(2));
+    assert!(rt; above.may_write(0));
+    assert!(rt; own.right(0) == Right::Nothing);
+    wire.ask_above(&mut own, &mut above, 2, Asked::PageInWrite, 0)?;
+    assert_eq!(rt; at(&own), Some((Right::Write, [0, 0])));
+    assert_eq!(rt; at(&above), None);
+    assert!(rt; own.may_write(0));
+    own.change(0, 0, b"ab");
+    // The parent orders, and the child obeys.
+    assert!(rt; own.file() == above.file());
+    assert!(rt; above.has_child(2));
+    assert!(rt; above.child_right(0, 2) == Right::Write);
+    assert!(rt; own.may_write(0));
+    wire.call_below(&mut own, &mut above, 2, Called::DenyWrites, 0);
+    assert_eq!(rt; at(&own), Some((Right::Read, *b"ab")));
+    assert_eq!(rt; at(&above), Some((Right::Write, *b"ab")));
+    Ok(())
+}
+
+#[test]
+fn a_refusal_leaves_both(rt: HostRuntime) -> Result<(), Fail> {
+    let mut wire = Wire::new(rt.alloc(), numbers())?;
+    let mut node = Node::new(rt.alloc(), 64, 2, &[], 0)?;
+    let Some(mut ground) = disk(rt.alloc(), 3)? else {
+        return Err(Fail::from(GroundErr::Memory));
+    };
+    let mut scratch = [0u8; 64];
+    assert!(rt; is_under(&ground, &node));
+    assert!(rt; node.right(0) == Right::Nothing);
+    wire.ask_ground(&mut node, &mut ground, Asked::PageInWrite, 0, &mut scratch)?;
+    assert!(rt; is_under(&ground, &node));
+    assert!(rt; node.may_write(0));
+    node.change(0, 0, b"cd");
+    // The third write of the store fails.
+    assert!(rt; is_under(&ground, &node));
+    assert!(rt; node.right(0) == Right::Write);
+    let refused = wire.ask_ground(&mut node, &mut ground, Asked::Sync, 0, &mut scratch);
+    let fault = StoreFault { disk: 7, count: 1 };
+    assert_eq!(rt; refused, Err(GroundErr::Store(fault)));
+    assert_eq!(rt; at(&node), Some((Right::Write, *b"cd")));
+    assert_eq!(rt; on_disk(&mut ground), Some([0, 0]));
+    // The page is still changed, so an order of the ground takes it.
+    assert!(rt; is_under(&ground, &node));
+    assert!(rt; node.may_write(0));
+    wire.order_by_ground(&mut node, &mut ground, Called::DenyWrites, 0)?;
+    assert_eq!(rt; at(&node), Some((Right::Read, *b"cd")));
+    assert_eq!(rt; on_disk(&mut ground), Some(*b"cd"));
+    Ok(())
+}
