@@ -25,7 +25,7 @@ use Rattle.coherency_layer.specs.Node.{side, OnPages, about_asked, about_called,
 use Rattle.page_exchange.specs.declared.ground.GroundErr.{GroundErr}
 use Rattle.page_exchange.specs.declared.ground.GroundErr.TheVariants as errors
 use Rattle.page_exchange.specs.Exchange.{IsOwnChange, LacksCopy}
-use Rattle.page_exchange.specs.Ground.{IsOneCall, IsOfGround, IsAnswered, IsWhy, pages_given}
+use Rattle.page_exchange.specs.Ground.{IsOneCall, IsCalmCall, IsOfGround, IsAnswered, IsWhy, UnlessFault, pages_given}
 use Rattle.page_exchange.specs.Wire.{AreSent}
 use Rattle.page_exchange.proofs.Exchanges.{Reads}
 use Rattle.page_exchange.proofs.Frames as frames
@@ -75,6 +75,10 @@ pub memory_why : {A : Type 0} (r : Result A GroundErr) (before after : Seen) (ow
 memory_why (Ok x) before after own page is h = tt
 memory_why (Err e) before after own page is h = subst (IsWhy before after own page) (sym is) h
 
+pub unless_memory : {A : Type 0} (r : Result A GroundErr) (P : Type 0) → IsErrAnd r (λ e. e ≡ errors.Memory) → P → UnlessFault r P
+unless_memory {A = A} (Ok x) P is h = h
+unless_memory {A = A} (Err e) P is h = subst (λ (e : GroundErr). UnlessFault {A = A} (Err e) P) (sym is) h
+
 -- A QUESTION of a node, and the ground's answer
 module _ (ops : Ops) (own : Node) (page : ℕ) (what : Asked) (first : List ℕ) (q : FrameSeen) (may : MayAskAbout own what page) (asked : AreSent ops first (sealed ops own.file page (question (side own page) what))) (read : Reads ops first q) where
   q_is : q ≡ sealed ops own.file page (question (side own page) what)
@@ -90,6 +94,12 @@ module _ (ops : Ops) (own : Node) (page : ℕ) (what : Asked) (first : List ℕ)
   asked_once before mid after one idle two still = elim (asks_or_gives (side own page) what) [
     | inl none ↦ subst (IsOneCall before) (sym (still (q_up ∙ none))) one
     | inr other ↦ subst (λ (s : Seen). IsOneCall s after) (idle other) two
+  ]
+
+  pub asked_calm : (before mid after : Seen) → IsCalmCall before mid → ((IsForPage what → ⊥) → mid ≡ before) → IsCalmCall mid after → (bytes_up q ≡ None → after ≡ mid) → IsCalmCall before after
+  asked_calm before mid after one idle two still = elim (asks_or_gives (side own page) what) [
+    | inl none ↦ subst (IsCalmCall before) (sym (still (q_up ∙ none))) one
+    | inr other ↦ subst (λ (s : Seen). IsCalmCall s after) (idle other) two
   ]
 
   pub asked_given : (pages pages' new : Option (List (List ℕ))) → pages ≡ pages' → new ≡ pages_given page (bytes_up q) pages → new ≡ pages_given page (asked_up (side own page) what) pages'

@@ -1,9 +1,9 @@
 -- An exchange of a node and the ground, which has no table, and what it makes of the ground's pages.
-use Rattle.std.specs.Prelude.{◌≡◌, ◌⊎◌, ◌<◌, ℕ, List, length, slice_get, Option, Some, None, IfSome}
+use Rattle.std.specs.Prelude.{◌≡◌, ◌⊎◌, ◌<◌, ℕ, List, length, slice_get, Option, Some, None, IfSome, Result, Ok, Err}
 use Rattle.tower_core.specs.declared.right.Right.{Right}
 use Rattle.tower_core.specs.Column.{updated}
 use Rattle.tower_sides.specs.Side.{brought}
-use Rattle.disk_layer.specs.Seen.{Seen, IsFault, Keeps, ReadsPage, with_page}
+use Rattle.disk_layer.specs.Seen.{Seen, IsCalm, IsFault, Keeps, ReadsPage, with_page}
 use Rattle.page_messages.specs.declared.kinds.Asked.{Asked}
 use Rattle.page_messages.specs.Carried.{asked_down}
 use Rattle.page_messages.specs.Rights.{IsForPage, asked_right}
@@ -35,6 +35,10 @@ base_given page up base = updated base page (brought up (base page))
 abbrev pub IsOneCall : Seen → Seen → Type 0
 IsOneCall before after = (after ≡ before) ⊎ Keeps before after
 
+-- the ground was not called, or on a disk that is still live no fault happened in the call
+abbrev pub IsCalmCall : Seen → Seen → Type 0
+IsCalmCall before after = (after ≡ before) ⊎ IsCalm before after
+
 -- a node that has nothing of a page, and asks for it, gets the ground's bytes
 abbrev pub IsOfGround : Option (List (List ℕ)) → Node → Asked → ℕ → List ℕ → Type 0
 IsOfGround pages node what page bytes = IsForPage what → (side node page).right ≡ Right.Nothing → ReadsPage pages page bytes
@@ -49,3 +53,9 @@ pub record IsAnswered (pages : Option (List (List ℕ))) (old new : Node) (what 
 abbrev pub IsWhy : Seen → Seen → Node → ℕ → GroundErr → Type 0
 IsWhy before after node page (errors.Store fault) = IsFault before after fault
 IsWhy before after node page errors.Memory = LacksCopy node page
+
+-- it holds unless a store failed
+abbrev pub UnlessFault : {A : Type 0} → Result A GroundErr → Type 0 → Type 0
+UnlessFault {A = A} (Ok answer) P = P
+UnlessFault {A = A} (Err (errors.Store fault)) P = Unit {0}
+UnlessFault {A = A} (Err errors.Memory) P = P

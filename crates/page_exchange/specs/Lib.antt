@@ -3,3 +3,4 @@ pub mod Wire
 pub mod Ground
 pub mod Allowed
 pub mod Moved
+pub mod Steps

@@ -9,7 +9,7 @@ ghost use Rattle.page_messages.specs.Rights.{IsForPage, asked_right, called_righ
 ghost use Rattle.page_messages.specs.Rules.{MayObey};
 ghost use Rattle.coherency_layer.specs.Node.{file_of, side, OnPages, about_called, MayAskAbout, IsLeft};
 ghost use Rattle.page_exchange.specs.Exchange.{IsOwnChange};
-ghost use Rattle.page_exchange.specs.Ground.{IsUnder, pages_given, IsOneCall, IsOfGround, IsAnswered, IsWhy};
+ghost use Rattle.page_exchange.specs.Ground.{IsUnder, pages_given, IsOneCall, IsCalmCall, IsOfGround, IsAnswered, IsWhy, UnlessFault};
 
 use crate::steps::{answer_of_ground, ask, obey, order_of_ground, sent, take};
 use crate::wire::Wire;
@@ -66,6 +66,7 @@ fn read_for<G: Ground>(
     ensures size { length scratch.new ≡ (file_of node.now).page_size }
     ensures pages { (G.seen ground.new).pages ≡ (G.seen ground.old).pages }
     ensures call { IsOneCall (G.seen ground.old) (G.seen ground.new) }
+    ensures calm { OnOk result (IsCalmCall (G.seen ground.old) (G.seen ground.new)) }
     ensures fault { IfErr result (IsFault (G.seen ground.old) (G.seen ground.new)) }
     ensures idle { (IsForPage what → ⊥) → G.seen ground.new ≡ G.seen ground.old }
 {
@@ -84,6 +85,7 @@ fn write_for<G: Ground>(ground: &mut G, frame: &Frame<'_>, page: u32) -> Result<
     ensures ok { OnOk result ((G.seen ground.new).pages ≡ pages_given page (bytes_up frame.now) (G.seen ground.old).pages) }
     ensures err { OnErr result ((G.seen ground.new).pages ≡ (G.seen ground.old).pages) }
     ensures call { IsOneCall (G.seen ground.old) (G.seen ground.new) }
+    ensures calm { OnOk result (IsCalmCall (G.seen ground.old) (G.seen ground.new)) }
     ensures fault { IfErr result (IsFault (G.seen ground.old) (G.seen ground.new)) }
     ensures idle { bytes_up frame.now ≡ None → G.seen ground.new ≡ G.seen ground.old }
 {
@@ -115,6 +117,7 @@ impl Wire {
         ensures own_left { OnErr result (IsLeft own.old own.new) }
         ensures ground_left { OnErr result ((G.seen ground.new).pages ≡ (G.seen ground.old).pages) }
         ensures call { IsOneCall (G.seen ground.old) (G.seen ground.new) }
+        ensures calm { UnlessFault result (IsCalmCall (G.seen ground.old) (G.seen ground.new)) }
         ensures scratch { length scratch.new ≡ length scratch.old }
     {
         ask(own, &self.ops, what, page, &mut self.first);
@@ -145,6 +148,7 @@ impl Wire {
         ensures own_left { OnErr result (IsLeft own.old own.new) }
         ensures ground_left { OnErr result ((G.seen ground.new).pages ≡ (G.seen ground.old).pages) }
         ensures call { IsOneCall (G.seen ground.old) (G.seen ground.new) }
+        ensures calm { OnOk result (IsCalmCall (G.seen ground.old) (G.seen ground.new)) }
     {
         order_of_ground(own, &self.ops, what, page, &mut self.first);
         let order = sent(&self.ops, &self.first);

@@ -38,3 +38,11 @@ returns-clause-ground g c =
 pub returns-clause-call : goal.returns-clause-call
 returns-clause-call g c =
     grounds.asked_once c.args.self.now.ops c.args.own.now c.args.page c.args.what c.ask.new.buf.bytes c.sent-question.result c.requires.may c.ask.ensures.sent c.sent-question.ensures _ _ _ c.in_ok-read_for.ensures.call c.in_ok-read_for.ensures.idle c.in_ok-write_for.ensures.call c.in_ok-write_for.ensures.idle
+
+pub returns-in_err-take-clause-calm : goal.returns-in_err-take-clause-calm
+returns-in_err-take-clause-calm g c =
+    grounds.unless_memory c.from_residual-in_err-take.result _ c.from_residual-in_err-take.ensures.1 (grounds.asked_calm c.args.self.now.ops c.args.own.now c.args.page c.args.what c.ask.new.buf.bytes c.sent-question.result c.requires.may c.ask.ensures.sent c.sent-question.ensures _ _ _ c.in_ok-read_for.ensures.calm c.in_ok-read_for.ensures.idle c.in_ok-write_for.ensures.calm c.in_ok-write_for.ensures.idle)
+
+pub returns-clause-calm : goal.returns-clause-calm
+returns-clause-calm g c =
+    grounds.asked_calm c.args.self.now.ops c.args.own.now c.args.page c.args.what c.ask.new.buf.bytes c.sent-question.result c.requires.may c.ask.ensures.sent c.sent-question.ensures _ _ _ c.in_ok-read_for.ensures.calm c.in_ok-read_for.ensures.idle c.in_ok-write_for.ensures.calm c.in_ok-write_for.ensures.idle
