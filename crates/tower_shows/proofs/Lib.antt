@@ -1,0 +1,5 @@
+pub mod Rights
+pub mod Bytes
+pub mod Firsts
+pub mod Tells
+pub mod Stays
