@@ -1,0 +1,5 @@
+pub mod BlockLaws
+pub mod CounterLaws
+pub mod LogLaws
+pub mod MergedLaws
+pub mod TrailLaws
