@@ -1,0 +1,5 @@
+pub mod Pairs
+pub mod Singles
+pub mod Sending
+pub mod Lent
+pub mod Fresh

@@ -1,0 +1,13 @@
+use Rattle.tower_tables.proofs.Sending.{on_ok}
+use Rattle.tower_tables.proofs.Singles as singles
+use Rattle.tower_tables.proofs.tables.Tables.ask_ground.Goals as goal
+
+pub invariant_of-self-clause-tables : goal.invariant_of-self-clause-tables
+invariant_of-self-clause-tables g c =
+    let one = singles.one_is c.args.self.now.tree c.args.self.now.file c.args.self.now.nodes.items c.args.node c.index_mut-own.result.now c.ask_ground.new.own c.args.self.now.tables c.requires.upper c.index_mut-own.ensures.value in
+    singles.stay_either c.args.self.now.tree c.args.self.now.file _ _ c.args.node _ _ c.args.self.now.tables one c.ask_ground.result (λ x. x.change.same) c.ask_ground.ensures.own c.ask_ground.ensures.own_left
+
+pub returns-clause-sent : goal.returns-clause-sent
+returns-clause-sent g c =
+    let one = singles.one_is c.args.self.now.tree c.args.self.now.file c.args.self.now.nodes.items c.args.node c.index_mut-own.result.now c.ask_ground.new.own c.args.self.now.tables c.requires.upper c.index_mut-own.ensures.value in
+    on_ok c.ask_ground.result (singles.answered_sent c.args.self.now.tree c.args.self.now.file _ _ c.args.node _ _ c.args.self.now.tables one c.args.page c.requires.on_ground _ c.args.what c.requires.no_leaf c.requires.about_page c.requires.may) c.ask_ground.ensures.own

@@ -1,0 +1,5 @@
+use Rattle.tower_tables.proofs.Fresh as fresh
+use Rattle.tower_tables.proofs.tables.Tables.new.Goals as goal
+
+pub returns-clause-bare : goal.returns-clause-bare
+returns-clause-bare c = fresh.all_bare c.in_ok-nodes.nodes.items c.in_ok-nodes.ensures.fresh

@@ -1,0 +1,39 @@
+-- The tables of all nodes of a file, by page and node.
+use Rattle.std.specs.Prelude.{◌≡◌, ℕ}
+use Rattle.tower_core.specs.TreeShape.{TreeShape}
+use Rattle.tower_sides.specs.Side.{Side}
+use Rattle.disk_layer.specs.Seen.{Seen, IsFault}
+use Rattle.page_messages.specs.declared.paged.PagedFile.{PagedFile}
+use Rattle.page_exchange.specs.declared.ground.GroundErr.{GroundErr}
+use Rattle.page_exchange.specs.declared.ground.GroundErr.TheVariants as errors
+use Rattle.tower_tables.specs.declared.tables.Tables.{Tables}
+use Rattle.tower_tables.specs.Listed.{sides_in, LacksRoom}
+
+-- WHAT CONTRACTS SEE OF THE TABLES: the tree, the file, and by page and node that node's own table
+abbrev pub tree_of : Tables → TreeShape
+tree_of t = t.tree
+
+abbrev pub paged_of : Tables → PagedFile
+paged_of t = t.file
+
+abbrev pub sides : Tables → ℕ → ℕ → Side
+sides t = sides_in t.nodes.items
+
+-- what no call changes
+pub record IsSameFile (old new : Tables) : Type 0 where
+  pub tree : tree_of new ≡ tree_of old
+  pub file : paged_of new ≡ paged_of old
+
+-- no table differs
+abbrev pub AreLeft : Tables → Tables → Type 0
+AreLeft old new = (page node : ℕ) → sides new page node ≡ sides old page node
+
+-- the ground has the pages of the file
+pub record IsUnderFile (ground : Seen) (file : PagedFile) : Type 0 where
+  pub size : ground.page_size ≡ file.page_size
+  pub number : ground.number ≡ file.pages
+
+-- when each error comes: memory lacks only for a page of which the node has nothing
+abbrev pub IsCause : Seen → Seen → Side → GroundErr → Type 0
+IsCause before after s (errors.Store fault) = IsFault before after fault
+IsCause before after s errors.Memory = LacksRoom s
