@@ -1,0 +1,330 @@
+-- An engine with one thing more in its log: what holds of it still.
+use Rattle.std.proofs.Common.{◌≡◌, ◌⊎◌, inl, inr, ℕ, ◌+◌, ◌<◌, ◌≤◌, ◌||◌, ◌==◌, Bool, true, false, cond, nat_lt, List, [], ◌∷◌, ◌++◌, length, take, Option, Some, None, IfSome, IsSome, refl, sym, ap, subst, ◌∙◌, arith, length-append}
+use Rattle.std.specs.Prelude.{slice_get, slice_index_or, Contains}
+use Rattle.std.proofs.lemmas.List.{append-nil, take-append-le, take_all}
+use Rattle.std.proofs.lemmas.Bool.Decides.{nat_tests, eqb_tells}
+use Rattle.hist_plain.specs.declared.TheConstants.{MAX_EVENTS}
+use Rattle.hist_plain.specs.declared.event.Event.{Event}
+use Rattle.hist_plain.specs.Event.{caller_of, number_of}
+use Rattle.hist_plain.specs.Plain.{Told, reply}
+use Rattle.hist_plain.specs.History.{IsNumbered, mine, page_in}
+use Rattle.disk_format.specs.Image.{Imaged}
+use Rattle.disk_layer.specs.Seen.{AllKept, IsFault, KeptAt, Seen, faults_in, live_in, opened_in, pages_in}
+use Rattle.disk_layer.specs.Seen.{kept_in as kept_on}
+use Rattle.tower_core.specs.declared.sheet.Sheet.{Sheet}
+use Rattle.tower_core.specs.Legal.{file_after, plain_shape}
+use Rattle.tower_core.specs.Sheet.{nodes_of, pages_of, seen}
+use Rattle.tower_core.specs.TreeShape.{TreeShape, frames_of, nodes}
+use Rattle.tower_core.specs.Trail.{State, state_after, state_of}
+use Rattle.tower_core.proofs.Legals.{state_of-snoc}
+use Rattle.tower_pages.specs.Granted.{is_grant_of, is_granted_in}
+use Rattle.page_messages.specs.declared.paged.PagedFile.{PagedFile}
+use Rattle.page_exchange.specs.Ground.{IsOneCall}
+use Rattle.tower_tables.specs.declared.tables.Tables.{Tables}
+use Rattle.tower_tables.specs.Tables.{AreLeft, IsSameFile, IsUnderFile, paged_of, tree_of}
+use Rattle.tower_log.specs.declared.logged.Entry.{Entry}
+use Rattle.tower_log.specs.declared.logged.Logged.{Logged}
+use Rattle.tower_log.specs.declared.logged.Logged.TheVariants.{Entered, Noted}
+use Rattle.tower_log.specs.declared.logged.Note.{Note}
+use Rattle.tower_log.specs.Log.{entries_of, kept_in, place_of, told_by, trail_of}
+use Rattle.tower_log.specs.Notes.{Rises, counts_of}
+use Rattle.tower_shows.specs.Began.{BeganWith, IsTrueTo}
+use Rattle.tower_shows.specs.Since.{AreSince, GroundIsSince}
+use Rattle.tower_shows.proofs.Rights.{rights_same}
+use Rattle.tower_shows.proofs.Bytes.{bytes_same}
+use Rattle.tower_shows.proofs.Stays.{ground_stays, told_later, told_stays}
+use Rattle.stack_engine.specs.Engine.{AreGranted, EngineSeen, IsNext, IsSheetOf, IsSound, NotesRise, events_in, file_in, log_in, sides_in, state_in, tree_in}
+use Rattle.stack_engine.specs.Opened.{AreAnswers, IsOf, IsSynced, KeepsPagesOf, KeepsSince, from_after, last_from}
+use Rattle.stack_engine.proofs.Logs.{at-end, at-last, counts_of-append, counts_of-entered, entries_of-entered, granted-entered, kept-entered, last_from-entered, length-entries_of, not-kept, numbered-entered, rises-later, rises-more, trail_of-entered}
+
+-- a fact of the tree and the file of tables that stayed of one file
+pub at_same : (P : TreeShape → PagedFile → Type 0) (old new : Tables) → IsSameFile old new → P (tree_of old) (paged_of old) → P (tree_of new) (paged_of new)
+at_same P old new same h = subst (P (tree_of new)) (sym same.file) (subst (λ (t : TreeShape). P t (paged_of old)) (sym same.tree) h)
+
+-- THE GROUND after one call at most
+
+pub once_under : (before after : Seen) (file : PagedFile) → IsOneCall before after → IsUnderFile before file → IsUnderFile after file
+once_under before after file (inl same) under = subst (λ (s : Seen). IsUnderFile s file) (sym same) under
+once_under before after file (inr keeps) under = record { size = keeps.same_size ∙ under.size; number = keeps.same_number ∙ under.number }
+
+once_opened : (before after : Seen) (disk : ℕ) → IsOneCall before after → opened_in after.disks disk ≡ opened_in before.disks disk
+once_opened before after disk (inl same) = ap (λ (s : Seen). opened_in s.disks disk) same
+once_opened before after disk (inr keeps) = keeps.same_opened disk
+
+once_faults : (before after : Seen) (disk : ℕ) → IsOneCall before after → faults_in before.disks disk ≤ faults_in after.disks disk
+once_faults before after disk (inl same) = subst (λ (s : Seen). faults_in before.disks disk ≤ faults_in s.disks disk) (sym same) (omega arith)
+once_faults before after disk (inr keeps) = keeps.later disk
+
+-- what each live disk keeps is as it was, or is the ground's pages
+kept_once : (P : Option (Option (List (List ℕ))) → Type 0) (before after : Seen) (disk : ℕ) → IsOneCall before after → Contains (live_in after.disks) disk
+    → (Contains (live_in before.disks) disk → P (pages_in (kept_on before.disks disk))) → (KeptAt (kept_on after.disks disk) before.pages → P (pages_in (kept_on after.disks disk))) → P (pages_in (kept_on after.disks disk))
+kept_once P before after disk (inl same) live was is =
+    subst (λ (s : Seen). P (pages_in (kept_on s.disks disk))) (sym same) (was (subst (λ (s : Seen). Contains (live_in s.disks) disk) same live))
+kept_once P before after disk (inr keeps) live was is = elim (keeps.kept disk live) [
+  | inl e ↦ subst P (sym e) (was (keeps.live disk live))
+  | inr at ↦ is at
+]
+
+-- THE NOTES
+
+pub notes_entered : (before after : Seen) (log : List Logged) (entry : Entry) → IsOneCall before after → NotesRise before.disks log → NotesRise after.disks (log ++ Entered entry ∷ [])
+notes_entered before after log entry call rise = λ disk.
+    subst (λ (o : ℕ). Rises o (faults_in after.disks disk) (counts_of disk (log ++ Entered entry ∷ []))) (sym (once_opened before after disk call))
+    (subst (λ (cs : List ℕ). Rises (opened_in before.disks disk) (faults_in after.disks disk) cs) (sym (counts_of-entered disk log entry))
+    (rises-later (opened_in before.disks disk) (faults_in before.disks disk) (faults_in after.disks disk) (counts_of disk log) (once_faults before after disk call) (rise disk)))
+
+pub notes_same : (before after : Seen) (log : List Logged) → IsOneCall before after → NotesRise before.disks log → NotesRise after.disks log
+notes_same before after log call rise = λ disk.
+    subst (λ (o : ℕ). Rises o (faults_in after.disks disk) (counts_of disk log)) (sym (once_opened before after disk call))
+    (rises-later (opened_in before.disks disk) (faults_in before.disks disk) (faults_in after.disks disk) (counts_of disk log) (once_faults before after disk call) (rise disk))
+
+noted_counts : (disk : ℕ) (log : List Logged) (note : Note) → counts_of disk (log ++ Noted note ∷ []) ≡ counts_of disk log ++ cond (note.disk == disk) (note.count ∷ []) []
+noted_counts disk log note = counts_of-append disk log (Noted note ∷ [])
+
+notes_one : (b : Bool) (opened before after count : ℕ) (counts : List ℕ) → Rises opened before counts → before ≤ after → (b ≡ true → (before < count) × (count ≤ after)) → Rises opened after (counts ++ cond b (count ∷ []) [])
+notes_one true opened before after count counts rise le h = rises-more opened before count after counts rise (h refl).0 (h refl).1
+notes_one false opened before after count counts rise le h = subst (Rises opened after) (sym (append-nil counts)) (rises-later opened before after counts le rise)
+
+pub notes_noted : (before after : Seen) (log : List Logged) (caller disk count : ℕ) → IsOneCall before after → IsFault before after (record { disk = disk; count = count }) → NotesRise before.disks log
+    → NotesRise after.disks (log ++ Noted (record { caller = caller; disk = disk; count = count }) ∷ [])
+notes_noted before after log caller disk count call fault rise = λ d.
+    subst (λ (o : ℕ). Rises o (faults_in after.disks d) (counts_of d (log ++ Noted (record { caller = caller; disk = disk; count = count }) ∷ []))) (sym (once_opened before after d call))
+    (subst (λ (cs : List ℕ). Rises (opened_in before.disks d) (faults_in after.disks d) cs) (sym (noted_counts d log (record { caller = caller; disk = disk; count = count })))
+    (notes_one (disk == d) (opened_in before.disks d) (faults_in before.disks d) (faults_in after.disks d) count (counts_of d log) (rise d) (once_faults before after d call)
+    (λ e. elim (eqb_tells disk d) [
+      | inl is ↦ subst (λ (x : ℕ). (faults_in before.disks x < count) × (count ≤ faults_in after.disks x)) is.1 (fault.above, fault.within)
+      | inr d' ↦ absurd (let both : true ≡ false = sym e ∙ d'.0 in cc)
+    ])))
+
+-- ONE EVENT MORE
+
+below_or_not : (a b : ℕ) → (a < b) ⊎ (a < b → ⊥)
+below_or_not a b = by (nat_lt a b) refl
+  where
+    by : (t : Bool) → nat_lt a b ≡ t → (a < b) ⊎ (a < b → ⊥)
+    by true e = inl (grind (arith, nat_tests))
+    by false e = inr (λ lt. grind (arith, nat_tests))
+
+module _ (old new : EngineSeen) (entry : Entry) (sound : IsSound old) (file : IsSameFile old.tables new.tables) (log : log_in new ≡ log_in old ++ Entered entry ∷ [])
+    (next : IsNext old entry.event) (few : place_of (log_in old) < MAX_EVENTS) (call : IsOneCall old.ground new.ground)
+    (true_to : IsTrueTo (tree_in old) (file_in old).page_size (file_in old).pages (events_in old ++ entry.event ∷ []) (sides_in new)) where
+  pub events_are : events_in new ≡ events_in old ++ entry.event ∷ []
+  events_are = ap trail_of log ∙ trail_of-entered (log_in old) entry
+
+  place_is : place_of (log_in new) ≡ place_of (log_in old) + 1
+  place_is = ap (λ (es : List Event). length es) events_are ∙ length-append (events_in old) (entry.event ∷ [])
+
+  pub sound_entered : new.trail.page_size ≡ old.trail.page_size → ((c : ℕ) → caller_of entry.event ≡ Some c → number_of entry.event ≡ length (mine (events_in old) c)) → IsSound new
+  sound_entered size number = record {
+    true_to = at_same (λ (t : TreeShape) (f : PagedFile). IsTrueTo t f.page_size f.pages (events_in new) (sides_in new)) old.tables new.tables file
+        (subst (λ (es : List Event). IsTrueTo (tree_in old) (file_in old).page_size (file_in old).pages es (sides_in new)) (sym events_are) true_to);
+    under = at_same (λ (t : TreeShape) (f : PagedFile). IsUnderFile new.ground f) old.tables new.tables file (once_under old.ground new.ground (file_in old) call sound.under);
+    leafless = at_same (λ (t : TreeShape) (f : PagedFile). (node : ℕ) → frames_of t node ≡ 0) old.tables new.tables file sound.leafless;
+    few = omega (arith, place_is, few);
+    numbered = subst IsNumbered (sym events_are) (numbered-entered (events_in old) entry.event sound.numbered number);
+    notes = subst (NotesRise new.ground.disks) (sym log) (notes_entered old.ground new.ground (log_in old) entry call sound.notes);
+    page_size = size ∙ sound.page_size ∙ ap (λ (f : PagedFile). f.page_size) (sym file.file);
+  }
+
+  pub sheet_entered : (sheet sheet' : Sheet) → IsSheetOf old sheet → nodes_of sheet' ≡ nodes_of sheet → pages_of sheet' ≡ pages_of sheet → seen sheet' ≡ state_after (tree_in new) (seen sheet) entry.event → IsSheetOf new sheet'
+  sheet_entered sheet sheet' is same_nodes same_pages state = record {
+    nodes_are = same_nodes ∙ is.nodes_are ∙ ap nodes (sym file.tree);
+    pages_are = same_pages ∙ is.pages_are ∙ ap (λ (f : PagedFile). f.pages) (sym file.file);
+    state_is = state
+        ∙ ap (λ (s : State). state_after (tree_in new) s entry.event) is.state_is
+        ∙ ap (λ (t : TreeShape). state_after t (state_in old) entry.event) file.tree
+        ∙ sym (state_of-snoc (tree_in old) (events_in old) entry.event)
+        ∙ ap (λ (t : TreeShape). state_of t (events_in old ++ entry.event ∷ [])) (sym file.tree)
+        ∙ ap (λ (es : List Event). state_of (tree_in new) es) (sym events_are);
+  }
+
+  pub granted_entered : (granted granted' : List Bool) → AreGranted old granted → length granted' ≡ length granted
+      → ((page : ℕ) → page < (file_in old).pages → slice_index_or granted' page false ≡ (is_grant_of page entry.event || slice_index_or granted page false)) → AreGranted new granted'
+  granted_entered granted granted' is len flags = record {
+    len = len ∙ is.len ∙ ap (λ (f : PagedFile). f.pages) (sym file.file);
+    flag = λ page inside. let there : page < (file_in old).pages = subst (λ (f : PagedFile). page < f.pages) file.file inside in
+        flags page there
+        ∙ ap (λ b. is_grant_of page entry.event || b) (is.flag page there)
+        ∙ sym (granted-entered page (events_in old) entry.event)
+        ∙ ap (is_granted_in page) (sym events_are);
+  }
+
+  -- the file that the trail began with
+  module _ (opening : List ℕ) (of : IsOf opening old) (began : BeganWith (tree_in old) (file_in old).page_size (file_in old).pages opening (events_in old ++ entry.event ∷ []) (sides_in new) new.ground.pages)
+      (kept : (page : ℕ) → is_granted_in page (events_in old) ≡ false → is_grant_of page entry.event ≡ true → entry.bytes ≡ page_in (file_in old).page_size opening page)
+      (told : reply (plain_shape (tree_in old) (file_in old).page_size) (file_after (tree_in old) (file_in old).page_size opening (events_in old)) entry.event ≡ told_by entry) where
+    keeps_all : KeepsPagesOf (file_in old).page_size opening (log_in old ++ Entered entry ∷ [])
+    keeps_all page bytes is = kept-entered page (log_in old) entry bytes (bytes ≡ page_in (file_in old).page_size opening page) is
+        (λ before. of.keeps page bytes before)
+        (λ none grant are. sym are ∙ kept page (not-kept page (log_in old) none) grant)
+
+    abbrev replied : List Event → Event → Option Told
+    replied es event = reply (plain_shape (tree_in old) (file_in old).page_size) (file_after (tree_in old) (file_in old).page_size opening es) event
+
+    before_is : (place : ℕ) → place ≤ length (events_in old) → take place (trail_of (log_in old ++ Entered entry ∷ [])) ≡ take place (events_in old)
+    before_is place le = ap (take place) (trail_of-entered (log_in old) entry) ∙ take-append-le place (events_in old) (entry.event ∷ []) le
+
+    answers_all : AreAnswers (tree_in old) (file_in old).page_size opening (log_in old ++ Entered entry ∷ [])
+    answers_all place other is = by (below_or_not place (length (entries_of (log_in old))))
+      where
+        there : slice_get (entries_of (log_in old) ++ entry ∷ []) place ≡ Some other
+        there = sym (ap (λ (es : List Entry). slice_get es place) (entries_of-entered (log_in old) entry)) ∙ is
+
+        many : length (entries_of (log_in old)) ≡ length (events_in old)
+        many = length-entries_of (log_in old)
+
+        by : (place < length (entries_of (log_in old))) ⊎ (place < length (entries_of (log_in old)) → ⊥) → replied (take place (trail_of (log_in old ++ Entered entry ∷ []))) other.event ≡ told_by other
+        by (inl lt) = ap (λ (es : List Event). replied es other.event) (before_is place (omega (arith, lt, many)))
+            ∙ of.answers place other (at-end (entries_of (log_in old)) entry other place lt there)
+        by (inr beyond) = let last = at-last (entries_of (log_in old)) entry other place beyond there in
+            let at : place ≡ length (events_in old) = last.0 ∙ many in
+            ap (λ (es : List Event). replied es other.event) (before_is place (omega (arith, at)) ∙ ap (λ (k : ℕ). take k (events_in old)) at ∙ take_all (length (events_in old)) (events_in old) (omega arith))
+            ∙ ap (λ (e : Entry). replied (events_in old) e.event) (sym last.1)
+            ∙ told
+            ∙ ap told_by last.1
+
+    -- a disk that kept pages from a place on, or now keeps the ground's
+    disk_since : (from disk : ℕ) → GroundIsSince (tree_in old) (file_in old).page_size (file_in old).pages opening (events_in old) from → Contains (live_in new.ground.disks) disk
+        → (Contains (live_in old.ground.disks) disk → KeepsSince (tree_in old) (file_in old).page_size opening (events_in old) from (kept_on old.ground.disks disk))
+        → KeepsSince (tree_in old) (file_in old).page_size opening (events_in old ++ entry.event ∷ []) from (kept_on new.ground.disks disk)
+    disk_since from disk ground live was = kept_once Since old.ground new.ground disk call live
+        (λ lived. longer (pages_in (kept_on old.ground.disks disk)) (was lived))
+        (λ at. of_ground (kept_on new.ground.disks disk) old.ground.pages at (told_stays (tree_in old) (file_in old).page_size (file_in old).pages opening (events_in old) (sides_in old) old.ground.pages from sound.true_to of.began ground) of.began.is_told)
+      where
+        Since : Option (Option (List (List ℕ))) → Type 0
+        Since kept = IfSome kept (λ pages. (ps : List (List ℕ)) × (pages ≡ Some ps) × AreSince (tree_in old) (file_in old).page_size opening (events_in old ++ entry.event ∷ []) from ps)
+
+        longer : (kept : Option (Option (List (List ℕ)))) → IfSome kept (λ pages. (ps : List (List ℕ)) × (pages ≡ Some ps) × AreSince (tree_in old) (file_in old).page_size opening (events_in old) from ps) → Since kept
+        longer None h = tt
+        longer (Some pages) h = (h.0, h.1, told_later (tree_in old) (file_in old).page_size opening (events_in old) (entry.event ∷ []) from h.0 h.2)
+
+        of_ground : (kept : Option (Option Imaged)) (pages : Option (List (List ℕ))) → KeptAt kept pages → IfSome pages (AreSince (tree_in old) (file_in old).page_size opening (events_in old) from) → IsSome pages → Since (pages_in kept)
+        of_ground None pages at since some = tt
+        of_ground (Some image) None at since some = absurd (let both : false ≡ true = some in cc)
+        of_ground (Some image) (Some ps) at since some = (ps, at, told_later (tree_in old) (file_in old).page_size opening (events_in old) (entry.event ∷ []) from ps since)
+
+    -- what the last sync left, as it is told of the longer trail
+    pub record SyncedLater (from : ℕ) : Type 0 where
+      pub reached : from ≤ length (events_in old) + 1
+      pub ground : GroundIsSince (tree_in old) (file_in old).page_size (file_in old).pages opening (events_in old ++ entry.event ∷ []) from
+      pub disks : (disk : ℕ) → Contains (live_in new.ground.disks) disk → KeepsSince (tree_in old) (file_in old).page_size opening (events_in old ++ entry.event ∷ []) from (kept_on new.ground.disks disk)
+
+    pub of_with : ((from : ℕ) → last_from (events_in old ++ entry.event ∷ []) ≡ Some from → SyncedLater from) → IsOf opening new
+    of_with synced = record {
+      began = at_same (λ (t : TreeShape) (f : PagedFile). BeganWith t f.page_size f.pages opening (events_in new) (sides_in new) new.ground.pages) old.tables new.tables file
+          (subst (λ (es : List Event). BeganWith (tree_in old) (file_in old).page_size (file_in old).pages opening es (sides_in new) new.ground.pages) (sym events_are) began);
+      keeps = at_same (λ (t : TreeShape) (f : PagedFile). KeepsPagesOf f.page_size opening (log_in new)) old.tables new.tables file
+          (subst (KeepsPagesOf (file_in old).page_size opening) (sym log) keeps_all);
+      answers = at_same (λ (t : TreeShape) (f : PagedFile). AreAnswers t f.page_size opening (log_in new)) old.tables new.tables file
+          (subst (AreAnswers (tree_in old) (file_in old).page_size opening) (sym log) answers_all);
+      synced = λ from last.
+          let s : SyncedLater from = synced from (sym (ap last_from events_are) ∙ last) in
+          record {
+            reached = let r = s.reached in omega (arith, place_is, r);
+            ground = at_same (λ (t : TreeShape) (f : PagedFile). GroundIsSince t f.page_size f.pages opening (events_in new) from) old.tables new.tables file
+                (subst (λ (es : List Event). GroundIsSince (tree_in old) (file_in old).page_size (file_in old).pages opening es from) (sym events_are) s.ground);
+            disks = λ disk live. at_same (λ (t : TreeShape) (f : PagedFile). KeepsSince t f.page_size opening (events_in new) from (kept_on new.ground.disks disk)) old.tables new.tables file
+                (subst (λ (es : List Event). KeepsSince (tree_in old) (file_in old).page_size opening es from (kept_on new.ground.disks disk)) (sym events_are) (s.disks disk live));
+          };
+    }
+
+    -- an event that completes no sync
+    pub of_entered : from_after (last_from (events_in old)) entry.event ≡ last_from (events_in old) → IsOf opening new
+    of_entered quiet = of_with (λ from last.
+        let s : IsSynced opening old from = of.synced from (sym quiet ∙ sym (last_from-entered (events_in old) entry.event) ∙ last) in
+        record {
+          reached = let r = s.reached in omega (arith, r);
+          ground = ground_stays (tree_in old) (file_in old).page_size (file_in old).pages opening (events_in old) (sides_in old) entry.event from sound.true_to next s.reached s.ground;
+          disks = λ disk live. disk_since from disk s.ground live (s.disks disk);
+        })
+
+    -- a sync that was completed, where each live disk then kept the ground's pages
+    pub of_synced : (from : ℕ) → from_after (last_from (events_in old)) entry.event ≡ Some from → from ≤ length (events_in old)
+        → GroundIsSince (tree_in old) (file_in old).page_size (file_in old).pages opening (events_in old ++ entry.event ∷ []) from
+        → AllKept new.ground new.ground.pages → IsOf opening new
+    of_synced from is reached ground kept_now = of_with (λ from' last.
+        let same : from ≡ from' = some_is from from' (sym is ∙ sym (last_from-entered (events_in old) entry.event) ∙ last) in
+        subst SyncedLater same (record {
+          reached = omega (arith, reached);
+          ground = ground;
+          disks = λ disk live. kept_pages (kept_on new.ground.disks disk) new.ground.pages (kept_now disk live)
+              (told_stays (tree_in old) (file_in old).page_size (file_in old).pages opening (events_in old ++ entry.event ∷ []) (sides_in new) new.ground.pages from true_to began ground) began.is_told;
+        }))
+      where
+        some_is : (a b : ℕ) → Some a ≡ Some b → a ≡ b
+        some_is a b e = cc
+
+        kept_pages : (kept : Option (Option Imaged)) (pages : Option (List (List ℕ))) → KeptAt kept pages → IfSome pages (AreSince (tree_in old) (file_in old).page_size opening (events_in old ++ entry.event ∷ []) from) → IsSome pages
+            → KeepsSince (tree_in old) (file_in old).page_size opening (events_in old ++ entry.event ∷ []) from kept
+        kept_pages None pages at since some = tt
+        kept_pages (Some image) None at since some = absurd (let both : false ≡ true = some in cc)
+        kept_pages (Some image) (Some ps) at since some = (ps, at, since)
+
+-- NO EVENT, after a call of the ground at most, or a note
+
+module _ (old new : EngineSeen) (sound : IsSound old) (file : IsSameFile old.tables new.tables) (left : AreLeft old.tables new.tables) (call : IsOneCall old.ground new.ground) (pages : new.ground.pages ≡ old.ground.pages)
+    (size : new.trail.page_size ≡ old.trail.page_size) (events_are : events_in new ≡ events_in old) where
+  left_true : IsTrueTo (tree_in old) (file_in old).page_size (file_in old).pages (events_in old) (sides_in new)
+  left_true = rights_same (tree_in old) (file_in old).page_size (file_in old).pages (events_in old) (sides_in old) (sides_in new) sound.true_to left
+
+  pub sound_left : NotesRise new.ground.disks (log_in new) → IsSound new
+  sound_left notes = record {
+    true_to = at_same (λ (t : TreeShape) (f : PagedFile). IsTrueTo t f.page_size f.pages (events_in new) (sides_in new)) old.tables new.tables file
+        (subst (λ (es : List Event). IsTrueTo (tree_in old) (file_in old).page_size (file_in old).pages es (sides_in new)) (sym events_are) left_true);
+    under = at_same (λ (t : TreeShape) (f : PagedFile). IsUnderFile new.ground f) old.tables new.tables file (once_under old.ground new.ground (file_in old) call sound.under);
+    leafless = at_same (λ (t : TreeShape) (f : PagedFile). (node : ℕ) → frames_of t node ≡ 0) old.tables new.tables file sound.leafless;
+    few = subst (λ (es : List Event). length es ≤ MAX_EVENTS) (sym events_are) sound.few;
+    numbered = subst IsNumbered (sym events_are) sound.numbered;
+    notes = notes;
+    page_size = size ∙ sound.page_size ∙ ap (λ (f : PagedFile). f.page_size) (sym file.file);
+  }
+
+  pub sheet_left : (sheet : Sheet) → IsSheetOf old sheet → IsSheetOf new sheet
+  sheet_left sheet is = record {
+    nodes_are = is.nodes_are ∙ ap nodes (sym file.tree);
+    pages_are = is.pages_are ∙ ap (λ (f : PagedFile). f.pages) (sym file.file);
+    state_is = is.state_is ∙ ap (λ (t : TreeShape). state_of t (events_in old)) (sym file.tree) ∙ ap (λ (es : List Event). state_of (tree_in new) es) (sym events_are);
+  }
+
+  pub granted_left : (granted : List Bool) → AreGranted old granted → AreGranted new granted
+  granted_left granted is = record {
+    len = is.len ∙ ap (λ (f : PagedFile). f.pages) (sym file.file);
+    flag = λ page inside. is.flag page (subst (λ (f : PagedFile). page < f.pages) file.file inside) ∙ ap (is_granted_in page) (sym events_are);
+  }
+
+  module _ (opening : List ℕ) (of : IsOf opening old) (kept_same : (page : ℕ) → kept_in page (log_in new) ≡ kept_in page (log_in old)) (entries_same : entries_of (log_in new) ≡ entries_of (log_in old)) where
+    left_disks : (from disk : ℕ) → GroundIsSince (tree_in old) (file_in old).page_size (file_in old).pages opening (events_in old) from → Contains (live_in new.ground.disks) disk
+        → (Contains (live_in old.ground.disks) disk → KeepsSince (tree_in old) (file_in old).page_size opening (events_in old) from (kept_on old.ground.disks disk))
+        → KeepsSince (tree_in old) (file_in old).page_size opening (events_in old) from (kept_on new.ground.disks disk)
+    left_disks from disk ground live was = kept_once Since old.ground new.ground disk call live was
+        (λ at. of_ground (kept_on new.ground.disks disk) old.ground.pages at (told_stays (tree_in old) (file_in old).page_size (file_in old).pages opening (events_in old) (sides_in old) old.ground.pages from sound.true_to of.began ground) of.began.is_told)
+      where
+        Since : Option (Option (List (List ℕ))) → Type 0
+        Since kept = IfSome kept (λ pages. (ps : List (List ℕ)) × (pages ≡ Some ps) × AreSince (tree_in old) (file_in old).page_size opening (events_in old) from ps)
+
+        of_ground : (kept : Option (Option Imaged)) (pages : Option (List (List ℕ))) → KeptAt kept pages → IfSome pages (AreSince (tree_in old) (file_in old).page_size opening (events_in old) from) → IsSome pages → Since (pages_in kept)
+        of_ground None pages at since some = tt
+        of_ground (Some image) None at since some = absurd (let both : false ≡ true = some in cc)
+        of_ground (Some image) (Some ps) at since some = (ps, at, since)
+
+    pub of_left : IsOf opening new
+    of_left = record {
+      began = at_same (λ (t : TreeShape) (f : PagedFile). BeganWith t f.page_size f.pages opening (events_in new) (sides_in new) new.ground.pages) old.tables new.tables file
+          (subst (λ (es : List Event). BeganWith (tree_in old) (file_in old).page_size (file_in old).pages opening es (sides_in new) new.ground.pages) (sym events_are)
+          (subst (BeganWith (tree_in old) (file_in old).page_size (file_in old).pages opening (events_in old) (sides_in new)) (sym pages)
+          (bytes_same (tree_in old) (file_in old).page_size (file_in old).pages opening (events_in old) (sides_in old) (sides_in new) old.ground.pages of.began left)));
+      keeps = at_same (λ (t : TreeShape) (f : PagedFile). KeepsPagesOf f.page_size opening (log_in new)) old.tables new.tables file
+          (λ page bytes is. of.keeps page bytes (sym (kept_same page) ∙ is));
+      answers = at_same (λ (t : TreeShape) (f : PagedFile). AreAnswers t f.page_size opening (log_in new)) old.tables new.tables file
+          (λ place other is. ap (λ (es : List Event). reply (plain_shape (tree_in old) (file_in old).page_size) (file_after (tree_in old) (file_in old).page_size opening (take place es)) other.event) events_are
+          ∙ of.answers place other (sym (ap (λ (es : List Entry). slice_get es place) entries_same) ∙ is));
+      synced = λ from last.
+          let s : IsSynced opening old from = of.synced from (sym (ap last_from events_are) ∙ last) in
+          record {
+            reached = subst (λ (es : List Event). from ≤ length es) (sym events_are) s.reached;
+            ground = at_same (λ (t : TreeShape) (f : PagedFile). GroundIsSince t f.page_size f.pages opening (events_in new) from) old.tables new.tables file
+                (subst (λ (es : List Event). GroundIsSince (tree_in old) (file_in old).page_size (file_in old).pages opening es from) (sym events_are) s.ground);
+            disks = λ disk live. at_same (λ (t : TreeShape) (f : PagedFile). KeepsSince t f.page_size opening (events_in new) from (kept_on new.ground.disks disk)) old.tables new.tables file
+                (subst (λ (es : List Event). KeepsSince (tree_in old) (file_in old).page_size opening es from (kept_on new.ground.disks disk)) (sym events_are) (left_disks from disk s.ground live (s.disks disk)));
+          };
+    }

@@ -1,0 +1,10 @@
+pub mod Logs
+pub mod Asking
+pub mod Planning
+pub mod Entering
+pub mod Rooms
+pub mod Refusing
+pub mod Sending
+pub mod Making
+pub mod Granting
+pub mod Driving

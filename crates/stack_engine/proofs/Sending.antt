@@ -1,0 +1,239 @@
+-- A page message that was sent, and stands in the log.
+use Rattle.std.proofs.Common.{◌≡◌, ◌≢◌, ℕ, ◌<◌, ◌||◌, ◌==◌, Bool, true, false, cond, List, [], ◌∷◌, ◌++◌, length, Option, Some, None, refl, sym, ap, subst, ◌∙◌, arith}
+use Rattle.std.specs.Prelude.{slice_index_or}
+use Rattle.hist_plain.specs.declared.TheConstants.{MAX_EVENTS}
+use Rattle.hist_plain.specs.declared.event.Event.{Event}
+use Rattle.hist_plain.specs.declared.event.Event.TheVariants as events
+use Rattle.hist_plain.specs.Event.{caller_of, number_of}
+use Rattle.hist_plain.specs.Plain.{reply}
+use Rattle.hist_plain.specs.History.{mine, page_in}
+use Rattle.tower_core.specs.declared.right.Right.{Right}
+use Rattle.tower_core.specs.declared.sheet.Sheet.{Sheet}
+use Rattle.tower_core.specs.declared.step.Step.{Step}
+use Rattle.tower_core.specs.declared.step.Step.TheVariants.{Grants}
+use Rattle.tower_core.specs.Legal.{IsFilled, file_after, plain_shape}
+use Rattle.tower_core.specs.Sheet.{nodes_of, pages_of, seen}
+use Rattle.tower_core.specs.TreeShape.{TreeShape}
+use Rattle.tower_core.specs.Trail.{state_after}
+use Rattle.std.proofs.lemmas.Bool.Decides.{nat_tests}
+use Rattle.tower_sides.specs.Side.{Side}
+use Rattle.tower_sides.specs.Sent.{AreBrought}
+use Rattle.tower_pages.specs.Granted.{is_grant_of, is_granted_in}
+use Rattle.tower_pages.specs.Shown.{page_next}
+use Rattle.page_messages.specs.declared.kinds.Asked.{Asked}
+use Rattle.page_messages.specs.declared.kinds.Called.{Called}
+use Rattle.page_exchange.specs.Ground.{IsCalmCall, IsOneCall, pages_given}
+use Rattle.page_exchange.specs.Steps.{IsSent, given_up, step_asked, step_called}
+use Rattle.tower_tables.specs.Tables.{IsSameFile}
+use Rattle.tower_log.specs.declared.logged.Entry.{Entry}
+use Rattle.tower_log.specs.declared.logged.Logged.TheVariants.{Entered}
+use Rattle.tower_log.specs.Log.{place_of}
+use Rattle.tower_shows.specs.Began.{IsStepOn, IsTrueTo}
+use Rattle.tower_shows.proofs.Rights.{rights_step}
+use Rattle.tower_shows.proofs.Bytes.{bytes_step}
+use Rattle.tower_shows.proofs.Firsts.{grant_kept, grant_others, grant_zeros}
+use Rattle.stack_engine.specs.Engine.{EngineSeen, IsEngine, IsNext, IsSound, column_in, events_in, file_in, log_in, sides_in, tree_in}
+use Rattle.stack_engine.specs.Messages.{IsPush, event_asked, event_called, event_granted}
+use Rattle.stack_engine.specs.Moves.{Enters, FindsZeros, Sends, StandsFor, bytes_kept}
+use Rattle.stack_engine.specs.Opened.{IsOf, from_after, last_from}
+use Rattle.stack_engine.proofs.Rooms.{roomy}
+use Rattle.stack_engine.proofs.Entering.{granted_entered, of_entered, sheet_entered, sound_entered}
+
+-- what a book did with an entry
+pub record IsBooked (new : EngineSeen) (event : Event) (sheet sheet' : Sheet) (granted granted' : List Bool) : Type 0 where
+  pub nodes : nodes_of sheet' ≡ nodes_of sheet
+  pub pages : pages_of sheet' ≡ pages_of sheet
+  pub state : seen sheet' ≡ state_after (tree_in new) (seen sheet) event
+  pub len : length granted' ≡ length granted
+  pub flags : (page : ℕ) → page < pages_of sheet → slice_index_or granted' page false ≡ (is_grant_of page event || slice_index_or granted page false)
+
+-- a message was sent about a page, and this event was entered for it with these bytes
+pub record IsMessage (old new : EngineSeen) (event : Event) (bytes : List ℕ) (page : ℕ) (step : Step) : Type 0 where
+  pub file : IsSameFile old.tables new.tables
+  pub call : IsOneCall old.ground new.ground
+  pub calm : IsCalmCall old.ground new.ground
+  pub sent : IsSent (tree_in old) old.ground.pages page step (sides_in old) (sides_in new)
+  pub ground : new.ground.pages ≡ pages_given page (given_up (tree_in old) step (sides_in old page)) old.ground.pages
+  pub log : log_in new ≡ log_in old ++ Entered (record { event = event; answer = None; bytes = bytes }) ∷ []
+  pub size : new.trail.page_size ≡ old.trail.page_size
+  pub few : place_of (log_in old) < MAX_EVENTS
+  pub next : IsNext old event
+  pub quiet : caller_of event ≡ None
+  pub no_answer : (shape : TreeShape) (size : ℕ) (opening : List ℕ) → reply (plain_shape shape size) (file_after shape size opening (events_in old)) event ≡ None
+  pub no_sync : (found : Option ℕ) → from_after found event ≡ found
+  pub on : IsStepOn (tree_in old) (events_in old) event page step
+  -- its step writes nothing of its own
+  pub brings : (base next' next'' : List ℕ) → AreBrought (tree_in old) sent.brings step (sides_in old page) base next' → AreBrought (tree_in old) sent.brings step (sides_in old page) base next''
+
+module _ (old new : EngineSeen) (event : Event) (bytes : List ℕ) (page : ℕ) (step : Step) (sound : IsSound old) (m : IsMessage old new event bytes page step) where
+  abbrev entry : Entry
+  entry = record { event = event; answer = None; bytes = bytes }
+
+  true_to : IsTrueTo (tree_in old) (file_in old).page_size (file_in old).pages (events_in old ++ event ∷ []) (sides_in new)
+  true_to = rights_step (tree_in old) (file_in old).page_size (file_in old).pages (events_in old) event page step m.sent.brings (sides_in old) (sides_in new) sound.true_to m.next m.on m.sent.sent
+
+  number : (c : ℕ) → caller_of event ≡ Some c → number_of event ≡ length (mine (events_in old) c)
+  number c is = absurd (let both : None ≡ Some c = sym m.quiet ∙ is in cc)
+
+  pub sent_engine : (sheet sheet' : Sheet) (granted granted' : List Bool) → IsEngine old sheet granted → IsBooked new event sheet sheet' granted granted' → IsEngine new sheet' granted'
+  sent_engine sheet sheet' granted granted' is book = record {
+    sound = sound_entered old new entry sound m.file m.log m.next m.few m.call true_to m.size number;
+    sheet_is = sheet_entered old new entry sound m.file m.log m.next m.few m.call true_to sheet sheet' is.sheet_is book.nodes book.pages book.state;
+    granted_are = granted_entered old new entry sound m.file m.log m.next m.few m.call true_to granted granted' is.granted_are book.len
+        (λ p inside. book.flags p (subst (λ (n : ℕ). p < n) (sym is.sheet_is.pages_are) inside));
+  }
+
+  pub sent_enters : ((opening : List ℕ) → IsOf opening old → IsFilled (tree_in old) (file_in old).page_size opening (events_in old) event)
+      → ((opening : List ℕ) → IsOf opening old → (p : ℕ) → is_granted_in p (events_in old) ≡ false → is_grant_of p event ≡ true → bytes ≡ page_in (file_in old).page_size opening p)
+      → Enters entry old new
+  sent_enters filled kept = record {
+    goes = record {
+      file = m.file;
+      call = m.call;
+      of = λ opening of. of_entered old new entry sound m.file m.log m.next m.few m.call true_to opening of
+          (bytes_step (tree_in old) (file_in old).page_size (file_in old).pages opening (events_in old) event page step m.sent.brings (sides_in old) (sides_in new) old.ground.pages new.ground.pages
+          sound.true_to m.next m.on m.sent.sent of.began (filled opening of)
+          (λ base tells. m.brings (base page) [] (page_next (tree_in old) (file_in old).page_size opening (events_in old) event page) (m.sent.brought base [] of.began.is_told tells)) m.ground)
+          (kept opening of) (m.no_answer (tree_in old) (file_in old).page_size opening) (m.no_sync (last_from (events_in old)));
+    };
+    log = m.log;
+    calm = m.calm;
+  }
+
+-- A PUSH
+
+-- what a push is, whatever question asks for it
+pub record IsPlain (event : Event) : Type 0 where
+  pub quiet : caller_of event ≡ None
+  pub no_answer : (shape : TreeShape) (size : ℕ) (opening : List ℕ) (trail : List Event) → reply (plain_shape shape size) (file_after shape size opening trail) event ≡ None
+  pub no_sync : (found : Option ℕ) → from_after found event ≡ found
+  pub filled : (shape : TreeShape) (size : ℕ) (opening : List ℕ) (trail : List Event) → IsFilled shape size opening trail event
+  pub no_grant : (page : ℕ) → is_grant_of page event ≡ false
+  pub stands : (old new : EngineSeen) → StandsFor old new event event
+  pub no_bytes : (old new : EngineSeen) → bytes_kept old new event ≡ []
+
+pub push_plain : (what : Asked) (node page : ℕ) → IsPush what → IsPlain (event_asked what node page)
+push_plain Asked.WriteOut node page push = record { quiet = refl; no_answer = λ s n o t. refl; no_sync = λ f. refl; filled = λ s n o t. tt; no_grant = λ p. refl; stands = λ o n. refl; no_bytes = λ o n. refl }
+push_plain Asked.Sync node page push = record { quiet = refl; no_answer = λ s n o t. refl; no_sync = λ f. refl; filled = λ s n o t. tt; no_grant = λ p. refl; stands = λ o n. refl; no_bytes = λ o n. refl }
+push_plain Asked.PageInRead node page push = absurd push
+push_plain Asked.PageInWrite node page push = absurd push
+push_plain Asked.PageOut node page push = absurd push
+push_plain Asked.Done node page push = absurd push
+
+pub order_plain : (what : Called) (node page : ℕ) → what ≢ Called.Destroy → IsPlain (event_called what node page)
+order_plain Called.FlushBack node page other = record { quiet = refl; no_answer = λ s n o t. refl; no_sync = λ f. refl; filled = λ s n o t. tt; no_grant = λ p. refl; stands = λ o n. refl; no_bytes = λ o n. refl }
+order_plain Called.DenyWrites node page other = record { quiet = refl; no_answer = λ s n o t. refl; no_sync = λ f. refl; filled = λ s n o t. tt; no_grant = λ p. refl; stands = λ o n. refl; no_bytes = λ o n. refl }
+order_plain Called.WriteBack node page other = record { quiet = refl; no_answer = λ s n o t. refl; no_sync = λ f. refl; filled = λ s n o t. tt; no_grant = λ p. refl; stands = λ o n. refl; no_bytes = λ o n. refl }
+order_plain Called.DeleteRange node page other = record { quiet = refl; no_answer = λ s n o t. refl; no_sync = λ f. refl; filled = λ s n o t. tt; no_grant = λ p. refl; stands = λ o n. refl; no_bytes = λ o n. refl }
+order_plain Called.Destroy node page other = absurd (other refl)
+
+-- such a step brings nothing that its place decides
+pub push_brings : (what : Asked) (node : ℕ) → IsPush what → (shape : TreeShape) (brings : Option (List ℕ)) (sides : ℕ → Side) (base next' next'' : List ℕ) → AreBrought shape brings (step_asked what node) sides base next' → AreBrought shape brings (step_asked what node) sides base next''
+push_brings Asked.WriteOut node push shape brings sides base next' next'' h = h
+push_brings Asked.Sync node push shape brings sides base next' next'' h = h
+push_brings Asked.PageInRead node push shape brings sides base next' next'' h = absurd push
+push_brings Asked.PageInWrite node push shape brings sides base next' next'' h = absurd push
+push_brings Asked.PageOut node push shape brings sides base next' next'' h = absurd push
+push_brings Asked.Done node push shape brings sides base next' next'' h = absurd push
+
+pub order_brings : (what : Called) (node : ℕ) (shape : TreeShape) (brings : Option (List ℕ)) (sides : ℕ → Side) (base next' next'' : List ℕ) → AreBrought shape brings (step_called what node) sides base next' → AreBrought shape brings (step_called what node) sides base next''
+order_brings Called.FlushBack node shape brings sides base next' next'' h = h
+order_brings Called.DenyWrites node shape brings sides base next' next'' h = h
+order_brings Called.WriteBack node shape brings sides base next' next'' h = h
+order_brings Called.DeleteRange node shape brings sides base next' next'' h = h
+order_brings Called.Destroy node shape brings sides base next' next'' h = h
+
+pub plain_sends : (old new : EngineSeen) (event : Event) (page : ℕ) (step : Step) → IsSound old → IsPlain event → IsMessage old new event [] page step → (event' : Event) → event' ≡ event → new.trail.spare ≡ old.trail.spare → Sends event old new event'
+plain_sends old new event page step sound plain m event' is spare = subst (λ (e : Event). Sends event old new e) (sym is) (record {
+  stands = plain.stands old new;
+  enters = subst (λ (bytes : List ℕ). Enters (record { event = event; answer = None; bytes = bytes }) old new) (sym (plain.no_bytes old new))
+      (sent_enters old new event [] page step sound m (λ opening of. plain.filled (tree_in old) (file_in old).page_size opening (events_in old))
+      (λ opening of p none grant. absurd (let both : true ≡ false = sym grant ∙ plain.no_grant p in cc)));
+  spare = spare;
+})
+
+-- A GRANT
+
+pub grant_on : (shape : TreeShape) (trail : List Event) (zeros : Bool) (node page : ℕ) (write : Bool) → IsStepOn shape trail (event_granted zeros node page write) page (Grants node write)
+grant_on shape trail true node page write = λ p. refl
+grant_on shape trail false node page write = λ p. refl
+
+pub grant_quiet : (zeros : Bool) (node page : ℕ) (write : Bool) → caller_of (event_granted zeros node page write) ≡ None
+grant_quiet true node page write = refl
+grant_quiet false node page write = refl
+
+pub grant_no_answer : (old : EngineSeen) (zeros : Bool) (node page : ℕ) (write : Bool) (shape : TreeShape) (size : ℕ) (opening : List ℕ) → reply (plain_shape shape size) (file_after shape size opening (events_in old)) (event_granted zeros node page write) ≡ None
+grant_no_answer old true node page write shape size opening = refl
+grant_no_answer old false node page write shape size opening = refl
+
+pub grant_no_sync : (zeros : Bool) (node page : ℕ) (write : Bool) (found : Option ℕ) → from_after found (event_granted zeros node page write) ≡ found
+grant_no_sync true node page write found = refl
+grant_no_sync false node page write found = refl
+
+-- a grant that found zeros for a node that had nothing may come next as a ZeroFill
+pub grant_next : (old : EngineSeen) (zeros : Bool) (node page : ℕ) (write : Bool) → IsNext old (events.PageIn node page write) → (zeros ≡ true → (column_in old page).right node ≡ Right.Nothing) → IsNext old (event_granted zeros node page write)
+grant_next old false node page write next none = next
+grant_next old true node page write next none = record { fits = next.fits; allowed = record { upper = next.allowed.upper; line = (none refl, next.allowed.line.0, next.allowed.line.1) } }
+
+grant_of : (zeros : Bool) (node page p : ℕ) (write : Bool) → is_grant_of p (event_granted zeros node page write) ≡ is_grant_of p (events.PageIn node page write)
+grant_of true node page p write = refl
+grant_of false node page p write = refl
+
+module _ (old new : EngineSeen) (sound : IsSound old) (node page : ℕ) (write zeros : Bool) (asked : IsNext old (events.PageIn node page write))
+    (bytes : List ℕ) (m : IsMessage old new (event_granted zeros node page write) bytes page (Grants node write))
+    (found : zeros ≡ true → FindsZeros old new node page) (missed : zeros ≡ false → FindsZeros old new node page → ⊥) (bytes_are : bytes ≡ bytes_kept old new (events.PageIn node page write)) where
+  filled : (opening : List ℕ) → IsOf opening old → (z : Bool) → z ≡ zeros → IsFilled (tree_in old) (file_in old).page_size opening (events_in old) (event_granted z node page write)
+  filled opening of true e = let f = found (sym e) in
+      grant_zeros (tree_in old) (file_in old).page_size (file_in old).pages opening (events_in old) node page write (sides_in old) (sides_in new) old.ground.pages sound.true_to asked m.sent of.began f.nothing f.zeros
+  filled opening of false e =
+      grant_others (tree_in old) (file_in old).page_size (file_in old).pages opening (events_in old) node page write (sides_in old) (sides_in new) old.ground.pages sound.true_to asked m.sent of.began
+      (λ none zero. missed (sym e) (record { nothing = none; zeros = zero }))
+
+  kept : (opening : List ℕ) → IsOf opening old → (p : ℕ) → is_granted_in p (events_in old) ≡ false → is_grant_of p (event_granted zeros node page write) ≡ true → bytes ≡ page_in (file_in old).page_size opening p
+  kept opening of p none grant =
+      let same : p ≡ page = own_page p page (sym (grant_of zeros node page p write) ∙ grant) in
+      let none' : is_granted_in page (events_in old) ≡ false = subst (λ (q : ℕ). is_granted_in q (events_in old) ≡ false) same none in
+      bytes_are
+      ∙ ap (λ b. cond b [] (sides_in new page node).copy) none'
+      ∙ grant_kept (tree_in old) (file_in old).page_size (file_in old).pages opening (events_in old) node page write (sides_in old) (sides_in new) old.ground.pages sound.true_to asked m.sent of.began none'
+      ∙ ap (page_in (file_in old).page_size opening) (sym same)
+    where
+      own_page : (a b : ℕ) → (a == b) ≡ true → a ≡ b
+      own_page a b e = grind (arith, nat_tests)
+
+  stands : (z : Bool) → z ≡ zeros → StandsFor old new (events.PageIn node page write) (event_granted z node page write)
+  stands true e = ((λ f. refl), (λ no'. absurd (no' (found (sym e)))))
+  stands false e = ((λ f. absurd (missed (sym e) f)), (λ no'. refl))
+
+  pub grant_sends : (event : Event) → event ≡ event_granted zeros node page write → new.trail.spare ≡ old.trail.spare → Sends (events.PageIn node page write) old new event
+  grant_sends event is spare = subst (λ (e : Event). Sends (events.PageIn node page write) old new e) (sym is) (record {
+    stands = stands zeros refl;
+    enters = subst (λ (b : List ℕ). Enters (record { event = event_granted zeros node page write; answer = None; bytes = b }) old new) bytes_are
+        (sent_enters old new (event_granted zeros node page write) bytes page (Grants node write) sound m (λ opening of. filled opening of zeros refl) kept);
+    spare = spare;
+  })
+
+-- FROM WHAT THE CODE DID
+
+pub message_of : (old mid new : EngineSeen) (r : ℕ) → mid ≡ roomy old r → (event : Event) (entry : Entry) → entry ≡ record { event = event; answer = None; bytes = [] } → (page : ℕ) (step : Step)
+    → IsSameFile mid.tables new.tables → IsOneCall mid.ground new.ground → IsCalmCall mid.ground new.ground → (sent : IsSent (tree_in mid) mid.ground.pages page step (sides_in mid) (sides_in new))
+    → new.ground.pages ≡ pages_given page (given_up (tree_in mid) step (sides_in mid page)) mid.ground.pages
+    → new.trail.log ≡ mid.trail.log ++ Entered entry ∷ [] → new.trail.page_size ≡ mid.trail.page_size → place_of (log_in old) < MAX_EVENTS → IsNext old event → IsPlain event
+    → IsStepOn (tree_in old) (events_in old) event page step
+    → ((shape : TreeShape) (brings : Option (List ℕ)) (sides : ℕ → Side) (base next' next'' : List ℕ) → AreBrought shape brings step sides base next' → AreBrought shape brings step sides base next'') → IsMessage mid new event [] page step
+message_of old mid new r is event given same page step file call calm sent ground log size few next plain on brings = record {
+  file = file;
+  call = call;
+  calm = calm;
+  sent = sent;
+  ground = ground;
+  log = log ∙ ap (λ (x : Entry). mid.trail.log ++ Entered x ∷ []) same;
+  size = size;
+  few = subst (λ (e : EngineSeen). place_of (log_in e) < MAX_EVENTS) (sym is) few;
+  next = subst (λ (e : EngineSeen). IsNext e event) (sym is) next;
+  quiet = plain.quiet;
+  no_answer = λ shape size opening. plain.no_answer shape size opening (events_in mid);
+  no_sync = plain.no_sync;
+  on = subst (λ (e : EngineSeen). IsStepOn (tree_in e) (events_in e) event page step) (sym is) on;
+  brings = λ base next' next''. brings (tree_in mid) sent.brings (sides_in mid page) base next' next'';
+}

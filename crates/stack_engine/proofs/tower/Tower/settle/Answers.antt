@@ -1,0 +1,13 @@
+use Rattle.std.proofs.Common.{ap, subst}
+use Rattle.stack_engine.specs.Moves.{Sends}
+use Rattle.stack_engine.specs.Plans.{SettlesBy}
+use Rattle.stack_engine.specs.Tower.{TowerSeen}
+use Rattle.stack_engine.proofs.Driving as driving
+use Rattle.stack_engine.proofs.tower.Tower.settle.Goals as goal
+
+pub returns-in-Ok-clause-advances : goal.returns-in-Ok-clause-advances
+returns-in-Ok-clause-advances g c = λ number.
+    driving.settles_of c.args.self.now (record { engine = c.message.new.self; turns = c.self.inside.turns.items }) c.args.page c.args.node c.args.from c.args.keep c.next_push-event.result c.in-Ok.event c.requires.lowest
+    (subst (λ (t : TowerSeen). SettlesBy t.engine c.args.page c.args.node c.args.from c.args.keep c.next_push-event.result) c.self.view_is c.next_push-event.ensures.settles)
+    (subst (λ (t : TowerSeen). Sends c.next_push-event.result t.engine c.message.new.self c.in-Ok.event) c.self.view_is c.in-Ok.ensures.sends)
+    (ap (λ (t : TowerSeen). t.turns) c.self.view_is)

@@ -1,0 +1,81 @@
+-- What contracts see of a file's engine: the ground, the tables of the nodes above it, and the log.
+use Rattle.std.specs.Prelude.{◌≡◌, ℕ, ◌<◌, ◌≤◌, List, length, slice_index_or, Bool, false}
+use Rattle.hist_plain.specs.declared.TheConstants.{MAX_EVENTS}
+use Rattle.hist_plain.specs.declared.event.Event.{Event}
+use Rattle.hist_plain.specs.History.{IsNumbered}
+use Rattle.tower_core.specs.declared.sheet.Sheet.{Sheet}
+use Rattle.tower_core.specs.Sheet.{nodes_of, pages_of, seen}
+use Rattle.tower_core.specs.Column.{Column}
+use Rattle.tower_core.specs.TreeShape.{TreeShape, frames_of, nodes}
+use Rattle.tower_core.specs.Trail.{State, state_of}
+use Rattle.tower_sides.specs.Side.{Side}
+use Rattle.tower_pages.specs.Granted.{is_granted_in}
+use Rattle.disk_layer.specs.Seen.{DiskSeen, Seen, faults_in, opened_in}
+use Rattle.page_messages.specs.declared.paged.PagedFile.{PagedFile}
+use Rattle.tower_tables.specs.declared.tables.Tables.{Tables}
+use Rattle.tower_tables.specs.Tables.{IsUnderFile, paged_of, sides, tree_of}
+use Rattle.tower_log.specs.declared.logged.Logged.{Logged}
+use Rattle.tower_log.specs.Log.{place_of, trail_of}
+use Rattle.tower_log.specs.Notes.{Rises, counts_of}
+use Rattle.tower_log.specs.Trail.{TrailSeen}
+use Rattle.tower_shows.specs.Began.{IsNextIn, IsTrueTo}
+
+pub record EngineSeen : Type 0 where
+  pub ground : Seen
+  pub tables : Tables
+  pub trail : TrailSeen
+
+abbrev pub tree_in : EngineSeen → TreeShape
+tree_in e = tree_of e.tables
+
+abbrev pub file_in : EngineSeen → PagedFile
+file_in e = paged_of e.tables
+
+abbrev pub sides_in : EngineSeen → ℕ → ℕ → Side
+sides_in e = sides e.tables
+
+abbrev pub log_in : EngineSeen → List Logged
+log_in e = e.trail.log
+
+abbrev pub events_in : EngineSeen → List Event
+events_in e = trail_of e.trail.log
+
+abbrev pub state_in : EngineSeen → State
+state_in e = state_of (tree_in e) (events_in e)
+
+abbrev pub column_in : EngineSeen → ℕ → Column
+column_in e page = (state_in e).column page
+
+-- the event may come next
+abbrev pub IsNext : EngineSeen → Event → Type 0
+IsNext e event = IsNextIn (tree_in e) (file_in e).page_size (file_in e).pages (events_in e) event
+
+-- the notes of each disk have rising counts, above its store's count when it was opened, and at most that count now
+abbrev pub NotesRise : List DiskSeen → List Logged → Type 0
+NotesRise disks log = (disk : ℕ) → Rises (opened_in disks disk) (faults_in disks disk) (counts_of disk log)
+
+-- WHAT HOLDS OF EVERY ENGINE, whatever its stores tell
+pub record IsSound (e : EngineSeen) : Type 0 where
+  pub true_to : IsTrueTo (tree_in e) (file_in e).page_size (file_in e).pages (events_in e) (sides_in e)
+  pub under : IsUnderFile e.ground (file_in e)
+  pub leafless : (node : ℕ) → frames_of (tree_in e) node ≡ 0
+  pub few : place_of (log_in e) ≤ MAX_EVENTS
+  pub numbered : IsNumbered (events_in e)
+  pub notes : NotesRise e.ground.disks (log_in e)
+  pub page_size : e.trail.page_size ≡ (file_in e).page_size
+
+-- the sheet stands at the end of the trail
+pub record IsSheetOf (e : EngineSeen) (sheet : Sheet) : Type 0 where
+  pub nodes_are : nodes_of sheet ≡ nodes (tree_in e)
+  pub pages_are : pages_of sheet ≡ (file_in e).pages
+  pub state_is : seen sheet ≡ state_in e
+
+-- a flag for each page: whether it was granted
+pub record AreGranted (e : EngineSeen) (granted : List Bool) : Type 0 where
+  pub len : length granted ≡ (file_in e).pages
+  pub flag : (page : ℕ) → page < (file_in e).pages → slice_index_or granted page false ≡ is_granted_in page (events_in e)
+
+pub record IsEngine (e : EngineSeen) (sheet : Sheet) (granted : List Bool) : Type 0 where
+  pub sound : IsSound e
+  pub sheet_is : IsSheetOf e sheet
+  pub granted_are : AreGranted e granted

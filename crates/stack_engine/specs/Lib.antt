@@ -1,0 +1,9 @@
+pub mod Engine
+pub mod Start
+pub mod Opened
+pub mod Messages
+pub mod Moves
+pub mod Accesses
+pub mod Plans
+pub mod Turns
+pub mod Tower

@@ -1,0 +1,55 @@
+-- What an engine's log, copies and disks have to do with the file that its trail began with, where the ground tells its
+-- pages.
+use Rattle.std.specs.Prelude.{◌≡◌, ℕ, ◌≤◌, List, take, slice_get, Option, Some, None, IfSome, Contains}
+use Rattle.std.specs.List.{fold}
+use Rattle.hist_plain.specs.declared.event.Event.{Event}
+use Rattle.hist_plain.specs.declared.event.Event.TheVariants as events
+use Rattle.hist_plain.specs.History.{page_in}
+use Rattle.hist_plain.specs.Plain.{reply}
+use Rattle.disk_format.specs.Image.{Imaged}
+use Rattle.disk_layer.specs.Seen.{live_in, pages_in}
+use Rattle.disk_layer.specs.Seen.{kept_in as kept_on}
+use Rattle.tower_core.specs.Legal.{file_after, plain_shape}
+use Rattle.tower_core.specs.TreeShape.{TreeShape}
+use Rattle.tower_log.specs.declared.logged.Entry.{Entry}
+use Rattle.tower_log.specs.declared.logged.Logged.{Logged}
+use Rattle.tower_log.specs.Log.{entries_of, kept_in, place_of, told_by, trail_of}
+use Rattle.tower_shows.specs.Began.{BeganWith}
+use Rattle.tower_shows.specs.Since.{AreSince, GroundIsSince}
+use Rattle.stack_engine.specs.Engine.{EngineSeen, events_in, file_in, log_in, sides_in, tree_in}
+
+-- each page that the log keeps is the file's, as the trail began
+abbrev pub KeepsPagesOf : ℕ → List ℕ → List Logged → Type 0
+KeepsPagesOf size opening log = (page : ℕ) (bytes : List ℕ) → kept_in page log ≡ Some bytes → bytes ≡ page_in size opening page
+
+-- EACH ANSWER of the log is the plain file's at its place
+abbrev pub AreAnswers : TreeShape → ℕ → List ℕ → List Logged → Type 0
+AreAnswers shape size opening log = (place : ℕ) (entry : Entry) → slice_get (entries_of log) place ≡ Some entry
+    → reply (plain_shape shape size) (file_after shape size opening (take place (trail_of log))) entry.event ≡ told_by entry
+
+-- from which place on the last completed sync has written the file
+abbrev pub from_after : Option ℕ → Event → Option ℕ
+from_after found (events.Synced caller number node from keep) = Some from
+from_after found event = found
+
+abbrev pub last_from : List Event → Option ℕ
+last_from trail = fold from_after None trail
+
+-- what is kept is pages as they were from a place on, if it is told
+abbrev pub KeepsSince : TreeShape → ℕ → List ℕ → List Event → ℕ → Option (Option Imaged) → Type 0
+KeepsSince shape size opening trail from kept =
+    IfSome (pages_in kept) (λ pages. (ps : List (List ℕ)) × (pages ≡ Some ps) × AreSince shape size opening trail from ps)
+
+-- WHAT A SYNC LEFT: from its own place on the ground shows the file as it was then or later, and so does what each live
+-- disk keeps
+pub record IsSynced (opening : List ℕ) (e : EngineSeen) (from : ℕ) : Type 0 where
+  pub reached : from ≤ place_of (log_in e)
+  pub ground : GroundIsSince (tree_in e) (file_in e).page_size (file_in e).pages opening (events_in e) from
+  pub disks : (disk : ℕ) → Contains (live_in e.ground.disks) disk → KeepsSince (tree_in e) (file_in e).page_size opening (events_in e) from (kept_on e.ground.disks disk)
+
+-- THE ENGINE IS OF THE FILE that began with these bytes
+pub record IsOf (opening : List ℕ) (e : EngineSeen) : Type 0 where
+  pub began : BeganWith (tree_in e) (file_in e).page_size (file_in e).pages opening (events_in e) (sides_in e) e.ground.pages
+  pub keeps : KeepsPagesOf (file_in e).page_size opening (log_in e)
+  pub answers : AreAnswers (tree_in e) (file_in e).page_size opening (log_in e)
+  pub synced : (from : ℕ) → last_from (events_in e) ≡ Some from → IsSynced opening e from

@@ -1,0 +1,23 @@
+//! One file over its ground: the layers above it, each with a table and copies of its own, moved one event at a time, and
+//! the log that they leave. An access or a sync is brought about by tries, between which other callers may act.
+#![tactic(auto)]
+
+mod accesses;
+mod book;
+mod engine;
+mod messages;
+mod moved;
+mod plans;
+mod refusal;
+mod syncs;
+mod tower;
+mod turns;
+
+pub use moved::Moved;
+pub use refusal::StepErr;
+pub use tower::Tower;
+pub use tower_log::{Entry, Logged, Note, Trail};
+pub use turns::{Turn, TurnOf};
+
+#[cfg(test)]
+mod tests;
