@@ -21,6 +21,8 @@ use Rattle.spr_report.specs.declared.status.Status.{Status}
 use Rattle.spr_report.specs.declared.status.Status.TheVariants as statuses
 use Rattle.idl_reader.specs.Why.{word_of as idl_word}
 use Rattle.idl_check.specs.Why.{word_of as unfit_word}
+use Rattle.idl_ops.specs.Names.{full_name}
+use Rattle.pager_channel.specs.declared.numbers.Ops.{Ops}
 use Rattle.run_texts.specs.declared.texts.TheConstants.{TEXT_LIMIT}
 use Rattle.run_texts.specs.declared.refusal.TextNames.{TextNames}
 use Rattle.run_texts.specs.declared.refusal.Refusal.{Refusal}
@@ -28,7 +30,7 @@ use Rattle.run_texts.specs.declared.refusal.Refusal.TheVariants as refusals
 use Rattle.run_texts.specs.Later.{later_line, later_call}
 use Rattle.run_texts.specs.Known.{unknown_line}
 use Rattle.run_texts.specs.Stacks.{IsText, SpellsStack, IsStackOf, IsRunnable}
-use Rattle.run_texts.specs.Interfaces.{HasInterfaces, IsInterfacesCause}
+use Rattle.run_texts.specs.Interfaces.{HasInterfaces, IsInterfacesCause, IsOpsCause}
 
 -- the names of the texts of a command; one that it does not have is empty
 pub record Names : Type 0 where
@@ -84,9 +86,10 @@ pub record HasScript (shelf : ShelfSeen) (name : List ℕ) (mount : Mount) (scri
   pub text_is : IsText shelf TEXT_LIMIT name text
   pub scripts : Scripts mount text script
 
--- the texts of these names are interfaces, a stack that mounts so and that a run builds, and this script
-pub record IsPrepared (shelf : ShelfSeen) (names : Names) (mount : Mount) (script : Script) : Type 0 where
-  pub interfaces : HasInterfaces shelf names.idl
+-- the texts of these names are interfaces with operations of these numbers, a stack that mounts so and that a run builds, and
+-- this script
+pub record IsPrepared (shelf : ShelfSeen) (names : Names) (mount : Mount) (script : Script) (ops : Ops) : Type 0 where
+  pub interfaces : HasInterfaces shelf names.idl ops
   pub stack_is : IsRunnable shelf names.stack mount
   pub script_is : HasScript shelf names.script mount script
 
@@ -119,13 +122,14 @@ IsRunCause before after stack name (refusals.ScriptUnknown line) = (after.faults
 IsRunCause before after stack name refusals.ScriptShelf = ((mount : Mount) × IsRunnable before stack mount) × Rose before.faults after.faults
 IsRunCause before after stack name refusal = IsRunnableCause before after stack refusal
 
--- A run's refusal has its cause: interfaces that are refused, or behind interfaces a stack or a script.
+-- A run's refusal has its cause: interfaces that are refused, or behind interfaces with each operation a stack or a script.
 abbrev pub IsCause : ShelfSeen → ShelfSeen → Names → Refusal → Type 0
 IsCause before after names (refusals.Idl place why) = IsInterfacesCause before after names.idl (refusals.Idl place why)
 IsCause before after names (refusals.IdlUnfit place why) = IsInterfacesCause before after names.idl (refusals.IdlUnfit place why)
+IsCause before after names (refusals.IdlMissing which) = IsOpsCause before after names.idl (refusals.IdlMissing which)
 IsCause before after names refusals.IdlShelf = Rose before.faults after.faults
 IsCause before after names refusals.Memory = after.faults ≡ before.faults
-IsCause before after names refusal = HasInterfaces before names.idl × IsRunCause before after names.stack names.script refusal
+IsCause before after names refusal = ((ops : Ops) × HasInterfaces before names.idl ops) × IsRunCause before after names.stack names.script refusal
 
 -- the stack of the name can be run, and this is the number of its file of a name
 pub record HasFile (shelf : ShelfSeen) (stack name : List ℕ) (mount : Mount) (file : ℕ) : Type 0 where
@@ -145,10 +149,15 @@ line_text kind line word = line_of (kind ∷ decimal line ∷ word ∷ [])
 abbrev pub shelf_text : List ℕ → List ℕ
 shelf_text name = line_of (codes "shelf" ∷ name ∷ [])
 
+-- an operation that interfaces lack
+abbrev pub missing_text : List ℕ → List ℕ
+missing_text name = line_of (codes "idl" ∷ codes "missing" ∷ name ∷ [])
+
 -- the text of a refusal; if memory ran out it is empty
 abbrev pub refusal_text : Names → Refusal → List ℕ
 refusal_text names (refusals.Idl place why) = line_text (codes "idl") place (idl_word why)
 refusal_text names (refusals.IdlUnfit place why) = line_text (codes "idl") place (unfit_word why)
+refusal_text names (refusals.IdlMissing which) = missing_text (full_name which)
 refusal_text names (refusals.Stack line why) = line_text (codes "stack") line (word_of why)
 refusal_text names (refusals.Unfit line rule) = line_text (codes "stack") line (codes "A" ++ decimal rule)
 refusal_text names (refusals.StackLater line) = line_text (codes "stack") line (codes "later")

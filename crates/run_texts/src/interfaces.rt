@@ -5,13 +5,15 @@ ghost use Rattle.idl_check.specs.FitsTogether.{FitsTogether};
 ghost use Rattle.idl_reader.specs.Tree.{DeclTree, idl_tree};
 ghost use Rattle.idl_reader.specs.Grammar.{AreDecls, IsTextOf};
 ghost use Rattle.run_texts.specs.Stacks.{SameTexts};
-ghost use Rattle.run_texts.specs.Interfaces.{AreLines, AreTablesOf, Declares, HasInterfaces, IsUnfitBy, RefusesInterfaces, IsInterfacesCause};
+ghost use Rattle.run_texts.specs.Interfaces.{AreLines, AreOps, AreTablesOf, Declares, HasInterfaces, IsUnfitBy, IsLackedBy, RefusesInterfaces, RefusesOps, IsInterfacesCause, IsOpsCause};
 
 use crate::refusal::Refusal;
 use crate::texts::read_text;
 use idl_check::{Checked, UnfitWhy, check};
+use idl_ops::ops_of;
 use idl_reader::{Idl, IdlWhy, read_idl};
 use idl_tables::{print_tables, tables};
+use pager_channel::Ops;
 use seen_values::{Bytes, Text};
 use spr_io::Shelf;
 use std::alloc::{AllocError, Global};
@@ -56,15 +58,31 @@ fn check_fit(alloc: Global, idl: &Idl) -> Result<Checked<'_>, Refusal>
     }
 }
 
-/// Checks that a text declares interfaces that fit together.
-fn check_text(alloc: Global, text: &[u8]) -> Result<(), Refusal>
+/// The numbers of the operations in the tables of a text.
+fn ops_in(alloc: Global, text: &[u8]) -> Result<Ops, Refusal>
     requires few { length text.now < 2 ^ 32 }
-    ensures ok { OnOk result ((decls : List DeclTree) × Declares text.now decls) }
-    ensures err { IfErr result (RefusesInterfaces text.now) }
+    ensures ok { IfOk result (λ ops. (decls : List DeclTree) × IsTextOf text.now decls × AreOps decls ops) }
+    ensures err { IfErr result (RefusesOps text.now) }
 {
     let idl = parse(alloc, text)?;
-    let _checked = check_fit(alloc, &idl)?;
-    Ok(())
+    let checked = check_fit(alloc, &idl)?;
+    find_ops(alloc, &checked)
+}
+
+/// The numbers of the operations in the tables of interfaces that fit together.
+fn find_ops(alloc: Global, checked: &Checked<'_>) -> Result<Ops, Refusal>
+    ensures ok { IfOk result (AreOps (idl_tree checked.now.idl)) }
+    ensures err { IfErr result (IsLackedBy (idl_tree checked.now.idl)) }
+{
+    let Ok(set) = tables(alloc, checked) else {
+        return Err(Refusal::Memory);
+    };
+    // Only for the proof: the tables are those of the declarations.
+    let _idl = set.idl();
+    match ops_of(&set) {
+        Ok(ops) => Ok(ops),
+        Err(which) => Err(Refusal::IdlMissing { which }),
+    }
 }
 
 /// The lines of the tables of a text.
@@ -102,18 +120,18 @@ pub fn read_tables<H: Shelf>(alloc: Global, shelf: &mut H, name: &Text) -> Resul
     tables_text(alloc, &text)
 }
 
-/// Reads the interfaces of a name, which fit together.
+/// Reads the interfaces of a name, which fit together, and gives the numbers of their operations.
 pub(crate) fn read_interfaces<H: Shelf>(
     alloc: Global,
     shelf: &mut H,
     name: &Text,
-) -> Result<(), Refusal>
-    ensures ok { OnOk result (HasInterfaces (H.told shelf.old) name.now) }
-    ensures err { IfErr result (IsInterfacesCause (H.told shelf.old) (H.told shelf.new) name.now) }
+) -> Result<Ops, Refusal>
+    ensures ok { IfOk result (HasInterfaces (H.told shelf.old) name.now) }
+    ensures err { IfErr result (IsOpsCause (H.told shelf.old) (H.told shelf.new) name.now) }
     ensures same { SameTexts (H.told shelf.old) (H.told shelf.new) }
     ensures calm { OnOk result ((H.told shelf.new).faults ≡ (H.told shelf.old).faults) }
     ensures later { (H.told shelf.old).faults ≤ (H.told shelf.new).faults }
 {
     let text = read_text(alloc, shelf, name, IDL_LIMIT, Refusal::IdlShelf)?;
-    check_text(alloc, &text)
+    ops_in(alloc, &text)
 }

@@ -2,12 +2,14 @@
 
 ghost use Rattle.std.specs.Prelude.{◌++◌};
 ghost use Rattle.spr_report.specs.declared.status.Status.TheVariants.{Refused, ShelfFault};
-ghost use Rattle.run_texts.specs.Refusal.{line_text, shelf_text, names_of, refusal_text, refusal_status};
+ghost use Rattle.run_texts.specs.Refusal.{line_text, shelf_text, missing_text, names_of, refusal_text, refusal_status};
 ghost use Rattle.spr_report.specs.Writing.{Finishes};
 
 use idl_check::UnfitWhy;
+use idl_ops::operation_name;
 use idl_reader::IdlWhy;
 use itoa::Buffer;
+use pager_channel::Operation;
 use script_text::ScriptWhy;
 use spr_io::Sink;
 use spr_report::{Status, finish};
@@ -29,6 +31,11 @@ pub enum Refusal {
         place: u32,
         /// The first reason.
         why: UnfitWhy,
+    },
+    /// The interfaces lack an operation.
+    IdlMissing {
+        /// The first that is missing.
+        which: Operation,
     },
     /// A line of the stack is none.
     Stack {
@@ -108,6 +115,17 @@ fn refuse_shelf<K: Sink>(sink: &mut K, name: &str) -> Status
     )
 }
 
+/// Ends a command whose interfaces lack an operation of a name.
+fn refuse_missing<K: Sink>(sink: &mut K, name: &str) -> Status
+    ensures { Finishes (K.told sink.old) (K.told sink.new) (missing_text name.now) Refused result }
+{
+    finish(
+        sink,
+        &[b"idl missing ", name.as_bytes(), b"\n"],
+        Status::Refused,
+    )
+}
+
 /// The names of the texts of a command; one that it does not have is empty.
 #[derive(Clone, Copy, Debug)]
 pub struct TextNames<'a> {
@@ -130,6 +148,7 @@ pub fn refuse<K: Sink>(sink: &mut K, names: &TextNames<'_>, refusal: Refusal) ->
         Refusal::IdlUnfit { place, why } => {
             refuse_line(sink, b"idl", place, b"", why.word().as_bytes())
         }
+        Refusal::IdlMissing { which } => refuse_missing(sink, operation_name(which)),
         Refusal::Stack { line, why } => {
             refuse_line(sink, b"stack", line, b"", why.word().as_bytes())
         }

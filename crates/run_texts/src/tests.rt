@@ -3,6 +3,7 @@
 use super::*;
 use idl_check::UnfitWhy;
 use idl_reader::IdlWhy;
+use pager_channel::{Operation, Ops};
 use script_text::{Script, ScriptWhy, parse_script};
 use seen_values::Text;
 use spr_io::{MemShelf, MemSink};
@@ -12,10 +13,23 @@ use stack_text::StackWhy;
 use std::alloc::Global;
 use std::test::Fail;
 
+/// Interfaces with each operation that a run looks for.
 const IDL: &[u8] =
+    b"interface pager { void page_in(); void page_out(); void write_out(); void sync(); void done_with_pager_object(); };\ninterface cache { void flush_back(); void deny_writes(); void write_back(); void delete_range(); void zero_fill(); void destroy_cache(); };\ninterface memory_object { void get_length(); void set_length(); void bind(); };\ninterface file : memory_object { void read(); void write(); void clear(); void sync(); };\n";
+
+/// The same, but a memory object has no `set_length`.
+const FIXED: &[u8] =
+    b"interface pager { void page_in(); void page_out(); void write_out(); void sync(); void done_with_pager_object(); };\ninterface cache { void flush_back(); void deny_writes(); void write_back(); void delete_range(); void zero_fill(); void destroy_cache(); };\ninterface memory_object { void get_length(); void bind(); };\ninterface file : memory_object { void read(); void write(); void clear(); void sync(); };\n";
+
+/// The same without the interface `cache`.
+const UNCACHED: &[u8] =
+    b"interface pager { void page_in(); void page_out(); void write_out(); void sync(); void done_with_pager_object(); };\ninterface memory_object { void get_length(); void set_length(); void bind(); };\ninterface file : memory_object { void read(); void write(); void clear(); void sync(); };\n";
+
+/// Interfaces that a run does not take.
+const SMALL: &[u8] =
     b"interface rights {\n};\ninterface file : rights {\n  bytes read(copy u64 offset);\n};\n";
 
-/// An inherited operation comes first.
+/// The tables of these.
 const TABLES: &[u8] = b"interface rights\ninterface file\n0 read file\n";
 
 const STACK: &[u8] = b"page 64\nfile f 2\ndisk d m\ncoherency c m d\n";
@@ -69,7 +83,7 @@ const UNKNOWN: [(&[u8], Option<u32>); 23] = [
 type Texts<'a> = (&'a [u8], &'a [u8], &'a [u8]);
 
 /// Texts with why one of them is refused, and the line that says so.
-const REFUSED: [(Texts<'static>, Refusal, &str); 16] = [
+const REFUSED: [(Texts<'static>, Refusal, &str); 19] = [
     (
         (b"struct s {\n  u8 ?;\n};\n", b"", b""),
         Refusal::Idl {
@@ -85,6 +99,27 @@ const REFUSED: [(Texts<'static>, Refusal, &str); 16] = [
             why: UnfitWhy::UnknownType,
         },
         "idl 14 unknown",
+    ),
+    (
+        (FIXED, b"", b""),
+        Refusal::IdlMissing {
+            which: Operation::SetLength,
+        },
+        "idl missing file.set_length",
+    ),
+    (
+        (UNCACHED, b"", b""),
+        Refusal::IdlMissing {
+            which: Operation::FlushBack,
+        },
+        "idl missing cache.flush_back",
+    ),
+    (
+        (SMALL, STACK, SCRIPT),
+        Refusal::IdlMissing {
+            which: Operation::PageIn,
+        },
+        "idl missing pager.page_in",
     ),
     (
         (IDL, b"page 64\nfile f two\n", b""),
@@ -266,7 +301,7 @@ fn read(
     alloc: Global,
     names: &TextNames<'_>,
     texts: Texts<'_>,
-) -> Result<Result<(Mounted, Script), Refusal>, Fail> {
+) -> Result<Result<(Mounted, Script, Ops), Refusal>, Fail> {
     let mut shelf = shelf_of(alloc, texts)?;
     let idl = Text::of(alloc, names.idl)?;
     let stack = Text::of(alloc, names.stack)?;
@@ -362,17 +397,19 @@ fn a_sink_that_fails(rt: HostRuntime) -> Result<(), Fail> {
 
 #[test]
 fn a_run(rt: HostRuntime) -> Result<(), Fail> {
-    let Ok((mount, script)) = read(rt.alloc(), &NAMES, (IDL, STACK, SCRIPT))? else {
+    let Ok((mount, script, ops)) = read(rt.alloc(), &NAMES, (IDL, STACK, SCRIPT))? else {
         return Err("the texts".into());
     };
     assert_eq!(rt; mount.nodes().len(), 2);
     assert_eq!(rt; script.phases.as_slice().len(), 1);
+    assert_eq!(rt; ops.number(Operation::SetLength), 1);
+    assert_eq!(rt; ops.number(Operation::Done), 4);
     Ok(())
 }
 
 #[test]
 fn one_text(rt: HostRuntime) -> Result<(), Fail> {
-    let mut shelf = shelf_of(rt.alloc(), (IDL, MIRRORED, STACK))?;
+    let mut shelf = shelf_of(rt.alloc(), (SMALL, MIRRORED, STACK))?;
     let interfaces = Text::of(rt.alloc(), "I")?;
     let mirrored = Text::of(rt.alloc(), "S")?;
     let plain = Text::of(rt.alloc(), "T")?;

@@ -14,6 +14,7 @@ use crate::known::unknown_line;
 use crate::later::{later_call, later_line};
 use crate::refusal::Refusal;
 use crate::stacks::accept_text;
+use pager_channel::Ops;
 use script_text::{Script, ScriptWhy, parse_script};
 use seen_values::Text;
 use spr_io::{Shelf, ShelfErr};
@@ -144,21 +145,22 @@ fn read_stack_and_script<H: Shelf>(
     Ok((mount, script))
 }
 
-/// Reads the interfaces, the stack and the script of these names, and mounts the stack. The script is one that a run of the
-/// stack makes.
+/// Reads the interfaces, the stack and the script of these names, mounts the stack, and gives the numbers of the interfaces'
+/// operations. The script is one that a run of the stack makes.
 pub fn read_run<H: Shelf>(
     alloc: Global,
     shelf: &mut H,
     idl: &Text,
     stack: &Text,
     name: &Text,
-) -> Result<(Mounted, Script), Refusal>
-    ensures ok { IfOk result (λ found. IsPrepared (H.told shelf.old) (record { idl = idl.now; stack = stack.now; script = name.now }) found.0 found.1) }
+) -> Result<(Mounted, Script, Ops), Refusal>
+    ensures ok { IfOk result (λ found. IsPrepared (H.told shelf.old) (record { idl = idl.now; stack = stack.now; script = name.now }) found.0 found.1 found.2) }
     ensures built { IfOk result (λ found. IsBuilt found.0) }
     ensures script { IfOk result (λ found. IsScript found.1 × (later_call found.1.phases ≡ None)) }
     ensures err { IfErr result (IsCause (H.told shelf.old) (H.told shelf.new) (record { idl = idl.now; stack = stack.now; script = name.now })) }
     ensures calm { OnOk result ((H.told shelf.new).faults ≡ (H.told shelf.old).faults) }
 {
-    read_interfaces(alloc, shelf, idl)?;
-    read_stack_and_script(alloc, shelf, stack, name)
+    let ops = read_interfaces(alloc, shelf, idl)?;
+    let (mount, script) = read_stack_and_script(alloc, shelf, stack, name)?;
+    Ok((mount, script, ops))
 }

@@ -1,5 +1,6 @@
 -- How a command ends, from how its parts ended.
 use Rattle.std.proofs.Common.{◌≡◌, ℕ, List, Some, subst}
+use Rattle.pager_channel.specs.declared.numbers.Ops.{Ops}
 use Rattle.script_text.specs.declared.script.Script.{Script}
 use Rattle.stack_accept.specs.Mount.{Mount}
 use Rattle.spr_io.specs.Texts.{SinkSeen}
@@ -26,9 +27,9 @@ pub ends-dumps : (stack name : List ℕ) (o : Outside) (mount : Mount) (file : �
     → Written (SaysDump mount o.bay o.bay_after (record { file = file; disk = 0 })) before after result → Written (SaysDumped stack name o) before after result
 ends-dumps stack name o mount file before after result has calm w = written-as before after result (λ text status said. dumps mount file has calm said) w
 
-pub ends-runs : (names : Names) (o : Outside) (mount : Mount) (script : Script) (before after : SinkSeen) (result : Status) → IsPrepared o.shelf names mount script → o.shelf_after.faults ≡ o.shelf.faults
+pub ends-runs : (names : Names) (o : Outside) (mount : Mount) (script : Script) (ops : Ops) (before after : SinkSeen) (result : Status) → IsPrepared o.shelf names mount script ops → o.shelf_after.faults ≡ o.shelf.faults
     → Written (SaysRun mount script o.bay o.bay_after) before after result → Written (SaysRan names o) before after result
-ends-runs names o mount script before after result prepared calm w = written-as before after result (λ text status said. runs mount script prepared calm said) w
+ends-runs names o mount script ops before after result prepared calm w = written-as before after result (λ text status said. runs mount script ops prepared calm said) w
 
 pub ends-check : (words : List (List ℕ)) (stack : List ℕ) (o : Outside) (before after : SinkSeen) (result : Status) → asked words ≡ Some (Check stack) → IsIdle o
     → Written (SaysCheck stack o.shelf o.shelf_after) before after result → Ends words o before after result

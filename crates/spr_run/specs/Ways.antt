@@ -1,5 +1,6 @@
 -- The ways in which a command ends, each with the text that it writes and its status. The line of the status follows the text.
 use Rattle.std.specs.Prelude.{◌≡◌, ℕ, List, [], codes, Some, None}
+use Rattle.pager_channel.specs.declared.numbers.Ops.{Ops}
 use Rattle.script_text.specs.declared.script.Script.{Script}
 use Rattle.stack_accept.specs.Mount.{Mount}
 use Rattle.spr_io.specs.Berth.{BaySeen}
@@ -72,9 +73,10 @@ pub data SaysDumped (stack name : List ℕ) (o : Outside) (text : List ℕ) (sta
       → SaysDump mount o.bay o.bay_after (record { file = file; disk = 0 }) text status → SaysDumped stack name o text status
   undumped : IsIdle o → Refuses (IsFileCause o.shelf o.shelf_after stack name) (only_stack stack) text status → SaysDumped stack name o text status
 
--- `run`: the script was run over the files of the stack, or they could not be opened; or a text is refused, or could not be read
+-- `run`: the interfaces have each operation, and the script was run over the files of the stack, or they could not be opened; or
+-- a text is refused, or could not be read
 pub data SaysRan (names : Names) (o : Outside) (text : List ℕ) (status : Status) : Type 0 where
-  runs : (mount : Mount) (script : Script) → IsPrepared o.shelf names mount script → o.shelf_after.faults ≡ o.shelf.faults
+  runs : (mount : Mount) (script : Script) (ops : Ops) → IsPrepared o.shelf names mount script ops → o.shelf_after.faults ≡ o.shelf.faults
       → SaysRun mount script o.bay o.bay_after text status → SaysRan names o text status
   unrun : IsIdle o → Refuses (IsCause o.shelf o.shelf_after names) names text status → SaysRan names o text status
 

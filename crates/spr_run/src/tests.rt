@@ -10,7 +10,16 @@ use std::sync::Wait;
 use std::test::Fail;
 use std::thread::Threads;
 
+/// Interfaces with each operation that a run looks for.
 const IDL: &[u8] =
+    b"interface pager { void page_in(); void page_out(); void write_out(); void sync(); void done_with_pager_object(); };\ninterface cache { void flush_back(); void deny_writes(); void write_back(); void delete_range(); void zero_fill(); void destroy_cache(); };\ninterface memory_object { void get_length(); void set_length(); void bind(); };\ninterface file : memory_object { void read(); void write(); void clear(); void sync(); };\n";
+
+/// The same, but a memory object has no `set_length`.
+const FIXED_IDL: &[u8] =
+    b"interface pager { void page_in(); void page_out(); void write_out(); void sync(); void done_with_pager_object(); };\ninterface cache { void flush_back(); void deny_writes(); void write_back(); void delete_range(); void zero_fill(); void destroy_cache(); };\ninterface memory_object { void get_length(); void bind(); };\ninterface file : memory_object { void read(); void write(); void clear(); void sync(); };\n";
+
+/// Interfaces that only `idl` takes.
+const SMALL_IDL: &[u8] =
     b"interface rights {\n};\ninterface file : rights {\n  bytes read(copy u64 offset);\n};\ninterface log : file {\n  void add(copy bytes data);\n};\n";
 
 /// A base that is not declared, at byte 14.
@@ -220,6 +229,8 @@ fn command_at<R: Threads + Wait + Sync, B: Bay>(
     let words = words_of(alloc, words)?;
     let mut shelf = MemShelf::new(alloc, outside.shelf)?;
     shelf.put(alloc, "I", IDL)?;
+    shelf.put(alloc, "fixed", FIXED_IDL)?;
+    shelf.put(alloc, "small", SMALL_IDL)?;
     shelf.put(alloc, "unknown", UNKNOWN_IDL)?;
     shelf.put(alloc, "bad", BAD_IDL)?;
     shelf.put(alloc, "S", stack)?;
@@ -276,7 +287,7 @@ const TABLES: &str =
 #[test]
 fn refusals(rt: HostRuntime) -> Result<(), Fail> {
     let usage = "usage: spring run, gen, check, format, dump or idl\nstatus 2\n";
-    let rows: [(&[&str], &[u8], &[u8], Status, &str); 14] = [
+    let rows: [(&[&str], &[u8], &[u8], Status, &str); 15] = [
         (&[], STACK, SCRIPT, Status::Usage, usage),
         (&["run", "I", "S"], STACK, SCRIPT, Status::Usage, usage),
         (&["idl", "I", "S"], b"", b"", Status::Usage, usage),
@@ -315,7 +326,14 @@ fn refusals(rt: HostRuntime) -> Result<(), Fail> {
             Status::Refused,
             "idl 14 unknown\nstatus 3\n",
         ),
-        (&["idl", "I"], b"", b"", Status::Good, TABLES),
+        (
+            &["run", "fixed", "S", "T"],
+            b"",
+            b"",
+            Status::Refused,
+            "idl missing file.set_length\nstatus 3\n",
+        ),
+        (&["idl", "small"], b"", b"", Status::Good, TABLES),
         (
             &["idl", "bad"],
             b"",

@@ -21,8 +21,8 @@ use std::thread::Threads;
 
 const USAGE: &[u8] = b"usage: spring run, gen, check, format, dump or idl\n";
 
-/// Runs the script of a name over the files of the stack of a name, where the interfaces of a name fit together, and writes how
-/// that ended.
+/// Runs the script of a name over the files of the stack of a name, where the interfaces of a name fit together and have
+/// each operation, and writes how that ended.
 fn run_named<H: Shelf, B: Bay, K: Sink>(
     alloc: Global,
     idl: &Text,
@@ -35,7 +35,7 @@ fn run_named<H: Shelf, B: Bay, K: Sink>(
     ensures ends { Written (SaysRan (record { idl = idl.now; stack = stack.now; script = name.now }) (outside (H.told shelf.old) (H.told shelf.new) (B.told bay.old) (B.told bay.new))) (K.told sink.old) (K.told sink.new) result }
 {
     match read_run(alloc, shelf, idl, stack, name) {
-        Ok((mount, script)) => run_files(alloc, &mount, &script, bay, sink),
+        Ok((mount, script, _ops)) => run_files(alloc, &mount, &script, bay, sink),
         Err(refusal) => {
             let names = TextNames {
                 idl: idl.as_str(),

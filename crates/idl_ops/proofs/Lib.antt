@@ -1,0 +1,3 @@
+pub mod OwnNumbers
+pub mod Missing
+pub mod SoFar
