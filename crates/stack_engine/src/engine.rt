@@ -26,6 +26,7 @@ use tower_log::Trail;
 use tower_tables::Tables;
 
 /// A file's ground, the tables of the layers above it, and what is written down of it.
+#[derive(Drop)]
 pub(crate) struct Engine<G: Ground> {
     pub(crate) alloc: Global,
     pub(crate) ground: G,

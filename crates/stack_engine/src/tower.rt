@@ -39,6 +39,7 @@ use tower_log::Trail;
 /// A file over its ground: the layers above it, each with a table and copies of its own, the log of all that happened, and
 /// whose turn it is. Calls try an access or a sync, and enter one event at most, so that other callers may act between
 /// two tries.
+#[derive(Drop)]
 pub struct Tower<G: Ground> {
     engine: Engine<G>,
     turns: Vec<Turn>,

@@ -1,0 +1,5 @@
+pub mod Laters
+pub mod Calling
+pub mod Whole
+pub mod Few
+pub mod Trying
