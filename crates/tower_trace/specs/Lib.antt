@@ -1,0 +1,4 @@
+pub mod Exchange
+pub mod Heads
+pub mod Names
+pub mod Letters
