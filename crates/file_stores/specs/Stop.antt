@@ -6,7 +6,7 @@ use Rattle.text_words.specs.Lines.{line_of}
 use Rattle.stack_accept.specs.Mount.{Mount}
 use Rattle.run_defs.specs.declared.store.StoreKey.{StoreKey}
 use Rattle.run_defs.specs.Stack.{disk_name, file_name}
-use Rattle.run_defs.specs.Report.{lost_line}
+use Rattle.spr_report.specs.Report.{lost_line}
 use Rattle.spr_report.specs.declared.status.Status.{Status}
 use Rattle.spr_report.specs.declared.status.Status.TheVariants as statuses
 use Rattle.disk_format.specs.declared.why.ImageWhy.{ImageWhy}

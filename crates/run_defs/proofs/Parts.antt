@@ -5,41 +5,38 @@ use Rattle.std.proofs.lemmas.List.{append-nil, map-append}
 use Rattle.std.proofs.lemmas.Grind.{flat_map-append}
 use Rattle.hist_plain.specs.declared.event.Event.{Event}
 use Rattle.hist_plain.specs.declared.event.Event.TheVariants as events
-use Rattle.hist_plain.specs.File.{Shape, File}
-use Rattle.hist_plain.specs.Plain.{Told, applied}
+use Rattle.hist_plain.specs.Plain.{Told}
 use Rattle.hist_plain.specs.History.{Entry, is_by}
 use Rattle.script_text.specs.declared.script.CallLine.{CallLine}
 use Rattle.script_text.specs.declared.script.Said.{Said}
 use Rattle.script_text.specs.declared.script.Reply.{Reply}
 use Rattle.script_text.specs.declared.script.Reply.TheVariants as replies
-use Rattle.run_defs.specs.declared.log.Logged.{Logged}
-use Rattle.run_defs.specs.declared.log.Logged.TheVariants.{Entered, Noted}
+use Rattle.tower_log.specs.declared.logged.Logged.{Logged}
+use Rattle.tower_log.specs.declared.logged.Logged.TheVariants.{Entered, Noted}
+use Rattle.tower_log.specs.Log.{trail_of, place_of}
 use Rattle.stack_accept.specs.Mount.{Mount}
 use Rattle.run_defs.specs.declared.client.ClientState.{ClientState}
-use Rattle.run_defs.specs.Stack.{shape_of}
-use Rattle.run_defs.specs.declared.log.History.{History}
-use Rattle.run_defs.specs.Log.{events_of, items_from, items, first_file, Item, entered, noted, who, by_caller, place_of, history_at, IsFull}
+use Rattle.run_defs.specs.Log.{items_from, items, Item, entered, noted, who, by_caller, log_at, IsFull}
 use Rattle.run_defs.specs.Plan.{Plan, ends, calls, unknown, Request, Ask, Made, Makes, Asks, Goes, Refuses, plan}
 use Rattle.run_defs.specs.Fits.{made_on, SyncsFrom, SyncsInOrder, GoesOn, Did, Went, Worked, Phased, Does, Line, Acts, InOrder, last_cut, lines_of, IsAnswered}
-use Rattle.run_defs.proofs.Logs.{length-events_of-append}
+use Rattle.run_defs.proofs.Logs.{length-trail_of-append}
 
-pub goes_on_same : (h k : History) → k ≡ h → GoesOn h k
-goes_on_same h k e = record { opening = ap (λ (x : History). x.opening) e; more = []; log = ap (λ (x : History). x.log) e ∙ sym (append-nil h.log) }
+pub goes_on_same : (h k : List Logged) → k ≡ h → GoesOn h k
+goes_on_same h k e = record { more = []; log = e ∙ sym (append-nil h) }
 
-pub goes_on_then : (a b c : History) → GoesOn a b → GoesOn b c → GoesOn a c
+pub goes_on_then : (a b c : List Logged) → GoesOn a b → GoesOn b c → GoesOn a c
 goes_on_then a b c f g = record {
-  opening = g.opening ∙ f.opening;
   more = f.more ++ g.more;
-  log = g.log ∙ (ap (λ (l : List Logged). l ++ g.more) f.log ∙ append_assoc a.log f.more g.more);
+  log = g.log ∙ (ap (λ (l : List Logged). l ++ g.more) f.log ∙ append_assoc a f.more g.more);
 }
 
-pub place_later : (a b : History) → GoesOn a b → place_of a ≤ place_of b
+pub place_later : (a b : List Logged) → GoesOn a b → place_of a ≤ place_of b
 place_later a b g =
-    let e : length (events_of b.log) ≡ length (events_of a.log) + length (events_of g.more) = ap (λ (l : List Logged). length (events_of l)) g.log ∙ length-events_of-append a.log g.more in
+    let e : length (trail_of b) ≡ length (trail_of a) + length (trail_of g.more) = ap (λ (l : List Logged). length (trail_of l)) g.log ∙ length-trail_of-append a g.more in
     omega arith
 
-pub full_later : (old new : List History) → ((file : ℕ) → GoesOn (history_at old file) (history_at new file)) → (file : ℕ) → IsFull old file → IsFull new file
-full_later old new g file full = let e = place_later (history_at old file) (history_at new file) (g file) in omega arith
+pub full_later : (old new : List (List Logged)) → ((file : ℕ) → GoesOn (log_at old file) (log_at new file)) → (file : ℕ) → IsFull old file → IsFull new file
+full_later old new g file full = let e = place_later (log_at old file) (log_at new file) (g file) in omega arith
 
 pub made_on-append : (file : ℕ) (xs ys : List Made) → made_on file (xs ++ ys) ≡ made_on file xs ++ made_on file ys
 made_on-append file [] ys = refl
@@ -52,10 +49,10 @@ Before n [] = Unit {0}
 Before n (entered e ∷ is) = (e.place < n) × Before n is
 Before n (noted caller disk count ∷ is) = Before n is
 
-before_items : (shape : Shape) (file : File) (place n : ℕ) (log : List Logged) → place + length (events_of log) ≤ n → Before n (items_from shape file place log)
-before_items shape file place n [] le = tt
-before_items shape file place n (Entered event ∷ log) le = (omega arith, before_items shape (applied shape file event) (suc place) n log (omega arith))
-before_items shape file place n (Noted note ∷ log) le = before_items shape file place n log le
+before_items : (place n : ℕ) (log : List Logged) → place + length (trail_of log) ≤ n → Before n (items_from place log)
+before_items place n [] le = tt
+before_items place n (Entered entry ∷ log) le = (omega arith, before_items (suc place) n log (omega arith))
+before_items place n (Noted note ∷ log) le = before_items place n log le
 
 before_cond : (n : ℕ) (b : Bool) (i : Item) (is : List Item) → Before n (i ∷ []) → Before n is → Before n (cond b (i ∷ is) is)
 before_cond n true (entered e) is h t = (h.0, t)
@@ -73,11 +70,11 @@ before_right n (entered e ∷ xs) ys h = before_right n xs ys h.1
 before_right n (noted caller disk count ∷ xs) ys h = before_right n xs ys h
 
 -- what was made stands before the end of the history
-made_before : (shape : Shape) (c : ℕ) (old new : List History) (made : List Made) → Did shape c old new made → (file : ℕ) → Before (place_of (history_at new file)) (made_on file made)
-made_before shape c old new made did file =
-    let h : History = history_at new file in
-    let all : Before (place_of h) (by_caller c (items shape h)) = before_by (place_of h) c (items shape h) (before_items shape (first_file shape h) 0 (place_of h) h.log (omega arith)) in
-    before_right (place_of h) (by_caller c (items shape (history_at old file))) (made_on file made) (subst (Before (place_of h)) (did.part file) all)
+made_before : (c : ℕ) (old new : List (List Logged)) (made : List Made) → Did c old new made → (file : ℕ) → Before (place_of (log_at new file)) (made_on file made)
+made_before c old new made did file =
+    let h : List Logged = log_at new file in
+    let all : Before (place_of h) (by_caller c (items h)) = before_by (place_of h) c (items h) (before_items 0 (place_of h) h (omega arith)) in
+    before_right (place_of h) (by_caller c (items (log_at old file))) (made_on file made) (subst (Before (place_of h)) (did.part file) all)
 
 pub syncs_from_le : (least least' : ℕ) (event : Event) → least' ≤ least → SyncsFrom least event → SyncsFrom least' event
 syncs_from_le least least' (events.Synced caller number node from keep) le h = omega (arith, le, h)
@@ -94,25 +91,25 @@ syncs_then least mid (entered e ∷ xs) ys le b h k = (h.0, syncs_then (suc e.pl
 syncs_then least mid (noted caller disk count ∷ xs) ys le b h k = syncs_then least mid xs ys le b h k
 
 -- one thing after another
-pub did_then : (shape : Shape) (c : ℕ) (old mid new : List History) (xs ys : List Made) → Did shape c old mid xs → Did shape c mid new ys → Did shape c old new (xs ++ ys)
-did_then shape c old mid new xs ys f g = record {
-  later = λ file. goes_on_then (history_at old file) (history_at mid file) (history_at new file) (f.later file) (g.later file);
+pub did_then : (c : ℕ) (old mid new : List (List Logged)) (xs ys : List Made) → Did c old mid xs → Did c mid new ys → Did c old new (xs ++ ys)
+did_then c old mid new xs ys f g = record {
+  later = λ file. goes_on_then (log_at old file) (log_at mid file) (log_at new file) (f.later file) (g.later file);
   part = λ file. g.part file ∙ (ap (λ (is : List Item). is ++ made_on file ys) (f.part file)
-      ∙ (append_assoc (by_caller c (items shape (history_at old file))) (made_on file xs) (made_on file ys) ∙ ap (λ (is : List Item). by_caller c (items shape (history_at old file)) ++ is) (sym (made_on-append file xs ys))));
-  syncs = λ file. subst (SyncsInOrder (place_of (history_at old file))) (sym (made_on-append file xs ys))
-      (syncs_then (place_of (history_at old file)) (place_of (history_at mid file)) (made_on file xs) (made_on file ys) (place_later (history_at old file) (history_at mid file) (f.later file)) (made_before shape c old mid xs f file) (f.syncs file) (g.syncs file));
+      ∙ (append_assoc (by_caller c (items (log_at old file))) (made_on file xs) (made_on file ys) ∙ ap (λ (is : List Item). by_caller c (items (log_at old file)) ++ is) (sym (made_on-append file xs ys))));
+  syncs = λ file. subst (SyncsInOrder (place_of (log_at old file))) (sym (made_on-append file xs ys))
+      (syncs_then (place_of (log_at old file)) (place_of (log_at mid file)) (made_on file xs) (made_on file ys) (place_later (log_at old file) (log_at mid file) (f.later file)) (made_before c old mid xs f file) (f.syncs file) (g.syncs file));
 }
 
-pub did_nothing : (shape : Shape) (c : ℕ) (old new : List History) → new ≡ old → Did shape c old new []
-did_nothing shape c old new e = record {
-  later = λ file. goes_on_same (history_at old file) (history_at new file) (ap (λ (hs : List History). history_at hs file) e);
-  part = λ file. ap (λ (hs : List History). by_caller c (items shape (history_at hs file))) e ∙ sym (append-nil (by_caller c (items shape (history_at old file))));
+pub did_nothing : (c : ℕ) (old new : List (List Logged)) → new ≡ old → Did c old new []
+did_nothing c old new e = record {
+  later = λ file. goes_on_same (log_at old file) (log_at new file) (ap (λ (hs : List (List Logged)). log_at hs file) e);
+  part = λ file. ap (λ (hs : List (List Logged)). by_caller c (items (log_at hs file))) e ∙ sym (append-nil (by_caller c (items (log_at old file))));
   syncs = λ file. tt;
 }
 
 -- what a caller did, and then nothing
-pub did_after : (shape : Shape) (c : ℕ) (old mid new : List History) (made : List Made) → Did shape c old mid made → Did shape c mid new [] → Did shape c old new made
-did_after shape c old mid new made f g = subst (Did shape c old new) (append-nil made) (did_then shape c old mid new made [] f g)
+pub did_after : (c : ℕ) (old mid new : List (List Logged)) (made : List Made) → Did c old mid made → Did c mid new [] → Did c old new made
+did_after c old mid new made f g = subst (Did c old new) (append-nil made) (did_then c old mid new made [] f g)
 
 refuses_later : (A B : Type 0) (said : Reply) → (A → B) → Refuses A said → Refuses B said
 refuses_later A B replies.TrailFull f h = f h
@@ -141,48 +138,48 @@ does_later mount F G f c state (line ∷ lines) made (s ∷ said) left h =
     (h.0, h.1, h.2, h.3, h.4, line_later F G f c state (plan mount state line.call) h.0 s.reply h.2 h.5, does_later mount F G f c h.2 lines h.1 said left h.6)
 
 -- a plan that makes no call
-pub went_none : (shape : Shape) (c : ℕ) (kept : ClientState) (p : Plan) (old : List History) (reply : Reply) (left : ClientState) → p ≡ ends reply left → Went shape c kept p old old reply left
-went_none shape c kept p old reply left is = record {
+pub went_none : (c : ℕ) (kept : ClientState) (p : Plan) (old : List (List Logged)) (reply : Reply) (left : ClientState) → p ≡ ends reply left → Went c kept p old old reply left
+went_none c kept p old reply left is = record {
   made = [];
-  did = did_nothing shape c old old refl;
+  did = did_nothing c old old refl;
   goes = inl (subst (λ (q : Plan). Goes (IsFull old) c q [] reply left) (sym is) (refl, refl));
 }
 
 -- a line for which memory lacked
-pub went_lacks : (shape : Shape) (c : ℕ) (kept : ClientState) (p : Plan) (old : List History) → Went shape c kept p old old replies.Memory kept
-went_lacks shape c kept p old = record { made = []; did = did_nothing shape c old old refl; goes = inr (record { nothing = refl; memory = refl; same = refl }) }
+pub went_lacks : (c : ℕ) (kept : ClientState) (p : Plan) (old : List (List Logged)) → Went c kept p old old replies.Memory kept
+went_lacks c kept p old = record { made = []; did = did_nothing c old old refl; goes = inr (record { nothing = refl; memory = refl; same = refl }) }
 
 -- a call that was answered, and what the plan does then
-pub went_call : (shape : Shape) (c : ℕ) (kept : ClientState) (p : Plan) (request : Request) (state : ClientState) (go_on : Told → Plan) (old mid new : List History) (e : Entry) (told : Told) (rest : List Made) (reply : Reply) (left : ClientState)
-    → p ≡ calls request state go_on → Did shape c old mid (record { file = request.file; item = entered e } ∷ []) → Asks c request.ask e.event → e.told ≡ Some told
-    → Did shape c mid new rest → Goes (IsFull new) c (go_on told) rest reply left → Went shape c kept p old new reply left
-went_call shape c kept p request state go_on old mid new e told rest reply left is did asks answered more goes = record {
+pub went_call : (c : ℕ) (kept : ClientState) (p : Plan) (request : Request) (state : ClientState) (go_on : Told → Plan) (old mid new : List (List Logged)) (e : Entry) (told : Told) (rest : List Made) (reply : Reply) (left : ClientState)
+    → p ≡ calls request state go_on → Did c old mid (record { file = request.file; item = entered e } ∷ []) → Asks c request.ask e.event → e.told ≡ Some told
+    → Did c mid new rest → Goes (IsFull new) c (go_on told) rest reply left → Went c kept p old new reply left
+went_call c kept p request state go_on old mid new e told rest reply left is did asks answered more goes = record {
   made = record { file = request.file; item = entered e } ∷ rest;
-  did = did_then shape c old mid new (record { file = request.file; item = entered e } ∷ []) rest did more;
+  did = did_then c old mid new (record { file = request.file; item = entered e } ∷ []) rest did more;
   goes = inl (subst (λ (q : Plan). Goes (IsFull new) c q (record { file = request.file; item = entered e } ∷ rest) reply left) (sym is) (refl, (asks, (told, answered, goes))));
 }
 
 -- a call whose store failed
-pub went_fault : (shape : Shape) (c : ℕ) (kept : ClientState) (p : Plan) (request : Request) (state : ClientState) (go_on : Told → Plan) (old new : List History) (disk count : ℕ)
-    → p ≡ calls request state go_on → Did shape c old new (record { file = request.file; item = noted c disk count } ∷ []) → Went shape c kept p old new (replies.Store disk count) state
-went_fault shape c kept p request state go_on old new disk count is did = record {
+pub went_fault : (c : ℕ) (kept : ClientState) (p : Plan) (request : Request) (state : ClientState) (go_on : Told → Plan) (old new : List (List Logged)) (disk count : ℕ)
+    → p ≡ calls request state go_on → Did c old new (record { file = request.file; item = noted c disk count } ∷ []) → Went c kept p old new (replies.Store disk count) state
+went_fault c kept p request state go_on old new disk count is did = record {
   made = record { file = request.file; item = noted c disk count } ∷ [];
   did = did;
   goes = inl (subst (λ (q : Plan). Goes (IsFull new) c q (record { file = request.file; item = noted c disk count } ∷ []) (replies.Store disk count) state) (sym is) (refl, (refl, (refl, refl, refl))));
 }
 
 -- a call that did nothing
-pub went_refused : (shape : Shape) (c : ℕ) (kept : ClientState) (p : Plan) (request : Request) (state : ClientState) (go_on : Told → Plan) (old new : List History) (reply : Reply)
-    → p ≡ calls request state go_on → Did shape c old new [] → Refuses (IsFull new request.file) reply → Went shape c kept p old new reply state
-went_refused shape c kept p request state go_on old new reply is did refused = record {
+pub went_refused : (c : ℕ) (kept : ClientState) (p : Plan) (request : Request) (state : ClientState) (go_on : Told → Plan) (old new : List (List Logged)) (reply : Reply)
+    → p ≡ calls request state go_on → Did c old new [] → Refuses (IsFull new request.file) reply → Went c kept p old new reply state
+went_refused c kept p request state go_on old new reply is did refused = record {
   made = [];
   did = did;
   goes = inl (subst (λ (q : Plan). Goes (IsFull new) c q [] reply state) (sym is) (refused, refl));
 }
 
 -- no line yet
-pub worked_none : (mount : Mount) (c : ℕ) (state : ClientState) (old : List History) → Worked mount c state [] old old [] state
-worked_none mount c state old = record { made = []; did = did_nothing (shape_of mount) c old old refl; does = (refl, refl, refl) }
+pub worked_none : (mount : Mount) (c : ℕ) (state : ClientState) (old : List (List Logged)) → Worked mount c state [] old old [] state
+worked_none mount c state old = record { made = []; did = did_nothing c old old refl; does = (refl, refl, refl) }
 
 -- lines done, and one more
 does_more : (mount : Mount) (F : ℕ → Type 0) (c : ℕ) (state : ClientState) (lines : List CallLine) (made : List Made) (said : List Said) (mid : ClientState) (line : CallLine) (next : List Made) (reply : Reply) (left : ClientState)
@@ -194,12 +191,12 @@ does_more mount F c state (l ∷ lines) made [] mid line next reply left does go
 does_more mount F c state (l ∷ lines) made (s ∷ said) mid line next reply left does goes =
     (does.0, does.1 ++ next, does.2, ap (λ (ms : List Made). ms ++ next) does.3 ∙ append_assoc does.0 does.1 next, does.4, does.5, does_more mount F c does.2 lines does.1 said mid line next reply left does.6 goes)
 
-pub worked_more : (mount : Mount) (c : ℕ) (state : ClientState) (lines : List CallLine) (old mid new : List History) (said : List Said) (kept : ClientState) (line : CallLine) (reply : Reply) (left : ClientState)
-    → Worked mount c state lines old mid said kept → Went (shape_of mount) c kept (plan mount kept line.call) mid new reply left
+pub worked_more : (mount : Mount) (c : ℕ) (state : ClientState) (lines : List CallLine) (old mid new : List (List Logged)) (said : List Said) (kept : ClientState) (line : CallLine) (reply : Reply) (left : ClientState)
+    → Worked mount c state lines old mid said kept → Went c kept (plan mount kept line.call) mid new reply left
     → Worked mount c state (lines ++ line ∷ []) old new (said ++ record { line = line.line; reply = reply } ∷ []) left
 worked_more mount c state lines old mid new said kept line reply left worked went = record {
   made = worked.made ++ went.made;
-  did = did_then (shape_of mount) c old mid new worked.made went.made worked.did went.did;
+  did = did_then c old mid new worked.made went.made worked.did went.did;
   does = does_more mount (IsFull new) c state lines worked.made said kept line went.made reply left
       (does_later mount (IsFull mid) (IsFull new) (full_later mid new went.did.later) c state lines worked.made said kept worked.does) went.goes;
 }
@@ -213,47 +210,47 @@ does_append mount F c state (l ∷ xs) ys made made' (s ∷ said) said' mid left
     (f.0, f.1 ++ made', f.2, ap (λ (ms : List Made). ms ++ made') f.3 ∙ append_assoc f.0 f.1 made', f.4, f.5, does_append mount F c f.2 xs ys f.1 made' said said' mid left f.6 g)
 
 -- lines done, and then more lines
-pub worked_append : (mount : Mount) (c : ℕ) (state : ClientState) (xs ys : List CallLine) (old mid new : List History) (said said' : List Said) (kept left : ClientState)
+pub worked_append : (mount : Mount) (c : ℕ) (state : ClientState) (xs ys : List CallLine) (old mid new : List (List Logged)) (said said' : List Said) (kept left : ClientState)
     → Worked mount c state xs old mid said kept → Worked mount c kept ys mid new said' left → Worked mount c state (xs ++ ys) old new (said ++ said') left
 worked_append mount c state xs ys old mid new said said' kept left f g = record {
   made = f.made ++ g.made;
-  did = did_then (shape_of mount) c old mid new f.made g.made f.did g.did;
+  did = did_then c old mid new f.made g.made f.did g.did;
   does = does_append mount (IsFull new) c state xs ys f.made g.made said said' kept left
       (does_later mount (IsFull mid) (IsFull new) (full_later mid new g.did.later) c state xs f.made said kept f.does) g.does;
 }
 
 -- nothing, and then lines done
-pub worked_before : (mount : Mount) (c : ℕ) (state : ClientState) (lines : List CallLine) (old mid new : List History) (said : List Said) (left : ClientState)
-    → Did (shape_of mount) c old mid [] → Worked mount c state lines mid new said left → Worked mount c state lines old new said left
+pub worked_before : (mount : Mount) (c : ℕ) (state : ClientState) (lines : List CallLine) (old mid new : List (List Logged)) (said : List Said) (left : ClientState)
+    → Did c old mid [] → Worked mount c state lines mid new said left → Worked mount c state lines old new said left
 worked_before mount c state lines old mid new said left did worked = record {
   made = worked.made;
-  did = did_then (shape_of mount) c old mid new [] worked.made did worked.did;
+  did = did_then c old mid new [] worked.made did worked.did;
   does = worked.does;
 }
 
 -- lines done, and nothing more
-pub worked_then : (mount : Mount) (c : ℕ) (state : ClientState) (lines : List CallLine) (old mid new : List History) (said : List Said) (left : ClientState)
-    → Worked mount c state lines old mid said left → Did (shape_of mount) c mid new [] → Worked mount c state lines old new said left
+pub worked_then : (mount : Mount) (c : ℕ) (state : ClientState) (lines : List CallLine) (old mid new : List (List Logged)) (said : List Said) (left : ClientState)
+    → Worked mount c state lines old mid said left → Did c mid new [] → Worked mount c state lines old new said left
 worked_then mount c state lines old mid new said left worked did = record {
   made = worked.made;
-  did = did_after (shape_of mount) c old mid new worked.made worked.did did;
+  did = did_after c old mid new worked.made worked.did did;
   does = does_later mount (IsFull mid) (IsFull new) (full_later mid new did.later) c state lines worked.made said left worked.does;
 }
 
 -- a phase, and nothing more
-pub phased_then : (mount : Mount) (c : ℕ) (kept : ClientState) (lines : List CallLine) (old mid new : List History) (said : List Said) (left : ClientState)
-    → Phased mount c kept lines old mid said left → Did (shape_of mount) c mid new [] → Phased mount c kept lines old new said left
+pub phased_then : (mount : Mount) (c : ℕ) (kept : ClientState) (lines : List CallLine) (old mid new : List (List Logged)) (said : List Said) (left : ClientState)
+    → Phased mount c kept lines old mid said left → Did c mid new [] → Phased mount c kept lines old new said left
 phased_then mount c kept lines old mid new said left phased did =
     ⊎_elim (λ worked. inl (worked_then mount c kept lines old mid new said left worked did))
-    (λ idled. inr (record { nothing = did_after (shape_of mount) c old mid new [] idled.nothing did; silent = idled.silent; same = idled.same })) phased
+    (λ idled. inr (record { nothing = did_after c old mid new [] idled.nothing did; silent = idled.silent; same = idled.same })) phased
 
 -- phases done, and one more
-pub acts_more : (mount : Mount) (c : ℕ) (kept : ClientState) (phases : List (List CallLine)) (start : List History) (cuts : List (List History)) (said : List Said) (mid : ClientState)
-    (phase : List CallLine) (last cut : List History) (one : List Said) (left : ClientState)
+pub acts_more : (mount : Mount) (c : ℕ) (kept : ClientState) (phases : List (List CallLine)) (start : List (List Logged)) (cuts : List (List (List Logged))) (said : List Said) (mid : ClientState)
+    (phase : List CallLine) (last cut : List (List Logged)) (one : List Said) (left : ClientState)
     → Acts mount c kept phases start cuts said mid → last ≡ last_cut start cuts → Phased mount c mid (lines_of c phase) last cut one left
     → Acts mount c kept (phases ++ phase ∷ []) start (cuts ++ cut ∷ []) (said ++ one) left
 acts_more mount c kept [] start [] said mid phase last cut one left acts is phased =
-    rw acts.0 (one, [], left, sym (append-nil one), subst (λ (st : ClientState). Phased mount c st (lines_of c phase) start cut one left) acts.1 (subst (λ (hs : List History). Phased mount c mid (lines_of c phase) hs cut one left) is phased), (refl, refl))
+    rw acts.0 (one, [], left, sym (append-nil one), subst (λ (st : ClientState). Phased mount c st (lines_of c phase) start cut one left) acts.1 (subst (λ (hs : List (List Logged)). Phased mount c mid (lines_of c phase) hs cut one left) is phased), (refl, refl))
 acts_more mount c kept [] start (k ∷ cuts) said mid phase last cut one left acts is phased = absurd acts
 acts_more mount c kept (p ∷ phases) start [] said mid phase last cut one left acts is phased = absurd acts
 acts_more mount c kept (p ∷ phases) start (k ∷ cuts) said mid phase last cut one left acts is phased =
@@ -270,7 +267,7 @@ does-lines mount F c kept (l ∷ lines) made (s ∷ said) left does =
     cc
 
 -- phases answered, and one more whose lines were done
-pub answered_more : (mount : Mount) (c : ℕ) (phases : List (List CallLine)) (said : List Said) (phase : List CallLine) (kept : ClientState) (old new : List History) (one : List Said) (left : ClientState)
+pub answered_more : (mount : Mount) (c : ℕ) (phases : List (List CallLine)) (said : List Said) (phase : List CallLine) (kept : ClientState) (old new : List (List Logged)) (one : List Said) (left : ClientState)
     → IsAnswered phases c said → Worked mount c kept (lines_of c phase) old new one left → IsAnswered (phases ++ phase ∷ []) c (said ++ one)
 answered_more mount c phases said phase kept old new one left answered worked =
     let number = λ (l : CallLine). l.line in
@@ -280,11 +277,11 @@ answered_more mount c phases said phase kept old new one left answered worked =
     ∙ (sym (map-append number (flat_map (lines_of c) phases) (lines_of c phase))
     ∙ ap (map number) (sym (flat_map-append (lines_of c) phases (phase ∷ []) ∙ ap (λ (ls : List CallLine). flat_map (lines_of c) phases ++ ls) (append-nil (lines_of c phase)))))))
 
-pub in_order_more : (start : List History) (cuts : List (List History)) (last cut : List History) → InOrder start cuts → last ≡ last_cut start cuts
-    → ((file : ℕ) → GoesOn (history_at last file) (history_at cut file)) → InOrder start (cuts ++ cut ∷ [])
-in_order_more start [] last cut h is g = (subst (λ (hs : List History). (file : ℕ) → GoesOn (history_at hs file) (history_at cut file)) is g, tt)
+pub in_order_more : (start : List (List Logged)) (cuts : List (List (List Logged))) (last cut : List (List Logged)) → InOrder start cuts → last ≡ last_cut start cuts
+    → ((file : ℕ) → GoesOn (log_at last file) (log_at cut file)) → InOrder start (cuts ++ cut ∷ [])
+in_order_more start [] last cut h is g = (subst (λ (hs : List (List Logged)). (file : ℕ) → GoesOn (log_at hs file) (log_at cut file)) is g, tt)
 in_order_more start (k ∷ cuts) last cut h is g = (h.0, in_order_more k cuts last cut h.1 is g)
 
-pub last_cut-more : (start : List History) (cuts : List (List History)) (cut : List History) → cut ≡ last_cut start (cuts ++ cut ∷ [])
+pub last_cut-more : (start : List (List Logged)) (cuts : List (List (List Logged))) (cut : List (List Logged)) → cut ≡ last_cut start (cuts ++ cut ∷ [])
 last_cut-more start [] cut = refl
 last_cut-more start (k ∷ cuts) cut = last_cut-more k cuts cut

@@ -1,10 +1,9 @@
--- Which histories and answers a script may have.
+-- Which logs and answers a script may have.
 use Rattle.std.specs.Prelude.{◌≡◌, ◌⊎◌, ℕ, suc, ◌≤◌, ◌==◌, List, [], ◌∷◌, ◌++◌, length, map, filter, if◌then◌else◌, IfSome}
 use Rattle.std.specs.List.{AllByRecursion, flat_map}
 use Rattle.hist_plain.specs.declared.event.Event.{Event}
 use Rattle.hist_plain.specs.declared.event.Event.TheVariants as events
 use Rattle.hist_plain.specs.declared.event.Keep.TheVariants as keeps
-use Rattle.hist_plain.specs.File.{Shape}
 use Rattle.hist_plain.specs.History.{IsNumbered}
 use Rattle.script_text.specs.declared.script.CallLine.{CallLine}
 use Rattle.script_text.specs.declared.script.ClientLine.{ClientLine}
@@ -14,11 +13,10 @@ use Rattle.script_text.specs.declared.script.Reply.{Reply}
 use Rattle.script_text.specs.declared.script.Reply.TheVariants as replies
 use Rattle.stack_accept.specs.declared.entries.FileEntry.{FileEntry}
 use Rattle.stack_accept.specs.Mount.{Mount}
-use Rattle.run_defs.specs.declared.log.Logged.{Logged}
+use Rattle.tower_log.specs.declared.logged.Logged.{Logged}
+use Rattle.tower_log.specs.Log.{place_of, trail_of}
 use Rattle.run_defs.specs.declared.client.ClientState.{ClientState}
-use Rattle.run_defs.specs.Stack.{shape_of}
-use Rattle.run_defs.specs.declared.log.History.{History}
-use Rattle.run_defs.specs.Log.{Item, entered, noted, items, by_caller, who, place_of, trail_of, history_at, IsFull}
+use Rattle.run_defs.specs.Log.{Item, entered, noted, items, by_caller, who, log_at, IsFull}
 use Rattle.run_defs.specs.Plan.{Plan, Made, plan, plan_call, start_state, asking, sync, Goes}
 
 -- a line for which memory lacked before it did anything
@@ -55,38 +53,37 @@ SyncsInOrder least [] = Unit {0}
 SyncsInOrder least (entered e ∷ is) = SyncsFrom least e.event × SyncsInOrder (suc e.place) is
 SyncsInOrder least (noted caller disk count ∷ is) = SyncsInOrder least is
 
--- a history that goes on from another
-pub record GoesOn (old new : History) : Type 0 where
-  pub opening : new.opening ≡ old.opening
+-- a log that goes on from another
+pub record GoesOn (old new : List Logged) : Type 0 where
   pub more : List Logged
-  pub log : new.log ≡ old.log ++ more
+  pub log : new ≡ old ++ more
 
--- between two states of the histories a caller did just these things
-pub record Did (shape : Shape) (caller : ℕ) (old new : List History) (made : List Made) : Type 0 where
-  pub later : (file : ℕ) → GoesOn (history_at old file) (history_at new file)
-  pub part : (file : ℕ) → by_caller caller (items shape (history_at new file)) ≡ by_caller caller (items shape (history_at old file)) ++ made_on file made
-  pub syncs : (file : ℕ) → SyncsInOrder (place_of (history_at old file)) (made_on file made)
+-- between two states of the logs a caller did just these things
+pub record Did (caller : ℕ) (old new : List (List Logged)) (made : List Made) : Type 0 where
+  pub later : (file : ℕ) → GoesOn (log_at old file) (log_at new file)
+  pub part : (file : ℕ) → by_caller caller (items (log_at new file)) ≡ by_caller caller (items (log_at old file)) ++ made_on file made
+  pub syncs : (file : ℕ) → SyncsInOrder (place_of (log_at old file)) (made_on file made)
 
--- between two states of the histories a caller did a line, in this state and with this plan
-pub record Went (shape : Shape) (caller : ℕ) (kept : ClientState) (p : Plan) (old new : List History) (said : Reply) (left : ClientState) : Type 0 where
+-- between two states of the logs a caller did a line, in this state and with this plan
+pub record Went (caller : ℕ) (kept : ClientState) (p : Plan) (old new : List (List Logged)) (said : Reply) (left : ClientState) : Type 0 where
   pub made : List Made
-  pub did : Did shape caller old new made
+  pub did : Did caller old new made
   pub goes : Line (IsFull new) caller kept p made said left
 
--- between two states of the histories a caller did its lines
-pub record Worked (mount : Mount) (caller : ℕ) (kept : ClientState) (lines : List CallLine) (old new : List History) (said : List Said) (left : ClientState) : Type 0 where
+-- between two states of the logs a caller did its lines
+pub record Worked (mount : Mount) (caller : ℕ) (kept : ClientState) (lines : List CallLine) (old new : List (List Logged)) (said : List Said) (left : ClientState) : Type 0 where
   pub made : List Made
-  pub did : Did (shape_of mount) caller old new made
+  pub did : Did caller old new made
   pub does : Does mount (IsFull new) caller kept lines made said left
 
--- between two states of the histories a caller did nothing, answered nothing and kept its state
-pub record Idled (mount : Mount) (caller : ℕ) (kept : ClientState) (old new : List History) (said : List Said) (left : ClientState) : Type 0 where
-  pub nothing : Did (shape_of mount) caller old new []
+-- between two states of the logs a caller did nothing, answered nothing and kept its state
+pub record Idled (mount : Mount) (caller : ℕ) (kept : ClientState) (old new : List (List Logged)) (said : List Said) (left : ClientState) : Type 0 where
+  pub nothing : Did caller old new []
   pub silent : said ≡ []
   pub same : left ≡ kept
 
 -- a caller's part of a phase: it did its lines of the phase, or nothing at all
-abbrev pub Phased : Mount → ℕ → ClientState → List CallLine → List History → List History → List Said → ClientState → Type 0
+abbrev pub Phased : Mount → ℕ → ClientState → List CallLine → List (List Logged) → List (List Logged) → List Said → ClientState → Type 0
 Phased mount caller kept lines old new said left =
     Worked mount caller kept lines old new said left ⊎ Idled mount caller kept old new said left
 
@@ -95,7 +92,7 @@ abbrev pub lines_of : ℕ → List CallLine → List CallLine
 lines_of client lines = filter (λ l. l.client == client) lines
 
 -- a client's phases, one after another. Each begins where the one before was cut
-abbrev pub Acts : Mount → ℕ → ClientState → List (List CallLine) → List History → List (List History) → List Said → ClientState → Type 0
+abbrev pub Acts : Mount → ℕ → ClientState → List (List CallLine) → List (List Logged) → List (List (List Logged)) → List Said → ClientState → Type 0
 Acts mount caller kept [] start [] said left = (said ≡ []) × (left ≡ kept)
 Acts mount caller kept [] start (cut ∷ cuts) said left = ⊥
 Acts mount caller kept (phase ∷ phases) start [] said left = ⊥
@@ -103,24 +100,24 @@ Acts mount caller kept (phase ∷ phases) start (cut ∷ cuts) said left =
     (one : List Said) × (rest : List Said) × (mid : ClientState) × (said ≡ one ++ rest)
     × Phased mount caller kept (lines_of caller phase) start cut one mid × Acts mount caller mid phases cut cuts rest left
 
--- each history goes on from what it was at the cut before
-abbrev pub InOrder : List History → List (List History) → Type 0
+-- each log goes on from what it was at the cut before
+abbrev pub InOrder : List (List Logged) → List (List (List Logged)) → Type 0
 InOrder start [] = Unit {0}
-InOrder start (cut ∷ cuts) = ((file : ℕ) → GoesOn (history_at start file) (history_at cut file)) × InOrder cut cuts
+InOrder start (cut ∷ cuts) = ((file : ℕ) → GoesOn (log_at start file) (log_at cut file)) × InOrder cut cuts
 
 -- the state at the last cut
-abbrev pub last_cut : List History → List (List History) → List History
+abbrev pub last_cut : List (List Logged) → List (List (List Logged)) → List (List Logged)
 last_cut start [] = start
 last_cut start (cut ∷ cuts) = last_cut cut cuts
 
--- a client's part in the histories: its phases up to the last cut, from the start on its machine, and nothing after that
-pub record ClientFits (mount : Mount) (phases : List (List CallLine)) (start : List History) (cuts : List (List History)) (final : List History) (client : ℕ) (line : ClientLine) (said : List Said) : Type 0 where
+-- a client's part in the logs: its phases up to the last cut, from the start on its machine, and nothing after that
+pub record ClientFits (mount : Mount) (phases : List (List CallLine)) (start : List (List Logged)) (cuts : List (List (List Logged))) (final : List (List Logged)) (client : ℕ) (line : ClientLine) (said : List Said) : Type 0 where
   pub left : ClientState
   pub acts : Acts mount client (start_state mount line) phases start cuts said left
-  pub after : Did (shape_of mount) client (last_cut start cuts) final []
+  pub after : Did client (last_cut start cuts) final []
 
 -- the part of each client from this one on, with its answers
-abbrev pub ClientsFit : Mount → List (List CallLine) → List History → List (List History) → List History → ℕ → List ClientLine → List (List Said) → Type 0
+abbrev pub ClientsFit : Mount → List (List CallLine) → List (List Logged) → List (List (List Logged)) → List (List Logged) → ℕ → List ClientLine → List (List Said) → Type 0
 ClientsFit mount phases start cuts final client [] [] = Unit {0}
 ClientsFit mount phases start cuts final client [] (said ∷ more) = ⊥
 ClientsFit mount phases start cuts final client (line ∷ lines) [] = ⊥
@@ -159,23 +156,23 @@ Closes Full mount file (entry ∷ entries) made (reply ∷ replies) =
     × Goes Full mount (plan_closing file) first reply left × Closes Full mount (suc file) entries rest replies
 
 -- the part of the caller `mount`: nothing up to the last cut, and then the closing syncs
-pub record MountFits (mount : Mount) (caller : ℕ) (start : List History) (cuts : List (List History)) (final : List History) (replies : List Reply) : Type 0 where
-  pub before : Did (shape_of mount) caller start (last_cut start cuts) []
+pub record MountFits (mount : Mount) (caller : ℕ) (start : List (List Logged)) (cuts : List (List (List Logged))) (final : List (List Logged)) (replies : List Reply) : Type 0 where
+  pub before : Did caller start (last_cut start cuts) []
   pub made : List Made
-  pub did : Did (shape_of mount) caller (last_cut start cuts) final made
+  pub did : Did caller (last_cut start cuts) final made
   pub closes : Closes (IsFull final) caller 0 mount.files made replies
 
 -- it was done by a caller up to this one, or by none
 abbrev pub IsUpTo : ℕ → Item → Type 0
 IsUpTo last item = IfSome (who item) (λ caller. caller ≤ last)
 
--- The histories, the answers and the closing answers fit the script: each client did its lines phase by phase, or nothing in a
+-- The logs, the answers and the closing answers fit the script: each client did its lines phase by phase, or nothing in a
 -- phase, and then `mount` the closing syncs; nobody else did anything, and each caller's events are numbered from 0.
-pub record FitsScript (mount : Mount) (script : Script) (start final : List History) (said : List (List Said)) (closing : List Reply) : Type 0 where
-  pub cuts : List (List History)
+pub record FitsScript (mount : Mount) (script : Script) (start final : List (List Logged)) (said : List (List Said)) (closing : List Reply) : Type 0 where
+  pub cuts : List (List (List Logged))
   pub cut_each : length cuts ≡ length script.phases
   pub in_order : InOrder start cuts
   pub clients : ClientsFit mount script.phases start cuts final 0 script.clients said
   pub closings : MountFits mount (length script.clients) start cuts final closing
-  pub numbered : AllByRecursion (λ h. IsNumbered (trail_of h)) final
-  pub callers : AllByRecursion (λ h. AllByRecursion (IsUpTo (length script.clients)) (items (shape_of mount) h)) final
+  pub numbered : AllByRecursion (λ log. IsNumbered (trail_of log)) final
+  pub callers : AllByRecursion (λ log. AllByRecursion (IsUpTo (length script.clients)) (items log)) final

@@ -1,34 +1,45 @@
 -- The files over the stores that are out, one after another.
-use Rattle.std.proofs.Common.{◌≡◌, ℕ, zero, suc, Bool, true, false, ◌+◌, ◌≤◌, List, [], ◌∷◌, ◌++◌, length, take, drop, Option, Some, None, refl, sym, ap, subst, ◌∙◌, arith, append_assoc, length-append}
-use Rattle.std.specs.Prelude.{slice_get, is_some}
-use Rattle.std.proofs.lemmas.List.{map-append}
+use Rattle.std.proofs.Common.{◌≡◌, ℕ, zero, suc, Bool, true, false, ◌+◌, ◌*◌, ◌<◌, ◌≤◌, List, [], ◌∷◌, ◌++◌, length, map, take, drop, Option, Some, None, refl, sym, ap, subst, ◌∙◌, arith, append_assoc, length-append}
+use Rattle.std.specs.Prelude.{slice_get, slice_index, is_some}
+use Rattle.std.proofs.lemmas.List.{length-map, map-append}
+use Rattle.std.specs.List.{AllByRecursion}
+use Rattle.stack_accept.specs.declared.entries.NodeEntry.{NodeEntry}
 use Rattle.stack_accept.specs.Mount.{Mount}
+use Rattle.stack_accept.specs.Sound.{IsMount}
+use Rattle.tower_core.specs.TreeShape.{TreeShape, frames_of}
+use Rattle.page_messages.specs.declared.paged.PagedFile.{PagedFile}
+use Rattle.page_messages.specs.Paged.{IsPagedFile}
+use Rattle.run_defs.specs.Stack.{IsBuilt}
+use Rattle.disk_format.specs.declared.shape.ImageShape.{ImageShape}
+use Rattle.disk_format.specs.Shape.{IsShape}
+use Rattle.disk_format.proofs.ShapeLaws.{page-sized}
+use Rattle.file_stores.specs.Keys.{image_shape}
 use Rattle.run_defs.specs.declared.store.StoreKey.{StoreKey}
-use Rattle.run_defs.specs.Stack.{pages_of}
 use Rattle.disk_layer.specs.Disk.{Disk}
 use Rattle.disk_layer.specs.declared.refused.OpenWhy.{OpenWhy}
 use Rattle.disk_layer.specs.declared.refused.OpenWhy.TheVariants as whys
 use Rattle.disk_layer.specs.declared.fault.StoreFault.{StoreFault}
 use Rattle.disk_layer.specs.Calls as disks
-use Rattle.plain_tower.specs.Tower.{TowerSeen}
-use Rattle.plain_tower.specs.declared.pages.TowerErr.{TowerErr}
-use Rattle.plain_tower.specs.declared.pages.TowerErr.TheVariants as errs
-use Rattle.plain_tower.specs.Opened as towers
-use Rattle.plain_run.specs.Towers.{histories}
+use Rattle.tower_log.specs.declared.logged.Logged.{Logged}
+use Rattle.tower_log.specs.Trail.{TrailSeen}
+use Rattle.stack_engine.specs.Engine.{log_in}
+use Rattle.tower_shows.specs.Began.{ArePagesOf}
+use Rattle.stack_engine.specs.Opened.{IsOf}
+use Rattle.stack_engine.specs.Start as engines
+use Rattle.stack_engine.specs.Tower.{TowerSeen}
+use Rattle.run_clients.specs.Towers.{logs}
 use Rattle.file_stores.specs.declared.stop.Stop.{Stop}
 use Rattle.file_stores.specs.declared.stop.Stop.TheVariants as stops
 use Rattle.file_stores.specs.State.{StoreState}
 use Rattle.file_stores.specs.Stop.{refused}
 use Rattle.file_stores.specs.Held.{StoreSeen, keys_of}
 use Rattle.file_stores.proofs.Lists.{some-is, no-item}
-use Rattle.run_files.specs.Held.{under, unread, IsUnread, Opens, OpensEach, OpensSome, IsUnopened, IsShut, AreShut}
+use Rattle.run_files.specs.WholeDisk.{seen_whole}
+use Rattle.run_files.specs.Held.{under, paged, BeganOn, Opens, OpensEach, OpensSome, IsUnopened, IsShut, AreShut}
 
 -- a tower over the disk that was opened on a store
-pub opens-of : (mount : Mount) (callers : ℕ) (s : StoreSeen) (d : Disk) (t : TowerSeen) → disks.Opened (under mount s) d → towers.Opens mount.page_size mount.tree (pages_of mount s.key.file) callers d t → Opens mount callers s t
-opens-of mount callers s d t over opens = record {
-  over = subst (λ (x : Disk). disks.Opened (under mount s) x) (sym opens.disk_is) over;
-  opens = subst (λ (x : Disk). towers.Opens mount.page_size mount.tree (pages_of mount s.key.file) callers x t) (sym opens.disk_is) opens;
-}
+pub opens-of : (mount : Mount) (s : StoreSeen) (d : Disk) (t : TowerSeen) → disks.Opened (under mount s) d → engines.Opens mount.tree (paged mount s.key.file) (seen_whole d) t.engine → t.turns ≡ [] → BeganOn mount s.key.file d t → Opens mount s t
+opens-of mount s d t over opens free began = record { disk = d; over = over; opens = opens; free = free; began = began }
 
 same-state : (a b : StoreState) → a.content ≡ b.content → a.faults ≡ b.faults → a ≡ b
 same-state a b c f = λ i. record { content = c i; faults = f i }
@@ -42,39 +53,28 @@ refused-unopened mount old new (whys.StoreFault fault) content refusal =
     (refl, record { above = omega (arith, rose, count); within = omega (arith, count) })
 refused-unopened mount old new whys.Memory content refusal = same-state new.state old.state content refusal
 
--- the pages of a disk that was opened were not read
-pub unread-of : (key : StoreKey) (before now : Disk) (why : TowerErr) (faults : ℕ) → faults ≡ now.faults → towers.FaultsOpening before now why → IsUnread key before faults (unread key why)
-unread-of key before now (errs.StoreFault fault) faults same cause = (refl, cause.above, (let within = cause.within in omega (arith, same, within)))
-unread-of key before now errs.Memory faults same cause = same ∙ cause
+-- a disk that was opened on a store was closed again for want of memory
+pub memory-unopened : (mount : Mount) (old new : StoreSeen) (d : Disk) → disks.Opened (under mount old) d → new.state.content ≡ d.content → new.state.faults ≡ d.faults → IsUnopened mount old new stops.Memory
+memory-unopened mount old new d over content faults = same-state new.state old.state (content ∙ over.content) (faults ∙ over.calm)
 
-pub unread-unopened : (mount : Mount) (old new : StoreSeen) (key : StoreKey) (d : Disk) (stop : Stop) → key ≡ old.key → disks.Opened (under mount old) d → new.state.content ≡ d.content → IsUnread key d new.state.faults stop
-    → IsUnopened mount old new stop
-unread-unopened mount old new key d (stops.Store store count) is over content cause =
-    let calm = over.calm in
-    let above = cause.1 in
-    (cause.0 ∙ is, record { above = omega (arith, above, calm); within = cause.2 })
-unread-unopened mount old new key d stops.Memory is over content cause = same-state new.state old.state (content ∙ over.content) (cause ∙ over.calm)
-unread-unopened mount old new key d (stops.Bay store) is over content cause = absurd cause
-unread-unopened mount old new key d (stops.Image store place why) is over content cause = absurd cause
+pub opens-more : (mount : Mount) (ss : List StoreSeen) (ts : List TowerSeen) (s : StoreSeen) (t : TowerSeen) → OpensEach mount ss ts → Opens mount s t → OpensEach mount (ss ++ s ∷ []) (ts ++ t ∷ [])
+opens-more mount [] [] s t h last = (last, tt)
+opens-more mount [] (y ∷ ts) s t h last = absurd h
+opens-more mount (x ∷ ss) [] s t h last = absurd h
+opens-more mount (x ∷ ss) (y ∷ ts) s t h last = (h.0, opens-more mount ss ts s t h.1 last)
 
-pub opens-more : (mount : Mount) (callers : ℕ) (ss : List StoreSeen) (ts : List TowerSeen) (s : StoreSeen) (t : TowerSeen) → OpensEach mount callers ss ts → Opens mount callers s t → OpensEach mount callers (ss ++ s ∷ []) (ts ++ t ∷ [])
-opens-more mount callers [] [] s t h last = (last, tt)
-opens-more mount callers [] (y ∷ ts) s t h last = absurd h
-opens-more mount callers (x ∷ ss) [] s t h last = absurd h
-opens-more mount callers (x ∷ ss) (y ∷ ts) s t h last = (h.0, opens-more mount callers ss ts s t h.1 last)
-
-pub opens-length : (mount : Mount) (callers : ℕ) (ss : List StoreSeen) (ts : List TowerSeen) → OpensEach mount callers ss ts → length ts ≡ length ss
-opens-length mount callers [] [] h = refl
-opens-length mount callers [] (y ∷ ts) h = absurd h
-opens-length mount callers (x ∷ ss) [] h = absurd h
-opens-length mount callers (x ∷ ss) (y ∷ ts) h = ap suc (opens-length mount callers ss ts h.1)
+pub opens-length : (mount : Mount) (ss : List StoreSeen) (ts : List TowerSeen) → OpensEach mount ss ts → length ts ≡ length ss
+opens-length mount [] [] h = refl
+opens-length mount [] (y ∷ ts) h = absurd h
+opens-length mount (x ∷ ss) [] h = absurd h
+opens-length mount (x ∷ ss) (y ∷ ts) h = ap suc (opens-length mount ss ts h.1)
 
 -- the store over which a tower was opened
-pub opens-at : (mount : Mount) (callers : ℕ) (ss : List StoreSeen) (ts : List TowerSeen) (k : ℕ) (s : StoreSeen) (t : TowerSeen) → OpensEach mount callers ss ts → slice_get ss k ≡ Some s → slice_get ts k ≡ Some t → Opens mount callers s t
-opens-at mount callers [] ts k s t h is at = absurd (no-item k s is)
-opens-at mount callers (x ∷ ss) [] k s t h is at = absurd h
-opens-at mount callers (x ∷ ss) (y ∷ ts) zero s t h is at = subst (λ (z : StoreSeen). Opens mount callers z t) (some-is x s is) (subst (λ (z : TowerSeen). Opens mount callers x z) (some-is y t at) h.0)
-opens-at mount callers (x ∷ ss) (y ∷ ts) (suc k) s t h is at = opens-at mount callers ss ts k s t h.1 is at
+pub opens-at : (mount : Mount) (ss : List StoreSeen) (ts : List TowerSeen) (k : ℕ) (s : StoreSeen) (t : TowerSeen) → OpensEach mount ss ts → slice_get ss k ≡ Some s → slice_get ts k ≡ Some t → Opens mount s t
+opens-at mount [] ts k s t h is at = absurd (no-item k s is)
+opens-at mount (x ∷ ss) [] k s t h is at = absurd h
+opens-at mount (x ∷ ss) (y ∷ ts) zero s t h is at = subst (λ (z : StoreSeen). Opens mount z t) (some-is x s is) (subst (λ (z : TowerSeen). Opens mount x z) (some-is y t at) h.0)
+opens-at mount (x ∷ ss) (y ∷ ts) (suc k) s t h is at = opens-at mount ss ts k s t h.1 is at
 
 pub is-none : {A : Type 0} (o : Option A) (b : Bool) → b ≡ is_some o → b ≡ false → o ≡ None
 is-none None b e f = refl
@@ -85,34 +85,34 @@ is-some None b e t n = cc
 is-some (Some x) b e t n = cc
 
 -- which files were opened so far: all, or one was not
-abbrev pub Opening : Mount → ℕ → List StoreSeen → List TowerSeen → List StoreSeen → Option Stop → Type 0
-Opening mount callers stores towers rest None = OpensEach mount callers stores towers × (rest ≡ [])
-Opening mount callers stores towers rest (Some stop) = OpensSome mount callers stores towers rest stop
+abbrev pub Opening : Mount → List StoreSeen → List TowerSeen → List StoreSeen → Option Stop → Type 0
+Opening mount stores towers rest None = OpensEach mount stores towers × (rest ≡ [])
+Opening mount stores towers rest (Some stop) = OpensSome mount stores towers rest stop
 
 -- how many stores were opened, and how many are left over
-pub opening-count : (mount : Mount) (callers : ℕ) (stores : List StoreSeen) (towers : List TowerSeen) (rest : List StoreSeen) (stopped : Option Stop) → Opening mount callers stores towers rest stopped
+pub opening-count : (mount : Mount) (stores : List StoreSeen) (towers : List TowerSeen) (rest : List StoreSeen) (stopped : Option Stop) → Opening mount stores towers rest stopped
     → length towers + length rest ≡ length stores
-opening-count mount callers stores towers rest None h =
-    let many = opens-length mount callers stores towers h.0 in
+opening-count mount stores towers rest None h =
+    let many = opens-length mount stores towers h.0 in
     let none = ap length h.1 in
     omega (arith, many, none)
-opening-count mount callers stores towers rest (Some stop) h =
-    let many = opens-length mount callers h.first towers h.opened in
+opening-count mount stores towers rest (Some stop) h =
+    let many = opens-length mount h.first towers h.opened in
     let all = ap length h.all in
     let sum = length-append h.first (h.old ∷ h.behind) in
     let left = ap length h.left in
     omega (arith, many, all, sum, left)
 
 -- one more was opened
-pub opening-next : (mount : Mount) (callers : ℕ) (stores : List StoreSeen) (towers : List TowerSeen) (rest : List StoreSeen) (stopped : Option Stop) (s : StoreSeen) (t : TowerSeen) → stopped ≡ None → Opening mount callers stores towers rest stopped
-    → Opens mount callers s t → Opening mount callers (stores ++ s ∷ []) (towers ++ t ∷ []) rest stopped
-opening-next mount callers stores towers rest None s t none h opens = (opens-more mount callers stores towers s t h.0 opens, h.1)
-opening-next mount callers stores towers rest (Some stop) s t none h opens = absurd cc
+pub opening-next : (mount : Mount) (stores : List StoreSeen) (towers : List TowerSeen) (rest : List StoreSeen) (stopped : Option Stop) (s : StoreSeen) (t : TowerSeen) → stopped ≡ None → Opening mount stores towers rest stopped
+    → Opens mount s t → Opening mount (stores ++ s ∷ []) (towers ++ t ∷ []) rest stopped
+opening-next mount stores towers rest None s t none h opens = (opens-more mount stores towers s t h.0 opens, h.1)
+opening-next mount stores towers rest (Some stop) s t none h opens = absurd cc
 
 -- one was not opened
-pub opening-stops : (mount : Mount) (callers : ℕ) (stores : List StoreSeen) (towers : List TowerSeen) (rest : List StoreSeen) (stopped : Option Stop) (old new : StoreSeen) (stop : Stop) → stopped ≡ None
-    → Opening mount callers stores towers rest stopped → new.key ≡ old.key → new.state.content ≡ old.state.content → IsUnopened mount old new stop → OpensSome mount callers (stores ++ old ∷ []) towers (rest ++ new ∷ []) stop
-opening-stops mount callers stores towers rest None old new stop none h key content cause = record {
+pub opening-stops : (mount : Mount) (stores : List StoreSeen) (towers : List TowerSeen) (rest : List StoreSeen) (stopped : Option Stop) (old new : StoreSeen) (stop : Stop) → stopped ≡ None
+    → Opening mount stores towers rest stopped → new.key ≡ old.key → new.state.content ≡ old.state.content → IsUnopened mount old new stop → OpensSome mount (stores ++ old ∷ []) towers (rest ++ new ∷ []) stop
+opening-stops mount stores towers rest None old new stop none h key content cause = record {
   first = stores;
   old = old;
   new = new;
@@ -124,13 +124,13 @@ opening-stops mount callers stores towers rest None old new stop none h key cont
   content = content;
   cause = cause;
 }
-opening-stops mount callers stores towers rest (Some was) old new stop none h key content cause = absurd cc
+opening-stops mount stores towers rest (Some was) old new stop none h key content cause = absurd cc
 
 -- one more is left
-pub opening-left : (mount : Mount) (callers : ℕ) (stores : List StoreSeen) (towers : List TowerSeen) (rest : List StoreSeen) (stopped : Option Stop) (s : StoreSeen) → (stopped ≡ None → ⊥) → Opening mount callers stores towers rest stopped
-    → Opening mount callers (stores ++ s ∷ []) towers (rest ++ s ∷ []) stopped
-opening-left mount callers stores towers rest None s some h = absurd (some refl)
-opening-left mount callers stores towers rest (Some stop) s some h = record {
+pub opening-left : (mount : Mount) (stores : List StoreSeen) (towers : List TowerSeen) (rest : List StoreSeen) (stopped : Option Stop) (s : StoreSeen) → (stopped ≡ None → ⊥) → Opening mount stores towers rest stopped
+    → Opening mount (stores ++ s ∷ []) towers (rest ++ s ∷ []) stopped
+opening-left mount stores towers rest None s some h = absurd (some refl)
+opening-left mount stores towers rest (Some stop) s some h = record {
   first = h.first;
   old = h.old;
   new = h.new;
@@ -176,12 +176,16 @@ shut-at (key ∷ keys) (x ∷ ts) (y ∷ ss) zero s h is =
     (x, refl, subst (λ (z : StoreSeen). IsShut z.key x z) (some-is y s is) here)
 shut-at (key ∷ keys) (x ∷ ts) (y ∷ ss) (suc k) s h is = shut-at keys ts ss k s h.1 is
 
-pub length-histories : (ts : List TowerSeen) → length (histories ts) ≡ length ts
-length-histories [] = refl
-length-histories (t ∷ ts) = ap suc (length-histories ts)
+pub length-logs : (ts : List TowerSeen) → length (logs ts) ≡ length ts
+length-logs [] = refl
+length-logs (t ∷ ts) = ap suc (length-logs ts)
 
-pub histories-more : (ts : List TowerSeen) (t : TowerSeen) → histories (ts ++ t ∷ []) ≡ histories ts ++ t.log.history ∷ []
-histories-more ts t = map-append (λ (x : TowerSeen). x.log.history) ts (t ∷ [])
+pub logs-more : (ts : List TowerSeen) (t : TowerSeen) → logs (ts ++ t ∷ []) ≡ logs ts ++ log_in t.engine ∷ []
+logs-more ts t = map-append (λ (x : TowerSeen). log_in x.engine) ts (t ∷ [])
+
+-- as many as logs are taken of them
+pub length-trails : (trails : List TrailSeen) (ls : List (List Logged)) → map (λ t. t.log) trails ≡ ls → length trails ≡ length ls
+length-trails trails ls is = sym (length-map trails (λ (t : TrailSeen). t.log)) ∙ ap length is
 
 pub number-keys : (stores : List StoreSeen) → length (keys_of stores) ≡ length stores
 number-keys [] = refl
@@ -192,21 +196,21 @@ drop-first [] ys = refl
 drop-first (x ∷ xs) ys = drop-first xs ys
 
 -- which stores are left over
-pub left-keys : (mount : Mount) (callers : ℕ) (keys : List StoreKey) (stores : List StoreSeen) (towers : List TowerSeen) (rest : List StoreSeen) (stop : Stop) → keys_of stores ≡ keys → OpensSome mount callers stores towers rest stop
+pub left-keys : (mount : Mount) (keys : List StoreKey) (stores : List StoreSeen) (towers : List TowerSeen) (rest : List StoreSeen) (stop : Stop) → keys_of stores ≡ keys → OpensSome mount stores towers rest stop
     → keys_of rest ≡ drop (length towers) keys
-left-keys mount callers keys stores towers rest stop is some =
+left-keys mount keys stores towers rest stop is some =
     let behind : List StoreKey = some.old.key ∷ keys_of some.behind in
-    let number : length (keys_of some.first) ≡ length towers = number-keys some.first ∙ sym (opens-length mount callers some.first towers some.opened) in
+    let number : length (keys_of some.first) ≡ length towers = number-keys some.first ∙ sym (opens-length mount some.first towers some.opened) in
     let all : keys_of some.first ++ behind ≡ keys = sym (map-append (λ (s : StoreSeen). s.key) some.first (some.old ∷ some.behind)) ∙ (ap keys_of (sym some.all) ∙ is) in
     ap keys_of some.left
     ∙ (ap (λ (k : StoreKey). k ∷ keys_of some.behind) some.key
     ∙ (sym (drop-first (keys_of some.first) behind) ∙ (ap (λ n. drop n (keys_of some.first ++ behind)) number ∙ ap (λ (ks : List StoreKey). drop (length towers) ks) all)))
 
 -- no more files were opened than there are stores
-pub few-opened : (mount : Mount) (callers : ℕ) (keys : List StoreKey) (stores : List StoreSeen) (towers : List TowerSeen) (rest : List StoreSeen) (stop : Stop) → keys_of stores ≡ keys → OpensSome mount callers stores towers rest stop
+pub few-opened : (mount : Mount) (keys : List StoreKey) (stores : List StoreSeen) (towers : List TowerSeen) (rest : List StoreSeen) (stop : Stop) → keys_of stores ≡ keys → OpensSome mount stores towers rest stop
     → length towers ≤ length keys
-few-opened mount callers keys stores towers rest stop is some =
-    let count = opening-count mount callers stores towers rest (Some stop) some in
+few-opened mount keys stores towers rest stop is some =
+    let count = opening-count mount stores towers rest (Some stop) some in
     let number = number-keys stores in
     let same = ap length is in
     omega (arith, count, number, same)
@@ -222,3 +226,33 @@ all-keys keys towers closed rest shut left =
     map-append (λ (s : StoreSeen). s.key) closed rest
     ∙ (ap (λ (ks : List StoreKey). ks ++ keys_of rest) (shut-keys keys towers closed shut)
     ∙ (ap (λ (ks : List StoreKey). take (length towers) keys ++ ks) left ∙ take-and-drop (length towers) keys))
+
+frames-none : (nodes : List NodeEntry) (node : ℕ) → AllByRecursion (λ n. n.frames ≡ 0) nodes → slice_index (map (λ n. n.frames) nodes) node ≡ 0
+frames-none [] node bare = refl
+frames-none (n ∷ nodes) zero bare = bare.0
+frames-none (n ∷ nodes) (suc node) bare = frames-none nodes node bare.1
+
+-- no layer of a stack that can be built has frames
+pub no-frames : (mount : Mount) (node : ℕ) → IsMount mount → IsBuilt mount → frames_of mount.tree node ≡ 0
+no-frames mount node sound built = ap (λ (t : TreeShape). frames_of t node) sound.served ∙ frames-none mount.nodes node built.bare
+
+-- the file of a store, as its messages name it
+pub paged-of : (mount : Mount) (key : StoreKey) (file : PagedFile) → IsMount mount → key.file < length mount.files → IsShape (image_shape mount key) → file ≡ paged mount key.file → IsPagedFile file
+paged-of mount key file sound store fits is =
+    let few = sound.few_files in
+    let sized = page-sized mount.page_size fits.size in
+    subst IsPagedFile (sym is)
+    (record {
+      number = omega (arith, store, few);
+      some = (let low = sized.low in omega (arith, low));
+      small = sized.high;
+      pages = (let some = fits.some in omega (arith, some));
+      few = fits.few;
+    })
+
+-- what a tower's opening says of the file that began, said of the stack's file
+pub began-of : (mount : Mount) (key : StoreKey) (d : Disk) (t : TowerSeen) (shape : ImageShape) → shape ≡ image_shape mount key
+    → ((opening : List ℕ) (told : List (List ℕ)) → (seen_whole d).pages ≡ Some told → length opening ≡ shape.pages * shape.page_size → ArePagesOf shape.page_size shape.pages opening told → IsOf opening t.engine)
+    → BeganOn mount key.file d t
+began-of mount key d t shape is h =
+    subst (λ (s : ImageShape). (opening : List ℕ) (told : List (List ℕ)) → (seen_whole d).pages ≡ Some told → length opening ≡ s.pages * s.page_size → ArePagesOf s.page_size s.pages opening told → IsOf opening t.engine) is h

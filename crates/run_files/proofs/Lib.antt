@@ -1,5 +1,9 @@
+pub mod WholeLaws
+pub mod PageLaws
+pub mod EngineLaws
 pub mod EndedLaws
 pub mod HeldLaws
 pub mod PlayLaws
 pub mod StopLaws
 pub mod RunLaws
+pub mod TestLaws

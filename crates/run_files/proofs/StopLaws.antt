@@ -11,7 +11,7 @@ use Rattle.spr_report.specs.Writing.{Finishes}
 use Rattle.disk_format.specs.declared.shape.ImageShape.{ImageShape}
 use Rattle.disk_format.specs.Image.{image, pages_of}
 use Rattle.disk_layer.specs.Disk.{Disk, HasImage}
-use Rattle.plain_tower.specs.Tower.{TowerSeen}
+use Rattle.stack_engine.specs.Tower.{TowerSeen}
 use Rattle.file_stores.specs.declared.stop.Stop.{Stop}
 use Rattle.file_stores.specs.declared.stop.Stop.TheVariants as stops
 use Rattle.file_stores.specs.Keys.{image_shape}
@@ -24,9 +24,12 @@ use Rattle.file_stores.proofs.Lists.{some-is, no-item, to-map}
 use Rattle.file_stores.proofs.ReturnLaws.{returned-of, one-same, stops-memory}
 use Rattle.script_text.specs.declared.script.Script.{Script}
 use Rattle.file_stores.specs.Keys.{stores_of}
-use Rattle.run_files.specs.Held.{IsTaken, OpensEach, OpensSome, AreShut}
+use Rattle.pager_channel.specs.declared.numbers.Ops.{Ops}
+use Rattle.run_files.specs.WholeDisk.{seen_whole}
+use Rattle.run_files.specs.Held.{IsTaken, Opens, IsShut, OpensEach, OpensSome, AreShut}
 use Rattle.run_files.specs.Run.{SaysRun, stopped}
 use Rattle.run_files.specs.Told.{Stopped}
+use Rattle.run_files.proofs.WholeLaws.{whole-content, whole-count}
 
 -- this holds of the stores of each place, from this one on
 abbrev pub Pairs : (ℕ → StoreSeen → StoreSeen → Type 0) → ℕ → List StoreSeen → List StoreSeen → Type 0
@@ -75,20 +78,26 @@ holds-image d shape content s c has = subst (λ (o : Option Content). HoldsImage
     by None h = tt
     by (Some k) h = subst (λ o. IsSome o) (sym h) refl
 
+-- a tower that was opened over a store, and closed at once, left it as it was
+state-same : (mount : Mount) (s n : StoreSeen) (t : TowerSeen) → Opens mount s t → IsShut s.key t n → n.state ≡ s.state
+state-same mount s n t opens shut =
+    let told : seen_whole shut.disk ≡ seen_whole opens.disk = shut.ground ∙ opens.opens.ground_is in
+    same-state n.state s.state (shut.content ∙ (whole-content shut.disk opens.disk told ∙ opens.over.content)) (shut.faults ∙ (whole-count shut.disk opens.disk told ∙ opens.over.calm))
+
 -- the files that were opened, closed at once
-shut-pairs : (mount : Mount) (callers : ℕ) (Q : ℕ → StoreKey → StoreState → StoreState → Type 0) (at : ℕ) (ss more : List StoreSeen) (ts : List TowerSeen) (ns : List StoreSeen) → OpensEach mount callers ss ts → AreShut (keys_of (ss ++ more)) ts ns
+shut-pairs : (mount : Mount) (Q : ℕ → StoreKey → StoreState → StoreState → Type 0) (at : ℕ) (ss more : List StoreSeen) (ts : List TowerSeen) (ns : List StoreSeen) → OpensEach mount ss ts → AreShut (keys_of (ss ++ more)) ts ns
     → ((k : ℕ) (s : StoreSeen) → k < at + length ss → HoldsImage (image_shape mount s.key) s.state.content → Q k s.key s.state s.state) → Pairs (Fate Q) at ss ns
-shut-pairs mount callers Q at [] more [] [] opens shut to = tt
-shut-pairs mount callers Q at [] more [] (n ∷ ns) opens shut to = absurd shut
-shut-pairs mount callers Q at [] more (t ∷ ts) ns opens shut to = absurd opens
-shut-pairs mount callers Q at (s ∷ ss) more [] ns opens shut to = absurd opens
-shut-pairs mount callers Q at (s ∷ ss) more (t ∷ ts) [] opens shut to = absurd shut
-shut-pairs mount callers Q at (s ∷ ss) more (t ∷ ts) (n ∷ ns) opens shut to =
+shut-pairs mount Q at [] more [] [] opens shut to = tt
+shut-pairs mount Q at [] more [] (n ∷ ns) opens shut to = absurd shut
+shut-pairs mount Q at [] more (t ∷ ts) ns opens shut to = absurd opens
+shut-pairs mount Q at (s ∷ ss) more [] ns opens shut to = absurd opens
+shut-pairs mount Q at (s ∷ ss) more (t ∷ ts) [] opens shut to = absurd shut
+shut-pairs mount Q at (s ∷ ss) more (t ∷ ts) (n ∷ ns) opens shut to =
     let over = opens.0.over in
-    let same : n.state ≡ s.state = same-state n.state s.state (shut.0.content ∙ over.content) (shut.0.faults ∙ over.calm) in
-    let q : Q at s.key s.state s.state = to at s (omega arith) (holds-image t.disk (image_shape mount s.key) s.state.content over.shape over.content over.image) in (
+    let same : n.state ≡ s.state = state-same mount s n t opens.0 shut.0 in
+    let q : Q at s.key s.state s.state = to at s (omega arith) (holds-image opens.0.disk (image_shape mount s.key) s.state.content over.shape over.content over.image) in (
       (shut.0.key_is, one-same (Q at s.key) s.state n.state same (subst (λ (x : StoreState). Q at s.key s.state x) (sym same) q)),
-      shut-pairs mount callers Q (suc at) ss more ts ns opens.1 shut.1 (λ k x lt. to k x (omega (arith, lt))),
+      shut-pairs mount Q (suc at) ss more ts ns opens.1 shut.1 (λ k x lt. to k x (omega (arith, lt))),
     )
 
 -- the stores that nothing was done with
@@ -97,17 +106,17 @@ left-pairs Q at [] to = tt
 left-pairs Q at (s ∷ ss) to = ((refl, one-same (Q at s.key) s.state s.state refl (to at s (omega arith))), left-pairs Q (suc at) ss (λ k x le. to k x (omega (arith, le))))
 
 -- all stores came back, and what became of each
-came-back : (mount : Mount) (callers : ℕ) (before mid after : BaySeen) (keys lost : List StoreKey) (stores : List StoreSeen) (ts : List TowerSeen) (rest closed : List StoreSeen) (stop : Stop) (Q : ℕ → StoreKey → StoreState → StoreState → Type 0)
-    → IsTaken mount before mid keys stores → (some : OpensSome mount callers stores ts rest stop) → AreShut keys ts closed → AreGiven mount mid after (closed ++ rest) lost
+came-back : (mount : Mount) (before mid after : BaySeen) (keys lost : List StoreKey) (stores : List StoreSeen) (ts : List TowerSeen) (rest closed : List StoreSeen) (stop : Stop) (Q : ℕ → StoreKey → StoreState → StoreState → Type 0)
+    → IsTaken mount before mid keys stores → (some : OpensSome mount stores ts rest stop) → AreShut keys ts closed → AreGiven mount mid after (closed ++ rest) lost
     → ((k : ℕ) (s : StoreSeen) → k < length some.first → HoldsImage (image_shape mount s.key) s.state.content → Q k s.key s.state s.state) → BecameOne some.old.state some.new.state (Q (length some.first) some.old.key)
     → ((k : ℕ) (s : StoreSeen) → length some.first < k → Q k s.key s.state s.state) → Returned mount before after keys lost Q
-came-back mount callers before mid after keys lost stores ts rest closed stop Q taken some shut given early here late =
+came-back mount before mid after keys lost stores ts rest closed stop Q taken some shut given early here late =
     let olds : List StoreSeen = some.first ++ some.old ∷ some.behind in
     let news : List StoreSeen = closed ++ some.new ∷ some.behind in
     let which : keys ≡ keys_of olds = sym taken.which ∙ ap keys_of some.all in
     let shut2 : AreShut (keys_of olds) ts closed = subst (λ (ks : List StoreKey). AreShut ks ts closed) which shut in
     let number : ℕ = length some.first in
-    let first : Pairs (Fate Q) 0 some.first closed = shut-pairs mount callers Q 0 some.first (some.old ∷ some.behind) ts closed some.opened shut2 (λ k s lt image. early k s (omega (arith, lt)) image) in
+    let first : Pairs (Fate Q) 0 some.first closed = shut-pairs mount Q 0 some.first (some.old ∷ some.behind) ts closed some.opened shut2 (λ k s lt image. early k s (omega (arith, lt)) image) in
     let last : Pairs (Fate Q) number (some.old ∷ some.behind) (some.new ∷ some.behind) = ((some.key, here), left-pairs Q (suc number) some.behind (λ k s le. late k s (omega (arith, le)))) in
     let became : Became olds news Q = became-pairs Q olds news (pairs-join (Fate Q) 0 some.first closed (some.old ∷ some.behind) (some.new ∷ some.behind) first (subst (λ k. Pairs (Fate Q) k (some.old ∷ some.behind) (some.new ∷ some.behind)) (omega arith) last)) in
     let out : AreOut mount before mid olds = subst (λ (ss : List StoreSeen). AreOut mount before mid ss) some.all taken.out in
@@ -133,45 +142,45 @@ at-join [] ys x = refl
 at-join (y ∷ xs) ys x = at-join xs ys x
 
 -- which store was refused
-which-refused : (mount : Mount) (callers : ℕ) (before mid : BaySeen) (keys : List StoreKey) (stores : List StoreSeen) (ts : List TowerSeen) (rest : List StoreSeen) (stop : Stop) → IsTaken mount before mid keys stores
-    → (some : OpensSome mount callers stores ts rest stop) → slice_get keys (length some.first) ≡ Some some.old.key
-which-refused mount callers before mid keys stores ts rest stop taken some =
+which-refused : (mount : Mount) (before mid : BaySeen) (keys : List StoreKey) (stores : List StoreSeen) (ts : List TowerSeen) (rest : List StoreSeen) (stop : Stop) → IsTaken mount before mid keys stores
+    → (some : OpensSome mount stores ts rest stop) → slice_get keys (length some.first) ≡ Some some.old.key
+which-refused mount before mid keys stores ts rest stop taken some =
     ap (λ (ks : List StoreKey). slice_get ks (length some.first)) (sym taken.which ∙ ap keys_of some.all)
     ∙ to-map (λ (s : StoreSeen). s.key) (some.first ++ some.old ∷ some.behind) (length some.first) some.old (at-join some.first some.behind some.old)
 
 -- a run whose files were not all opened
-pub stops-opening : (mount : Mount) (callers : ℕ) (before mid after : BaySeen) (keys lost : List StoreKey) (stores : List StoreSeen) (ts : List TowerSeen) (rest closed : List StoreSeen) (stop : Stop) → IsTaken mount before mid keys stores
-    → OpensSome mount callers stores ts rest stop → AreShut keys ts closed → AreGiven mount mid after (closed ++ rest) lost → Stops mount before after keys lost stop
-stops-opening mount callers before mid after keys lost stores ts rest closed (stops.Store key count) taken some shut given =
+pub stops-opening : (mount : Mount) (before mid after : BaySeen) (keys lost : List StoreKey) (stores : List StoreSeen) (ts : List TowerSeen) (rest closed : List StoreSeen) (stop : Stop) → IsTaken mount before mid keys stores
+    → OpensSome mount stores ts rest stop → AreShut keys ts closed → AreGiven mount mid after (closed ++ rest) lost → Stops mount before after keys lost stop
+stops-opening mount before mid after keys lost stores ts rest closed (stops.Store key count) taken some shut given =
     let number : ℕ = length some.first in
     let rose = some.cause.1 in
     let above = rose.above in
     let within = rose.within in
     record {
       number = number;
-      is = which-refused mount callers before mid keys stores ts rest (stops.Store key count) taken some ∙ ap Some (sym some.cause.0);
-      back = came-back mount callers before mid after keys lost stores ts rest closed (stops.Store key count) (Refused mount number (Failed count)) taken some shut given
+      is = which-refused mount before mid keys stores ts rest (stops.Store key count) taken some ∙ ap Some (sym some.cause.0);
+      back = came-back mount before mid after keys lost stores ts rest closed (stops.Store key count) (Refused mount number (Failed count)) taken some shut given
           (λ k s lt image. refused-early mount number k (Failed count) s.key s.state lt image)
           (record { becomes = refused-here mount number (Failed count) some.old.key some.old.state some.new.state some.content rose; later = omega (arith, above, within); told = told-same some.old.state.content some.new.state.content some.content })
           (λ k s gt. refused-late mount number k (Failed count) s.key s.state gt);
     }
-stops-opening mount callers before mid after keys lost stores ts rest closed (stops.Image key place why) taken some shut given =
+stops-opening mount before mid after keys lost stores ts rest closed (stops.Image key place why) taken some shut given =
     let number : ℕ = length some.first in
     let Cause : StoreKey → StoreState → StoreState → Type 0 = λ x a b. IsNoImage (image_shape mount x) a.content place why × (b ≡ a) in
     let same = some.cause.2 in
     let cause : Cause key some.old.state some.new.state = subst (λ (x : StoreKey). Cause x some.old.state some.new.state) (sym some.cause.0) (some.cause.1, same) in
     record {
       number = number;
-      is = which-refused mount callers before mid keys stores ts rest (stops.Image key place why) taken some ∙ ap Some (sym some.cause.0);
-      back = came-back mount callers before mid after keys lost stores ts rest closed (stops.Image key place why) (Refused mount number (Cause key)) taken some shut given
+      is = which-refused mount before mid keys stores ts rest (stops.Image key place why) taken some ∙ ap Some (sym some.cause.0);
+      back = came-back mount before mid after keys lost stores ts rest closed (stops.Image key place why) (Refused mount number (Cause key)) taken some shut given
           (λ k s lt image. refused-early mount number k (Cause key) s.key s.state lt image)
           (one-same (Refused mount number (Cause key) number some.old.key) some.old.state some.new.state same (refused-here mount number (Cause key) some.old.key some.old.state some.new.state some.content cause))
           (λ k s gt. refused-late mount number k (Cause key) s.key s.state gt);
     }
-stops-opening mount callers before mid after keys lost stores ts rest closed stops.Memory taken some shut given =
+stops-opening mount before mid after keys lost stores ts rest closed stops.Memory taken some shut given =
     stops-memory mount before after keys lost
-    (came-back mount callers before mid after keys lost stores ts rest closed stops.Memory AsTaken taken some shut given (λ k s lt image. refl) (one-same (λ a b. b ≡ a) some.old.state some.new.state some.cause some.cause) (λ k s gt. refl))
-stops-opening mount callers before mid after keys lost stores ts rest closed (stops.Bay key) taken some shut given = absurd some.cause
+    (came-back mount before mid after keys lost stores ts rest closed stops.Memory AsTaken taken some shut given (λ k s lt image. refl) (one-same (λ a b. b ≡ a) some.old.state some.new.state some.cause some.cause) (λ k s gt. refl))
+stops-opening mount before mid after keys lost stores ts rest closed (stops.Bay key) taken some shut given = absurd some.cause
 
 -- the text of a run that stopped was written
 pub stopped-writes : (mount : Mount) (before after : BaySeen) (keys lost : List StoreKey) (stop : Stop) (old new : SinkSeen) (result : Status) → Stops mount before after keys lost stop
@@ -184,9 +193,9 @@ stopped-writes mount before after keys lost stop old new result cause ends = rec
 }
 
 -- so the run stopped
-pub run-stopped : (mount : Mount) (script : Script) (before after : BaySeen) (keys : List StoreKey) (old new : SinkSeen) (result : Status) → keys ≡ stores_of mount → Written (Stopped mount before after keys) old new result
-    → Written (SaysRun mount script before after) old new result
-run-stopped mount script before after keys old new result are w = record {
+pub run-stopped : (mount : Mount) (script : Script) (traced : Option Ops) (before after : BaySeen) (keys : List StoreKey) (old new : SinkSeen) (result : Status) → keys ≡ stores_of mount → Written (Stopped mount before after keys) old new result
+    → Written (SaysRun mount script traced before after) old new result
+run-stopped mount script traced before after keys old new result are w = record {
   text = w.text;
   status = w.status;
   says = stopped w.says.stop w.says.lost (subst (λ (ks : List StoreKey). Stops mount before after ks w.says.lost w.says.stop) are w.says.stops) w.says.says w.says.ends;

@@ -1,20 +1,18 @@
 -- The files over the stores that were taken: opened, and closed.
-use Rattle.std.specs.Prelude.{◌≡◌, ℕ, ◌<◌, ◌≤◌, List, [], ◌∷◌, ◌++◌}
-use Rattle.hist_plain.specs.History.{IsNumbered}
+use Rattle.std.specs.Prelude.{◌≡◌, ℕ, ◌*◌, List, [], ◌∷◌, ◌++◌, length, Some}
 use Rattle.stack_accept.specs.Mount.{Mount}
-use Rattle.run_defs.specs.declared.store.StoreKey.{StoreKey}
 use Rattle.spr_io.specs.Berth.{BaySeen}
+use Rattle.run_defs.specs.declared.store.StoreKey.{StoreKey}
 use Rattle.run_defs.specs.Stack.{pages_of}
-use Rattle.run_defs.specs.Log.{trail_of, IsHistory, IsLegalTrail}
-use Rattle.run_defs.specs.Kept.{counts_of, Rises}
-use Rattle.std.specs.List.{AllByRecursion}
-use Rattle.disk_layer.specs.Disk.{Disk, kept_on}
+use Rattle.disk_layer.specs.Disk.{Disk}
 use Rattle.disk_layer.specs.Calls as disks
-use Rattle.plain_tower.specs.Seen.{tree_of}
-use Rattle.plain_tower.specs.Tower.{TowerSeen, IsOnDisk, KeepsSynced, image_of}
-use Rattle.plain_tower.specs.declared.pages.TowerErr.{TowerErr}
-use Rattle.plain_tower.specs.declared.pages.TowerErr.TheVariants as errs
-use Rattle.plain_tower.specs.Opened as towers
+use Rattle.page_messages.specs.declared.paged.PagedFile.{PagedFile}
+use Rattle.tower_shows.specs.Began.{ArePagesOf}
+use Rattle.stack_engine.specs.Engine.{IsSound}
+use Rattle.stack_engine.specs.Opened.{IsOf}
+use Rattle.stack_engine.specs.Start as engines
+use Rattle.stack_engine.specs.Tower.{TowerSeen}
+use Rattle.run_files.specs.WholeDisk.{seen_whole}
 use Rattle.file_stores.specs.declared.stop.Stop.{Stop}
 use Rattle.file_stores.specs.declared.stop.Stop.TheVariants as stops
 use Rattle.file_stores.specs.Keys.{image_shape}
@@ -31,28 +29,29 @@ pub record IsTaken (mount : Mount) (before now : BaySeen) (keys : List StoreKey)
 abbrev pub under : Mount → StoreSeen → disks.Stored
 under mount s = record { disk = s.key.disk; shape = image_shape mount s.key; content = s.state.content; faults = s.state.faults }
 
--- a tower without events, opened over a store, of which nothing changed
-pub record Opens (mount : Mount) (callers : ℕ) (s : StoreSeen) (t : TowerSeen) : Type 0 where
-  pub over : disks.Opened (under mount s) t.disk
-  pub opens : towers.Opens mount.page_size mount.tree (pages_of mount s.key.file) callers t.disk t
+-- the file of a number, as its messages name it
+abbrev pub paged : Mount → ℕ → PagedFile
+paged mount file = record { number = file; page_size = mount.page_size; pages = pages_of mount file }
+
+-- the tower is of the file that these pages began, if the disk tells its pages
+abbrev pub BeganOn : Mount → ℕ → Disk → TowerSeen → Type 0
+BeganOn mount file disk t = (opening : List ℕ) (told : List (List ℕ)) → (seen_whole disk).pages ≡ Some told
+    → length opening ≡ pages_of mount file * mount.page_size → ArePagesOf mount.page_size (pages_of mount file) opening told → IsOf opening t.engine
+
+-- a tower without events, in which nobody has a turn, opened over a store, of which nothing changed
+pub record Opens (mount : Mount) (s : StoreSeen) (t : TowerSeen) : Type 0 where
+  pub disk : Disk
+  pub over : disks.Opened (under mount s) disk
+  pub opens : engines.Opens mount.tree (paged mount s.key.file) (seen_whole disk) t.engine
+  pub free : t.turns ≡ []
+  pub began : BeganOn mount s.key.file disk t
 
 -- a tower was opened over each of the stores, in order
-abbrev pub OpensEach : Mount → ℕ → List StoreSeen → List TowerSeen → Type 0
-OpensEach mount callers [] [] = Unit {0}
-OpensEach mount callers [] (t ∷ ts) = ⊥
-OpensEach mount callers (s ∷ ss) [] = ⊥
-OpensEach mount callers (s ∷ ss) (t ∷ ts) = Opens mount callers s t × OpensEach mount callers ss ts
-
--- why a run stops whose file over a store is not read
-abbrev pub unread : StoreKey → TowerErr → Stop
-unread key (errs.StoreFault fault) = stops.Store key fault.count
-unread key errs.Memory = stops.Memory
-
--- why the pages of a disk were not read, which has this count of faults after it
-abbrev pub IsUnread : StoreKey → Disk → ℕ → Stop → Type 0
-IsUnread key disk faults (stops.Store store count) = (store ≡ key) × (disk.faults < count) × (count ≤ faults)
-IsUnread key disk faults stops.Memory = faults ≡ disk.faults
-IsUnread key disk faults stop = ⊥
+abbrev pub OpensEach : Mount → List StoreSeen → List TowerSeen → Type 0
+OpensEach mount [] [] = Unit {0}
+OpensEach mount [] (t ∷ ts) = ⊥
+OpensEach mount (s ∷ ss) [] = ⊥
+OpensEach mount (s ∷ ss) (t ∷ ts) = Opens mount s t × OpensEach mount ss ts
 
 -- why the file of a store could not be opened, and what became of the store
 abbrev pub IsUnopened : Mount → StoreSeen → StoreSeen → Stop → Type 0
@@ -62,13 +61,13 @@ IsUnopened mount old new stops.Memory = new.state ≡ old.state
 IsUnopened mount old new (stops.Bay key) = ⊥
 
 -- the first files were opened, and the next one could not be, of which this became; the stores behind it are left
-pub record OpensSome (mount : Mount) (callers : ℕ) (stores : List StoreSeen) (towers : List TowerSeen) (rest : List StoreSeen) (stop : Stop) : Type 0 where
+pub record OpensSome (mount : Mount) (stores : List StoreSeen) (towers : List TowerSeen) (rest : List StoreSeen) (stop : Stop) : Type 0 where
   pub first : List StoreSeen
   pub old : StoreSeen
   pub new : StoreSeen
   pub behind : List StoreSeen
   pub all : stores ≡ first ++ old ∷ behind
-  pub opened : OpensEach mount callers first towers
+  pub opened : OpensEach mount first towers
   pub left : rest ≡ new ∷ behind
   pub key : new.key ≡ old.key
   pub content : new.state.content ≡ old.state.content
@@ -76,16 +75,12 @@ pub record OpensSome (mount : Mount) (callers : ℕ) (stores : List StoreSeen) (
 
 -- a tower was closed, and this is its store
 pub record IsShut (key : StoreKey) (t : TowerSeen) (s : StoreSeen) : Type 0 where
+  pub disk : Disk
+  pub ground : seen_whole disk ≡ t.engine.ground
   pub key_is : s.key ≡ key
-  pub content : s.state.content ≡ t.disk.content
-  pub faults : s.state.faults ≡ t.disk.faults
-  pub image : t.disk.shape ≡ image_of t.log
-  pub legal : IsHistory t.log.shape t.log.pages t.log.history
-  pub trail : IsLegalTrail (tree_of t.log) t.log.shape.page_size t.log.pages t.log.history
-  pub numbered : IsNumbered (trail_of t.log.history)
-  pub notes : AllByRecursion (IsOnDisk t.disk.disk) t.log.history.log
-  pub rises : Rises t.disk.opened t.disk.faults (counts_of t.disk.disk t.log.history.log)
-  pub keeps : KeepsSynced t.log (kept_on t.disk)
+  pub content : s.state.content ≡ disk.content
+  pub faults : s.state.faults ≡ disk.faults
+  pub sound : IsSound t.engine
 
 -- each tower was closed, and these are their stores
 abbrev pub AreShut : List StoreKey → List TowerSeen → List StoreSeen → Type 0

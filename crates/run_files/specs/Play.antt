@@ -7,19 +7,20 @@ use Rattle.script_text.specs.declared.script.Said.{Said}
 use Rattle.script_text.specs.declared.script.Reply.{Reply}
 use Rattle.script_text.specs.declared.script.Reply.TheVariants.{Done}
 use Rattle.stack_accept.specs.Mount.{Mount}
-use Rattle.run_defs.specs.Log.{trail_of}
+use Rattle.tower_log.specs.Log.{trail_of}
 use Rattle.run_defs.specs.Fits.{FitsScript, EachAnswered}
-use Rattle.plain_tower.specs.Tower.{TowerSeen}
-use Rattle.plain_run.specs.Towers.{histories, AreLater}
-use Rattle.plain_run.specs.Phases.{IsClosed}
+use Rattle.stack_engine.specs.Engine.{log_in}
+use Rattle.stack_engine.specs.Tower.{TowerSeen}
+use Rattle.run_clients.specs.Towers.{logs, AreLater}
+use Rattle.run_clients.specs.Phases.{IsClosed}
 
 -- nothing was logged yet
 abbrev pub IsUnwritten : TowerSeen → Type 0
-IsUnwritten t = t.log.history.log ≡ []
+IsUnwritten t = log_in t.engine ≡ []
 
--- the histories and the answers fit the script, each line has its answer, and a file whose closing sync is done is closed
+-- the logs and the answers fit the script, each line has its answer, and a file whose closing sync is done is closed
 pub record ArePlayed (mount : Mount) (script : Script) (before after : List TowerSeen) (said : List (List Said)) (closing : List Reply) : Type 0 where
-  pub fits : AllByRecursion (λ h. IsNumbered (trail_of h)) (histories after) → FitsScript mount script (histories before) (histories after) said closing
+  pub fits : AllByRecursion (λ log. IsNumbered (trail_of log)) (logs after) → FitsScript mount script (logs before) (logs after) said closing
   pub answered : EachAnswered script said
   pub closed : (file : ℕ) (t : TowerSeen) → slice_get closing file ≡ Some Done → slice_get after file ≡ Some t → IsClosed (length script.clients) t
   pub later : AreLater before after

@@ -2,8 +2,8 @@
 use Rattle.std.specs.Prelude.{length}
 use Rattle.script_text.specs.declared.script.Script.{Script}
 use Rattle.stack_accept.specs.Mount.{Mount}
-use Rattle.plain_run.specs.Start.{AreStarted}
-use Rattle.plain_run.specs.Phases.{HaveRoom}
+use Rattle.run_clients.specs.Start.{AreStarted}
+use Rattle.run_clients.specs.Phases.{HaveRoom}
 use Rattle.file_stores.specs.Held.{IsRoom}
 use Rattle.run_files.specs.declared.room.Asked.{Asked}
 

@@ -1,12 +1,13 @@
 -- How the text of a run was written.
-use Rattle.std.specs.Prelude.{◌≡◌, ◌⊎◌, ℕ, List}
+use Rattle.std.specs.Prelude.{◌≡◌, ◌⊎◌, ℕ, List, Option}
 use Rattle.script_text.specs.declared.script.Script.{Script}
 use Rattle.script_text.specs.declared.script.Said.{Said}
 use Rattle.script_text.specs.declared.script.Reply.{Reply}
 use Rattle.stack_accept.specs.Mount.{Mount}
 use Rattle.run_defs.specs.declared.store.StoreKey.{StoreKey}
-use Rattle.run_defs.specs.declared.log.History.{History}
-use Rattle.run_defs.specs.Report.{report}
+use Rattle.pager_channel.specs.declared.numbers.Ops.{Ops}
+use Rattle.tower_log.specs.declared.logged.Logged.{Logged}
+use Rattle.spr_report.specs.Report.{report}
 use Rattle.spr_io.specs.Berth.{BaySeen}
 use Rattle.spr_io.specs.Texts.{SinkSeen}
 use Rattle.spr_report.specs.declared.status.Status.{Status}
@@ -17,9 +18,9 @@ use Rattle.file_stores.specs.Stop.{lost_text, stop_text, stop_status}
 use Rattle.file_stores.specs.Stops.{Stops}
 
 -- the report and the status were written, or, if memory ran out for the report, a line for each store that is lost
-abbrev pub Tells : Mount → Script → List History → List (List Said) → List Reply → List StoreKey → Status → SinkSeen → SinkSeen → Status → Type 0
-Tells mount script histories said closing lost status before after result =
-    Finishes before after (report mount script histories said closing lost) status result
+abbrev pub Tells : Mount → Script → Option Ops → List (List Logged) → List (List Said) → List Reply → List StoreKey → Status → SinkSeen → SinkSeen → Status → Type 0
+Tells mount script traced logs said closing lost status before after result =
+    Finishes before after (report mount script traced logs said closing lost) status result
     ⊎ Finishes before after (lost_text mount lost) statuses.Memory result
 
 -- the stores could not all be taken or opened, and this is the text and the status

@@ -1,34 +1,28 @@
 //! The files of a run over their stores: how they are opened and closed.
 
-ghost use Rattle.std.specs.Prelude.{◌≡◌, ◌<◌, ◌≤◌, Some, IfOk, IfErr, OnOk, length, slice_get, vec_capacity};
+ghost use Rattle.std.specs.Prelude.{◌≡◌, ◌<◌, ◌≤◌, [], Some, IfOk, IfErr, OnOk, length, map, slice_get, vec_capacity};
 ghost use Rattle.disk_layer.specs.Calls.{Opened};
-ghost use Rattle.plain_tower.specs.Opened as towers;
-ghost use Rattle.plain_run.specs.Towers.{histories};
-ghost use Rattle.run_defs.specs.Stack.{pages_of};
+ghost use Rattle.stack_engine.specs.Engine.{log_in};
+ghost use Rattle.stack_engine.specs.Start as engines;
+ghost use Rattle.run_defs.specs.Stack.{IsBuilt};
+ghost use Rattle.run_clients.specs.Towers.{logs};
 ghost use Rattle.file_stores.specs.Keys.{EachAt, AreStores, IsStore, image_shape};
 ghost use Rattle.file_stores.specs.Held.{IsRoom, IsFit, keys_of};
-ghost use Rattle.run_files.specs.Held.{under, unread, IsUnread, Opens, OpensEach, OpensSome, IsUnopened, IsShut, AreShut};
+ghost use Rattle.run_files.specs.WholeDisk.{seen_whole};
+ghost use Rattle.run_files.specs.Held.{under, paged, BeganOn, Opens, OpensEach, OpensSome, IsUnopened, IsShut, AreShut};
 
+use crate::layers::copy_tree;
+use crate::whole_disk::WholeDisk;
 use disk_layer::Disk;
 use file_stores::{Held, Stop, shape_of};
-use plain_tower::{FileShape, Tower, TowerErr, open};
-use run_defs::{History, StoreKey};
+use page_messages::PagedFile;
+use pager_channel::Ops;
+use run_defs::StoreKey;
 use spr_io::Store;
 use stack_accept::Mounted;
+use stack_engine::Tower;
 use std::alloc::Global;
-
-/// Why a run stops whose file over a store is not read.
-fn unread(key: StoreKey, why: TowerErr) -> Stop
-    ensures { result ≡ unread key why }
-{
-    match why {
-        TowerErr::StoreFault { fault } => Stop::Store {
-            store: key,
-            count: fault.count,
-        },
-        TowerErr::Memory => Stop::Memory,
-    }
-}
+use tower_log::Trail;
 
 /// Opens the image on a store. A refusal hands the store back.
 fn open_disk<S: Store>(
@@ -54,33 +48,38 @@ fn open_disk<S: Store>(
     }
 }
 
-/// Opens a file over the disk of a store, and reads its pages. A refusal hands the store back.
+/// Opens a file over the disk of a store. No page is read. Want of memory hands the disk back.
 fn open_tower<S: Store>(
     alloc: Global,
     mount: &Mounted,
-    callers: u32,
     key: StoreKey,
     disk: Disk<S>,
-) -> Result<Tower<S>, (Stop, Held<S>)>
+    ops: &Ops,
+) -> Result<Tower<WholeDisk<S>>, Disk<S>>
+    requires built { IsBuilt mount.now }
     requires store { IsStore mount.now key }
     requires shape { disk.shape ≡ image_shape mount.now key }
-    ensures opened { IfOk result (towers.Opens mount.now.page_size mount.now.tree (pages_of mount.now key.file) callers disk) }
-    ensures key { IfErr result (λ e. e.1.key ≡ key) }
-    ensures content { IfErr result (λ e. e.1.state.content ≡ disk.content) }
-    ensures cause { IfErr result (λ e. IsUnread key disk e.1.state.faults e.0) }
+    ensures opened { IfOk result (λ t. engines.Opens mount.now.tree (paged mount.now key.file) (seen_whole disk) t.engine) }
+    ensures free { IfOk result (λ t. t.turns ≡ []) }
+    ensures began { IfOk result (BeganOn mount.now key.file disk) }
+    ensures back { IfErr result (λ d. d ≡ disk) }
 {
+    // The proof reads here how often the store of a disk failed before it was opened.
+    disk.sound();
     let shape = shape_of(mount, key);
-    let file = FileShape {
+    let file = PagedFile {
+        number: key.file,
         page_size: shape.page_size,
-        tree: mount.tree(),
         pages: shape.pages,
-        callers,
     };
-    match open(alloc, &file, disk) {
+    let Ok(tree) = copy_tree(alloc, mount.tree()) else {
+        return Err(disk);
+    };
+    match Tower::open(alloc, tree, file, WholeDisk { disk }, *ops) {
         Ok(tower) => Ok(tower),
-        Err((why, disk)) => {
-            let store = disk.close();
-            Err((unread(key, why), Held { key, store }))
+        Err(whole) => {
+            let WholeDisk { disk } = whole;
+            Err(disk)
         }
     }
 }
@@ -89,20 +88,28 @@ fn open_tower<S: Store>(
 fn open_store<S: Store>(
     alloc: Global,
     mount: &Mounted,
-    callers: u32,
     held: Held<S>,
-) -> Result<Tower<S>, (Stop, Held<S>)>
+    ops: &Ops,
+) -> Result<Tower<WholeDisk<S>>, (Stop, Held<S>)>
+    requires built { IsBuilt mount.now }
     requires store { IsStore mount.now held.key }
     requires fit { IsFit mount.now held }
-    ensures opened { IfOk result (Opens mount.now callers held) }
+    ensures opened { IfOk result (Opens mount.now held) }
     ensures key { IfErr result (λ e. e.1.key ≡ held.key) }
     ensures content { IfErr result (λ e. e.1.state.content ≡ held.state.content) }
     ensures cause { IfErr result (λ e. IsUnopened mount.now held e.1 e.0) }
 {
     let key = held.key;
-    match open_disk(alloc, mount, held) {
-        Ok(disk) => open_tower(alloc, mount, callers, key, disk),
-        Err(refused) => Err(refused),
+    let disk = match open_disk(alloc, mount, held) {
+        Ok(disk) => disk,
+        Err(refused) => return Err(refused),
+    };
+    match open_tower(alloc, mount, key, disk, ops) {
+        Ok(tower) => Ok(tower),
+        Err(disk) => {
+            let store = disk.close();
+            Err((Stop::Memory, Held { key, store }))
+        }
     }
 }
 
@@ -111,17 +118,18 @@ fn open_store<S: Store>(
 pub(crate) fn open_files<S: Store>(
     alloc: Global,
     mount: &Mounted,
-    callers: u32,
+    ops: &Ops,
     stores: Vec<Held<S>>,
-    towers: &mut Vec<Tower<S>>,
+    towers: &mut Vec<Tower<WholeDisk<S>>>,
     rest: &mut Vec<Held<S>>,
 ) -> Result<(), Stop>
+    requires built { IsBuilt mount.now }
     requires stores { AreStores mount.now (keys_of stores.items) }
     requires fit { EachAt (λ at store. IsFit mount.now store) stores.items }
     requires towers { IsRoom (length stores.items) towers.old }
     requires rest { IsRoom (length stores.items) rest.old }
-    ensures opened { OnOk result (OpensEach mount.now callers stores.items towers.new.items) }
-    ensures stopped { IfErr result (OpensSome mount.now callers stores.items towers.new.items rest.new.items) }
+    ensures opened { OnOk result (OpensEach mount.now stores.items towers.new.items) }
+    ensures stopped { IfErr result (OpensSome mount.now stores.items towers.new.items rest.new.items) }
 {
     let mut stopped = None;
     for store in stores {
@@ -129,7 +137,7 @@ pub(crate) fn open_files<S: Store>(
             rest.push_reserved(store);
             continue;
         }
-        match open_store(alloc, mount, callers, store) {
+        match open_store(alloc, mount, store, ops) {
             Ok(tower) => towers.push_reserved(tower),
             Err((stop, store)) => {
                 rest.push_reserved(store);
@@ -151,33 +159,33 @@ fn key_at(keys: &[StoreKey], place: usize) -> StoreKey
 }
 
 /// Closes the tower of a store.
-fn close<S: Store>(key: StoreKey, tower: Tower<S>) -> (Held<S>, History)
+fn close<S: Store>(key: StoreKey, tower: Tower<WholeDisk<S>>) -> (Held<S>, Trail)
     ensures shut { IsShut key tower result.0 }
-    ensures history { result.1 ≡ tower.log.history }
+    ensures log { result.1.log ≡ log_in tower.engine }
 {
-    let (disk, history) = tower.close();
+    let (WholeDisk { disk }, trail) = tower.close();
     let store = disk.close();
-    (Held { key, store }, history)
+    (Held { key, store }, trail)
 }
 
-/// Closes the towers of these stores, in order: their stores and their histories. There is a store for each tower, and the room
+/// Closes the towers of these stores, in order: their stores and their logs. There is a store for each tower, and the room
 /// for them is there.
 pub(crate) fn close_towers<S: Store>(
     keys: &[StoreKey],
-    towers: Vec<Tower<S>>,
+    towers: Vec<Tower<WholeDisk<S>>>,
     stores: &mut Vec<Held<S>>,
-    told: &mut Vec<History>,
+    trails: &mut Vec<Trail>,
 )
     requires keys { length towers.items ≤ length keys.now }
     requires stores { IsRoom (length keys.now) stores.old }
-    requires told { IsRoom (length keys.now) told.old }
+    requires trails { IsRoom (length keys.now) trails.old }
     ensures shut { AreShut keys.now towers.items stores.new.items }
-    ensures histories { told.new.items ≡ histories towers.items }
+    ensures logs { map (λ t. t.log) trails.new.items ≡ logs towers.items }
     ensures room { length keys.now ≤ vec_capacity stores.new }
 {
     for tower in towers {
-        let (store, history) = close(key_at(keys, told.len()), tower);
+        let (store, trail) = close(key_at(keys, trails.len()), tower);
         stores.push_reserved(store);
-        told.push_reserved(history);
+        trails.push_reserved(trail);
     }
 }

@@ -4,9 +4,11 @@
 
 mod ended;
 mod held;
+mod layers;
 mod play;
 mod room;
 mod run;
+mod whole_disk;
 
 pub use run::run_files;
 

@@ -3,18 +3,18 @@
 ghost use Rattle.std.specs.Prelude.{◌≡◌, length, map};
 ghost use Rattle.std.specs.List.{AllByRecursion};
 ghost use Rattle.script_text.specs.Grammar.{IsScript};
-ghost use Rattle.plain_run.specs.Towers.{AreTowers};
-ghost use Rattle.plain_run.specs.Phases.{AreCalls};
+ghost use Rattle.run_clients.specs.Towers.{AreTowers};
+ghost use Rattle.run_clients.specs.Phases.{AreCalls};
 ghost use Rattle.file_stores.specs.Held.{IsRoom};
 ghost use Rattle.run_files.specs.Play.{IsUnwritten, ArePlayed};
 ghost use Rattle.run_files.specs.Room.{HasAnswerRoom};
 
 use crate::room::Asked;
-use plain_run::{Client, close_files, run_phases};
-use plain_tower::Tower;
+use disk_layer::Ground;
+use run_clients::{Client, close_files, run_phases};
 use script_text::{Reply, Said, Script};
-use spr_io::Store;
 use stack_accept::Mounted;
+use stack_engine::Tower;
 use std::alloc::Global;
 
 /// The answers of a run.
@@ -38,16 +38,16 @@ fn gather(clients: Vec<Client>, said: &mut Vec<Vec<Said>>)
 
 /// Runs the phases of a script and then the closing syncs, which the caller after the last client makes. The room for the
 /// answers is there.
-pub(crate) fn play<S: Store>(
+pub(crate) fn play<G: Ground>(
     alloc: Global,
     mount: &Mounted,
     script: &Script,
-    towers: &mut [Tower<S>],
+    towers: &mut [Tower<G>],
     asked: Asked,
 ) -> Answers
     requires script { IsScript script.now }
     requires calls { AllByRecursion AreCalls script.now.phases }
-    requires towers { AreTowers mount.now (length script.now.clients) towers.old }
+    requires towers { AreTowers mount.now towers.old }
     requires unwritten { AllByRecursion IsUnwritten towers.old }
     requires room { HasAnswerRoom mount.now script.now asked }
     ensures { ArePlayed mount.now script.now towers.old towers.new (map (λ v. v.items) result.said.items) result.closing.items }

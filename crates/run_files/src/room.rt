@@ -7,14 +7,16 @@ ghost use Rattle.file_stores.specs.Keys.{AreStores, stores_of};
 ghost use Rattle.file_stores.specs.Held.{IsRoom};
 ghost use Rattle.run_files.specs.Room.{HasAnswerRoom};
 
+use crate::whole_disk::WholeDisk;
 use file_stores::{Held, stores_of};
-use plain_run::{Client, clients_of};
-use plain_tower::Tower;
-use run_defs::{History, StoreKey};
+use run_clients::{Client, clients_of};
+use run_defs::StoreKey;
 use script_text::{Reply, Said, Script};
 use spr_io::Store;
 use stack_accept::Mounted;
+use stack_engine::Tower;
 use std::alloc::{AllocError, Global};
+use tower_log::Trail;
 
 /// Room for the answers of a run.
 #[derive(Drop)]
@@ -42,13 +44,13 @@ pub(crate) struct Files<S: Store> {
     /// Which stores there are.
     pub keys: Vec<StoreKey>,
     /// The files that are open.
-    pub towers: Vec<Tower<S>>,
+    pub towers: Vec<Tower<WholeDisk<S>>>,
     /// The stores of files that were not opened.
     pub rest: Vec<Held<S>>,
     /// Room for the stores of closed files.
     pub closed: Vec<Held<S>>,
-    /// Room for the histories of the files.
-    pub histories: Vec<History>,
+    /// Room for the logs of the files.
+    pub trails: Vec<Trail>,
     /// Room for the stores that were lost.
     pub lost: Vec<StoreKey>,
 }
@@ -76,7 +78,7 @@ fn room_for_files<S: Store>(alloc: Global, mount: &Mounted) -> Result<Files<S>, 
     ensures towers { IfOk result (λ r. IsRoom (length r.keys.items) r.towers) }
     ensures rest { IfOk result (λ r. IsRoom (length r.keys.items) r.rest) }
     ensures closed { IfOk result (λ r. IsRoom (length r.keys.items) r.closed) }
-    ensures histories { IfOk result (λ r. IsRoom (length r.keys.items) r.histories) }
+    ensures trails { IfOk result (λ r. IsRoom (length r.keys.items) r.trails) }
     ensures lost { IfOk result (λ r. IsRoom (length r.keys.items) r.lost) }
 {
     let keys = stores_of(alloc, mount)?;
@@ -86,7 +88,7 @@ fn room_for_files<S: Store>(alloc: Global, mount: &Mounted) -> Result<Files<S>, 
         towers: Vec::with_capacity(alloc, number)?,
         rest: Vec::with_capacity(alloc, number)?,
         closed: Vec::with_capacity(alloc, number)?,
-        histories: Vec::with_capacity(alloc, number)?,
+        trails: Vec::with_capacity(alloc, number)?,
         lost: Vec::with_capacity(alloc, number)?,
     })
 }
@@ -102,7 +104,7 @@ pub(crate) fn room_for_stores<S: Store>(
     ensures towers { IfOk result (λ r. IsRoom (length r.files.keys.items) r.files.towers) }
     ensures rest { IfOk result (λ r. IsRoom (length r.files.keys.items) r.files.rest) }
     ensures closed { IfOk result (λ r. IsRoom (length r.files.keys.items) r.files.closed) }
-    ensures histories { IfOk result (λ r. IsRoom (length r.files.keys.items) r.files.histories) }
+    ensures trails { IfOk result (λ r. IsRoom (length r.files.keys.items) r.files.trails) }
     ensures lost { IfOk result (λ r. IsRoom (length r.files.keys.items) r.files.lost) }
 {
     let files: Files<S> = room_for_files(alloc, mount)?;

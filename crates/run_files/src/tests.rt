@@ -4,10 +4,11 @@ ghost use Rattle.std.specs.Prelude.{◌≤◌, IfOk, IsTrue, length};
 ghost use Rattle.std.specs.List.{AllByRecursion};
 ghost use Rattle.script_text.specs.Grammar.{IsScript};
 ghost use Rattle.run_defs.specs.Stack.{IsBuilt};
-ghost use Rattle.plain_run.specs.Lines.{IsCallOf};
-ghost use Rattle.plain_run.specs.Phases.{AreCalls};
+ghost use Rattle.run_clients.specs.Lines.{IsCallOf};
+ghost use Rattle.run_clients.specs.Phases.{AreCalls};
 
 use super::*;
+use pager_channel::Ops;
 use script_text::{Call, CallLine, Script, parse_script};
 use seen_values::Items;
 use spr_io::{MemBay, MemSink, MemStore, Store};
@@ -30,6 +31,16 @@ const BOTH: &str =
 /// What is written of `ONE` over fresh images.
 const TOLD: &[u8] = b"client a\n3 life 0\n4 done\n5 6100\n6 done\n\
 file f\n0 a 0 c 0 open life 0\n2 a 1 c 0 write 0 0 61 done\n3 a 2 c 0 read 0 0 2 6100\n5 a 3 c synced 4 done\n6 mount 0 c synced 6 done\n\
+file g\n0 mount 0 c synced 0 done\n";
+
+/// What is written of `ONE` over fresh images, if the page messages are traced: the page that comes is filled with zeros, and the
+/// sync sends it down.
+const TRACED: &[u8] = b"client a\n3 life 0\n4 done\n5 6100\n6 done\n\
+file f\n0 a 0 c 0 open life 0\n\
+1 c zero_fill 0 000200000000000000000000000000000000004002000000 000200040000000000000000000000000000004002040000\n\
+2 a 1 c 0 write 0 0 61 done\n3 a 2 c 0 read 0 0 2 6100\n\
+4 c sync 0 000200030000000000000000000000000000004002010000 000200030000000000000000000000000000004002020000\n\
+5 a 3 c synced 4 done\n6 mount 0 c synced 6 done\n\
 file g\n0 mount 0 c synced 0 done\n";
 
 /// What is written of `BOTH` if two writes of the store of `g` fail.
@@ -170,7 +181,7 @@ fn keeps(bay: &MemBay, file: &str) -> Option<u8> {
 }
 
 /// A run: which call of the bay fails to take a store, and which to take one back, counted from 1; what lies for each file; the
-/// script; what is written, and the status; and what the stores keep afterwards.
+/// script, and whether the page messages are traced; what is written, and the status; and what the stores keep afterwards.
 #[derive(Clone, Copy)]
 struct Row {
     take: u64,
@@ -178,6 +189,7 @@ struct Row {
     f: Stock,
     g: Stock,
     script: &'static str,
+    trace: bool,
     first: &'static [u8],
     last: &'static [u8],
     status: Status,
@@ -196,17 +208,18 @@ const GOOD: Row = Row {
     f: HOLES,
     g: HOLES,
     script: ONE,
+    trace: false,
     first: TOLD,
     last: b"status 0\n",
     status: Status::Good,
     keeps: [Some(b'a'), Some(0)],
 };
 
-/// The data of `g` cannot be read when the file is opened.
+/// The map of `g` cannot be read when the file is opened.
 const UNREAD: Row = Row {
     g: Stock {
         lies: Lies::Page,
-        read: 3,
+        read: 2,
         writes: [0, 0],
     },
     first: b"store d 1\n",
@@ -216,8 +229,13 @@ const UNREAD: Row = Row {
     ..GOOD
 };
 
-const ROWS: [Row; 7] = [
+const ROWS: [Row; 8] = [
     GOOD,
+    Row {
+        trace: true,
+        first: TRACED,
+        ..GOOD
+    },
     Row {
         g: Stock {
             writes: [2, 3],
@@ -282,7 +300,8 @@ fn runs_as(alloc: Global, mount: &Mounted, row: &Row) -> Result<bool, Fail>
     let script = script_of(alloc, row.script)?;
     let mut bay = bay_of(alloc, row)?;
     let mut sink = MemSink::new(alloc, 4_096, &[])?;
-    let status = run_files(alloc, mount, &script, &mut bay, &mut sink);
+    let ops = Ops::new([0, 1, 2, 3, 4], [0, 1, 2, 3, 4, 5], [2, 3, 4, 5, 6, 0, 1]);
+    let status = run_files(alloc, mount, &script, &ops, row.trace, &mut bay, &mut sink);
     Ok(
         status == row.status
             && sink.bytes().strip_prefix(row.first) == Some(row.last)

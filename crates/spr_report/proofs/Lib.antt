@@ -1,2 +1,4 @@
 pub mod Words
 pub mod Writes
+mod Traces
+mod TestLaws

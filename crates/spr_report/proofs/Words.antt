@@ -1,20 +1,13 @@
 -- Words behind words, and lines behind lines.
-use Rattle.std.proofs.Common.{◌≡◌, ℕ, suc, ◌+◌, List, [], ◌∷◌, ◌++◌, codes, length, Result, Ok, Err, OnOk, refl, ap, sym, ◌∙◌, append_assoc, arith}
-use Rattle.std.specs.List.{flat_map}
+use Rattle.std.proofs.Common.{◌≡◌, ℕ, List, [], ◌∷◌, ◌++◌, codes, Result, Ok, Err, OnOk, refl, ap, sym, ◌∙◌, append_assoc}
 use Rattle.std.proofs.lemmas.Grind.{flat_map-append}
 use Rattle.std.proofs.lemmas.List.{append-nil}
-use Rattle.hist_plain.specs.File.{Shape, File}
-use Rattle.hist_plain.specs.Plain.{applied, reply}
-use Rattle.hist_plain.specs.History.{AllSuit, Entry, entries_from, replay}
 use Rattle.script_text.specs.declared.script.Reply.{Reply}
 use Rattle.script_text.specs.declared.script.Reply.TheVariants as replies
-use Rattle.run_defs.specs.declared.log.Logged.{Logged}
-use Rattle.run_defs.specs.declared.log.Logged.TheVariants.{Entered, Noted}
 use Rattle.text_words.specs.Lines.{line_of, spaced}
 use Rattle.text_words.proofs.Splits.{join_spaced}
 use Rattle.script_text.specs.Answer.{answer_words}
-use Rattle.run_defs.specs.Log.{events_of}
-use Rattle.run_defs.specs.Report.{closing_line}
+use Rattle.spr_report.specs.Report.{closing_line}
 
 -- a line in its parts
 pub line_parts : (first : List ℕ) (rest : List (List ℕ)) → line_of (first ∷ rest) ≡ first ++ (spaced rest ++ 10 ∷ [])
@@ -47,23 +40,3 @@ spaced_twice old mid new words rest begun gone =
 pub closing_line-failed : (disks : List (List ℕ)) (file : List ℕ) (reply : Reply) → (reply ≡ replies.Done → ⊥) → closing_line disks file reply ≡ line_of (codes "closing" ∷ file ∷ answer_words disks reply)
 closing_line-failed disks file replies.Done n = absurd (n refl)
 closing_line-failed disks file _ n = refl
-
--- what was logged next, and what comes after it
-pub entries-logged : (f : Entry → List ℕ) (shape : Shape) (file : File) (len : ℕ) (x : Logged) (rest : List Logged)
-    → flat_map f (entries_from shape file len (events_of (x ∷ rest)))
-    ≡ flat_map f (entries_from shape file len (events_of (x ∷ []))) ++ flat_map f (entries_from shape (replay shape file (events_of (x ∷ []))) (len + length (events_of (x ∷ []))) (events_of rest))
-entries-logged f shape file len (Entered event) rest =
-    let e : Entry = record { place = len; event = event; told = reply shape file event } in
-    let at : suc len ≡ len + 1 = omega arith in
-    ap (λ n. f e ++ flat_map f (entries_from shape (applied shape file event) n (events_of rest))) at
-    ∙ ap (λ (t : List ℕ). t ++ flat_map f (entries_from shape (applied shape file event) (len + 1) (events_of rest))) (sym (append-nil (f e)))
-entries-logged f shape file len (Noted note) rest = ap (λ n. flat_map f (entries_from shape file n (events_of rest))) (omega arith)
-
-pub suit-logged : (shape : Shape) (file : File) (x : Logged) (rest : List Logged) → AllSuit shape file (events_of (x ∷ rest))
-    → AllSuit shape file (events_of (x ∷ [])) × AllSuit shape (replay shape file (events_of (x ∷ []))) (events_of rest)
-suit-logged shape file (Entered event) rest h = ((h.0, tt), h.1)
-suit-logged shape file (Noted note) rest h = (tt, h)
-
-pub length-logged : (x : Logged) (rest : List Logged) → length (events_of (x ∷ rest)) ≡ length (events_of (x ∷ [])) + length (events_of rest)
-length-logged (Entered event) rest = omega arith
-length-logged (Noted note) rest = omega arith

@@ -1,2 +1,5 @@
 pub mod Status
 pub mod Writing
+pub mod Tracing
+pub mod Traced
+pub mod Report

@@ -3,7 +3,7 @@
 ghost use Rattle.std.specs.Prelude.{◌≡◌, ◌++◌, ◌∷◌, [], OnOk, codes};
 ghost use Rattle.text_words.specs.Lines.{line_of, spaced};
 ghost use Rattle.script_text.specs.Answer.{answer_words};
-ghost use Rattle.run_defs.specs.Report.{said_line, client_part, closing_line};
+ghost use Rattle.spr_report.specs.Report.{said_line, client_part, closing_line};
 
 use script_text::{Reply, Said, put_reply};
 use seen_values::Text;

@@ -1,17 +1,25 @@
-//! The lines of a file's history.
+//! The lines of a file's log.
 
-ghost use Rattle.std.specs.Prelude.{◌≡◌, ◌++◌, ◌∷◌, [], OnOk, map, ◌<◌, ◌+◌, length};
+ghost use Rattle.std.specs.Prelude.{◌≡◌, ◌++◌, ◌∷◌, [], IfSome, OnOk, Some, map};
 ghost use Rattle.std.specs.Fmt.{decimal};
-ghost use Rattle.hist_plain.specs.declared.TheConstants.{MAX_EVENTS};
-ghost use Rattle.hist_plain.specs.Plain.{Suits, reply, applied, asked_len};
+ghost use Rattle.hex.specs.Hex.{encode_lower};
+ghost use Rattle.hist_plain.specs.Event.{node_of};
 ghost use Rattle.text_words.specs.Lines.{line_of, spaced};
 ghost use Rattle.run_defs.specs.Stack.{name_in, node_names};
-ghost use Rattle.run_defs.specs.Report.{op_words, keep_word, event_words, told_words, entry_line};
+ghost use Rattle.tower_log.specs.Log.{bytes_with};
+ghost use Rattle.tower_trace.specs.Heads.{head_bytes};
+ghost use Rattle.tower_trace.specs.Names.{operation_name};
+ghost use Rattle.spr_report.specs.Tracing.{IsNextOf};
+ghost use Rattle.spr_report.specs.Traced.{traced_by};
+ghost use Rattle.spr_report.specs.Report.{op_words, keep_word, event_words, told_words, heads_line, message_line, entry_line};
 
-use hist_plain::{Answer, Event, Keep, Op, Plain};
+use crate::tracing::Tracer;
+use hist_plain::{Answer, Event, Keep, Op};
 use stack_accept::NodeEntry;
 use std::alloc::{AllocError, Global};
 use text_words::{put, put_hex, put_number, put_spaced_number, put_word};
+use tower_log::Entry;
+use tower_trace::{Heads, head_bytes, operation_name};
 
 /// The names of the callers and the nodes, by their numbers.
 #[derive(Clone, Copy)]
@@ -152,7 +160,7 @@ fn put_told(
     answer: Answer,
     bytes: &[u8],
 ) -> Result<(), AllocError>
-    ensures { OnOk result (out.new.items ≡ out.old.items ++ spaced (told_words (record { answer = answer; bytes = bytes.now }))) }
+    ensures { OnOk result (out.new.items ≡ out.old.items ++ spaced (told_words (record { answer = answer; bytes = bytes_with answer bytes.now }))) }
 {
     match answer {
         Answer::Bytes => put_hex(alloc, out, bytes),
@@ -172,7 +180,7 @@ fn put_answered(
     answer: Answer,
     bytes: &[u8],
 ) -> Result<(), AllocError>
-    ensures { OnOk result (out.new.items ≡ out.old.items ++ line_of (decimal place ∷ (event_words (map (λ n. n.now) names.now.callers.now) (node_names names.now.nodes.now) event.now ++ told_words (record { answer = answer; bytes = bytes.now })))) }
+    ensures { OnOk result (out.new.items ≡ out.old.items ++ line_of (decimal place ∷ (event_words (map (λ n. n.now) names.now.callers.now) (node_names names.now.nodes.now) event.now ++ told_words (record { answer = answer; bytes = bytes_with answer bytes.now })))) }
 {
     put_number(out, place)?;
     put_event(alloc, out, names, event)?;
@@ -180,39 +188,73 @@ fn put_answered(
     put(out, b"\n")
 }
 
-/// Applies an event to the plain file, and appends the event's line if it has an answer. The event's
-/// place is the number of events that the file took before.
+/// Appends the words of a message behind its node: its operation and its page, and the heads of its two frames.
+fn put_two(alloc: Global, out: &mut Vec<u8>, two: &Heads) -> Result<(), AllocError>
+    ensures { OnOk result (out.new.items ≡ out.old.items ++ spaced (operation_name two.now.which ∷ decimal two.now.page ∷ encode_lower (head_bytes two.now.first) ∷ encode_lower (head_bytes two.now.second) ∷ [])) }
+{
+    put_word(out, operation_name(two.which).as_bytes())?;
+    put_spaced_number(out, u64::from(two.page))?;
+    put_hex(alloc, out, &head_bytes(&two.first))?;
+    put_hex(alloc, out, &head_bytes(&two.second))
+}
+
+/// Appends the line of a message at a place, of a node.
+fn put_heads(
+    alloc: Global,
+    out: &mut Vec<u8>,
+    names: &Names,
+    place: u64,
+    node: u32,
+    two: &Heads,
+) -> Result<(), AllocError>
+    ensures { OnOk result (out.new.items ≡ out.old.items ++ heads_line (node_names names.now.nodes.now) place node (Some two.now)) }
+{
+    let name = node_name(names.nodes, node);
+    put_number(out, place)?;
+    put_word(out, name)?;
+    put_two(alloc, out, two)?;
+    put(out, b"\n")
+}
+
+/// Appends the line of a message at a place, if messages are traced.
+fn put_message(
+    alloc: Global,
+    out: &mut Vec<u8>,
+    names: &Names,
+    place: u64,
+    tracer: &Option<Tracer<'_>>,
+    event: &Event,
+) -> Result<(), AllocError>
+    requires { IfSome (traced_by tracer.now) (λ t. IsNextOf t event.now) }
+    ensures { OnOk result (out.new.items ≡ out.old.items ++ message_line (node_names names.now.nodes.now) place (traced_by tracer.now) event.now) }
+{
+    let Some(tracer) = tracer else {
+        return Ok(());
+    };
+    match tracer.heads_of(event) {
+        Some(two) => put_heads(alloc, out, names, place, event.node(), &two),
+        None => Ok(()),
+    }
+}
+
+/// Appends the line of an entry at a place, if it has one.
 pub(crate) fn put_entry(
     alloc: Global,
     out: &mut Vec<u8>,
     names: &Names,
-    event: &Event,
-    plain: &mut Plain,
+    place: u64,
+    tracer: &Option<Tracer<'_>>,
+    entry: &Entry,
 ) -> Result<(), AllocError>
-    requires suits { Suits plain.old.shape plain.old.file event.now }
-    requires room { plain.old.len < MAX_EVENTS }
-    ensures line { OnOk result (out.new.items ≡ out.old.items ++ entry_line (map (λ n. n.now) names.now.callers.now) (node_names names.now.nodes.now) (record { place = plain.old.len; event = event.now; told = reply plain.old.shape plain.old.file event.now })) }
-    ensures file { OnOk result (plain.new.file ≡ applied plain.old.shape plain.old.file event.now) }
-    ensures shape { OnOk result (plain.new.shape ≡ plain.old.shape) }
-    ensures len { OnOk result (plain.new.len ≡ plain.old.len + 1) }
+    requires { IfSome (traced_by tracer.now) (λ t. IsNextOf t entry.now.event) }
+    ensures { OnOk result (out.new.items ≡ out.old.items ++ entry_line (map (λ n. n.now) names.now.callers.now) (node_names names.now.nodes.now) place (traced_by tracer.now) entry.now) }
 {
-    let place = plain.len();
-    let mut bytes = vec![in alloc; 0u8; asked_len(event)]?;
-    let Some(answer) = plain.apply(event, &mut bytes) else {
-        return Ok(());
-    };
-    put_answered(alloc, out, names, place, event, answer, &bytes)
-}
-
-/// How many bytes an event asks for.
-fn asked_len(event: &Event) -> usize
-    ensures { result ≡ asked_len event.now }
-{
-    match event {
-        Event::Access { op, .. } => match op {
-            Op::Read { len, .. } => *len as usize,
-            Op::Write { .. } | Op::Clear { .. } | Op::Open => 0,
-        },
-        _ => 0,
+    let event = &entry.event;
+    match entry.answer {
+        Some(answer) => {
+            let bytes = entry.bytes.as_slice();
+            put_answered(alloc, out, names, place, event, answer, bytes)
+        }
+        None => put_message(alloc, out, names, place, tracer, event),
     }
 }

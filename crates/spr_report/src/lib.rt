@@ -4,6 +4,7 @@
 mod answer;
 mod event;
 mod status;
+mod tracing;
 mod whole;
 mod writing;
 

@@ -1,24 +1,27 @@
 //! The whole text of a run.
 
-ghost use Rattle.std.specs.Prelude.{◌≡◌, ◌++◌, ◌∷◌, [], ◌≤◌, ◌+◌, OnOk, IfOk, map, length};
+ghost use Rattle.std.specs.Prelude.{◌≡◌, ◌++◌, IfSome, OnOk, IfOk, map, length};
 ghost use Rattle.std.specs.List.{flat_map};
-ghost use Rattle.hist_plain.specs.declared.TheConstants.{MAX_EVENTS};
-ghost use Rattle.hist_plain.specs.History.{AllSuit, entries_from, replay};
 ghost use Rattle.stack_accept.specs.Sound.{IsInLimits};
-ghost use Rattle.run_defs.specs.Stack.{shape_of, node_names};
-ghost use Rattle.run_defs.specs.Log.{events_of, IsHistory, AreHistories};
-ghost use Rattle.run_defs.specs.Report.{client_parts, entry_line, file_part, file_parts, callers_of, closing_lines, lost_line, report};
+ghost use Rattle.run_defs.specs.Stack.{node_names};
+ghost use Rattle.tower_log.specs.Log.{entries_of, trail_of};
+ghost use Rattle.spr_report.specs.Tracing.{IsNextOf, AreNextOf, IsReported, AreReported, traced_after};
+ghost use Rattle.spr_report.specs.Traced.{traced_by};
+ghost use Rattle.spr_report.specs.Report.{client_parts, entry_lines, file_part, file_parts, callers_of, closing_lines, lost_line, report};
 
 use crate::answer::{put_client, put_closing};
 use crate::event::{Names, put_entry};
+use crate::tracing::Tracer;
 use crate::writing::lost_pieces;
-use hist_plain::Plain;
-use run_defs::{History, Logged, StoreKey, parents_of};
+use hist_plain::Event;
+use pager_channel::Ops;
+use run_defs::StoreKey;
 use script_text::{ClientLine, Reply, Said, Script};
 use seen_values::Text;
 use stack_accept::{FileEntry, Mounted};
 use std::alloc::{AllocError, Global};
 use text_words::{put, put_line};
+use tower_log::Trail;
 
 /// All that a report tells of a run.
 #[derive(Clone, Copy)]
@@ -27,8 +30,10 @@ pub struct Run<'a> {
     pub mount: &'a Mounted,
     /// The script.
     pub script: &'a Script,
-    /// Each file's history, in the order of the files.
-    pub histories: &'a [History],
+    /// The numbers of the operations, if messages are traced.
+    pub traced: Option<Ops>,
+    /// Each file's log, in the order of the files.
+    pub logs: &'a [Trail],
     /// Each client's answers, in the order of the clients.
     pub said: &'a [Vec<Said>],
     /// The answer of each file's closing sync.
@@ -66,64 +71,54 @@ fn put_clients(
     Ok(())
 }
 
-/// Applies what was logged to the plain file, and appends its line if it is an event with an answer.
-fn put_logged(
-    alloc: Global,
-    out: &mut Vec<u8>,
-    names: &Names,
-    logged: &Logged,
-    plain: &mut Plain,
-) -> Result<(), AllocError>
-    requires suit { AllSuit plain.old.shape plain.old.file (events_of (logged.now ∷ [])) }
-    requires room { plain.old.len + length (events_of (logged.now ∷ [])) ≤ MAX_EVENTS }
-    ensures line { OnOk result (out.new.items ≡ out.old.items ++ flat_map (entry_line (map (λ n. n.now) names.now.callers.now) (node_names names.now.nodes.now)) (entries_from plain.old.shape plain.old.file plain.old.len (events_of (logged.now ∷ [])))) }
-    ensures file { OnOk result (plain.new.file ≡ replay plain.old.shape plain.old.file (events_of (logged.now ∷ []))) }
-    ensures shape { OnOk result (plain.new.shape ≡ plain.old.shape) }
-    ensures len { OnOk result (plain.new.len ≡ plain.old.len + length (events_of (logged.now ∷ []))) }
+/// Enters the event in the sheet, if messages are traced.
+fn advance(tracer: &mut Option<Tracer<'_>>, event: &Event)
+    requires { IfSome (traced_by tracer.old) (λ t. IsNextOf t event.now) }
+    ensures { traced_by tracer.new ≡ traced_after (traced_by tracer.old) event.now }
 {
-    match logged {
-        Logged::Entered { event } => put_entry(alloc, out, names, event, plain),
-        Logged::Noted { .. } => Ok(()),
+    if let Some(tracer) = tracer {
+        tracer.take(event);
     }
 }
 
-/// Appends a line for each event of a log that has an answer.
+/// Appends the lines of the entries of a log.
 fn put_entries(
     alloc: Global,
     out: &mut Vec<u8>,
     names: &Names,
-    log: &[Logged],
-    plain: &mut Plain,
+    tracer: &mut Option<Tracer<'_>>,
+    log: &Trail,
 ) -> Result<(), AllocError>
-    requires suit { AllSuit plain.old.shape plain.old.file (events_of log.now) }
-    requires room { plain.old.len + length (events_of log.now) ≤ MAX_EVENTS }
-    ensures { OnOk result (out.new.items ≡ out.old.items ++ flat_map (entry_line (map (λ n. n.now) names.now.callers.now) (node_names names.now.nodes.now)) (entries_from plain.old.shape plain.old.file plain.old.len (events_of log.now))) }
+    requires { IfSome (traced_by tracer.old) (λ t. AreNextOf t (trail_of log.now.log)) }
+    ensures { OnOk result (out.new.items ≡ out.old.items ++ entry_lines (map (λ n. n.now) names.now.callers.now) (node_names names.now.nodes.now) 0 (traced_by tracer.old) (entries_of log.now.log)) }
 {
-    for logged in log {
-        put_logged(alloc, out, names, logged, plain)?;
+    for place in 0..log.len() {
+        if let Some(entry) = log.entry(place) {
+            put_entry(alloc, out, names, place, tracer, entry)?;
+            advance(tracer, &entry.event);
+        }
     }
     Ok(())
 }
 
-/// Appends the part of a file: its name, and a line for each event that has an answer.
+/// Appends the part of a file, which has this number: its name, and the lines of its log.
 fn put_file(
     alloc: Global,
     out: &mut Vec<u8>,
     names: &Names,
-    mount: &Mounted,
+    run: &Run<'_>,
+    number: u32,
     file: &FileEntry,
-    history: &History,
+    log: &Trail,
 ) -> Result<(), AllocError>
     requires pages { IsInLimits file.now.pages }
-    requires history { IsHistory (shape_of mount.now) file.now.pages history.now }
-    requires nodes { names.now.nodes.now ≡ mount.now.nodes }
-    ensures { OnOk result (out.new.items ≡ out.old.items ++ file_part (map (λ n. n.now) names.now.callers.now) mount.now file.now history.now) }
+    requires log { IsReported run.now.mount.now file.now log.now.log }
+    requires nodes { names.now.nodes.now ≡ run.now.mount.now.nodes }
+    ensures { OnOk result (out.new.items ≡ out.old.items ++ file_part (map (λ n. n.now) names.now.callers.now) run.now.mount.now run.now.traced number file.now log.now.log) }
 {
     put_line(out, &[b"file", file.name.as_str().as_bytes()])?;
-    let parents = parents_of(alloc, mount.tree())?;
-    let opening = history.opening.as_slice();
-    let mut plain = Plain::new(alloc, mount.page_size(), &parents, opening)?;
-    put_entries(alloc, out, names, history.log.as_slice(), &mut plain)
+    let mut tracer = Tracer::start(alloc, run.mount, run.traced, number, file)?;
+    put_entries(alloc, out, names, &mut tracer, log)
 }
 
 /// Appends the part of each file.
@@ -131,15 +126,14 @@ fn put_files(
     alloc: Global,
     out: &mut Vec<u8>,
     names: &Names,
-    mount: &Mounted,
-    histories: &[History],
+    run: &Run<'_>,
 ) -> Result<(), AllocError>
-    requires histories { AreHistories (shape_of mount.now) mount.now.files histories.now }
-    requires nodes { names.now.nodes.now ≡ mount.now.nodes }
-    ensures { OnOk result (out.new.items ≡ out.old.items ++ file_parts (map (λ n. n.now) names.now.callers.now) mount.now mount.now.files histories.now) }
+    requires logs { AreReported run.now.mount.now run.now.mount.now.files (map (λ t. t.log) run.now.logs.now) }
+    requires nodes { names.now.nodes.now ≡ run.now.mount.now.nodes }
+    ensures { OnOk result (out.new.items ≡ out.old.items ++ file_parts (map (λ n. n.now) names.now.callers.now) run.now.mount.now run.now.traced 0 run.now.mount.now.files (map (λ t. t.log) run.now.logs.now)) }
 {
-    for (i, file) in mount.files().iter().enumerate() {
-        put_file(alloc, out, names, mount, file, &histories[i])?;
+    for (i, file) in run.mount.files().iter().enumerate() {
+        put_file(alloc, out, names, run, i as u32, file, &run.logs[i])?;
     }
     Ok(())
 }
@@ -182,12 +176,12 @@ fn put_lost(out: &mut Vec<u8>, mount: &Mounted, lost: &[StoreKey]) -> Result<(),
 }
 
 /// The text of a run that reached its phases, without the line of its status: the answers of each
-/// client, the history of each file, the closing syncs that failed, and the stores that were lost.
+/// client, the log of each file, the closing syncs that failed, and the stores that were lost.
 pub fn report(alloc: Global, run: &Run<'_>) -> Result<Vec<u8>, AllocError>
-    requires histories { AreHistories (shape_of run.now.mount.now) run.now.mount.now.files run.now.histories.now }
+    requires logs { AreReported run.now.mount.now run.now.mount.now.files (map (λ t. t.log) run.now.logs.now) }
     requires said { length run.now.said.now ≡ length run.now.script.now.clients }
     requires closing { length run.now.closing.now ≡ length run.now.mount.now.files }
-    ensures { IfOk result (λ text. text.items ≡ report run.now.mount.now run.now.script.now run.now.histories.now (map (λ v. v.items) run.now.said.now) run.now.closing.now run.now.lost.now) }
+    ensures { IfOk result (λ text. text.items ≡ report run.now.mount.now run.now.script.now run.now.traced (map (λ t. t.log) run.now.logs.now) (map (λ v. v.items) run.now.said.now) run.now.closing.now run.now.lost.now) }
 {
     let mut out = Vec::new(alloc);
     let mount = run.mount;
@@ -198,7 +192,7 @@ pub fn report(alloc: Global, run: &Run<'_>) -> Result<Vec<u8>, AllocError>
         nodes: mount.nodes(),
     };
     put_clients(alloc, &mut out, mount.disks(), clients, run.said)?;
-    put_files(alloc, &mut out, &names, mount, run.histories)?;
+    put_files(alloc, &mut out, &names, run)?;
     put_closings(alloc, &mut out, mount.disks(), mount.files(), run.closing)?;
     put_lost(&mut out, mount, run.lost)?;
     Ok(out)

@@ -2,7 +2,7 @@
 
 ghost use Rattle.std.specs.Prelude.{◌≡◌, ◌++◌};
 ghost use Rattle.std.specs.List.{flat_map};
-ghost use Rattle.run_defs.specs.Report.{lost_line};
+ghost use Rattle.spr_report.specs.Report.{lost_line};
 ghost use Rattle.spr_report.specs.Writing.{Writes, Finishes, status_line};
 
 use crate::status::Status;

@@ -1,5 +1,5 @@
 -- How a command ends, from how its parts ended.
-use Rattle.std.proofs.Common.{◌≡◌, ℕ, List, Some, subst}
+use Rattle.std.proofs.Common.{◌≡◌, ℕ, Bool, List, Some, subst}
 use Rattle.pager_channel.specs.declared.numbers.Ops.{Ops}
 use Rattle.script_text.specs.declared.script.Script.{Script}
 use Rattle.stack_accept.specs.Mount.{Mount}
@@ -12,7 +12,7 @@ use Rattle.file_stores.specs.Written.{Written}
 use Rattle.image_commands.specs.Says.{SaysFormat, SaysDump}
 use Rattle.run_texts.specs.Stacks.{IsMounted}
 use Rattle.run_texts.specs.Refusal.{Names, HasFile, IsPrepared}
-use Rattle.run_files.specs.Run.{SaysRun}
+use Rattle.run_files.specs.Run.{SaysRun, traced_by}
 use Rattle.spr_run.specs.Ways.{Outside, IsIdle, SaysCheck, SaysTables, SaysFormatted, SaysDumped, SaysRan, Ends, formats, dumps, runs, checked, tabled, formatted, dumped, ran}
 
 -- what was written so was one of the ways of a command
@@ -27,9 +27,9 @@ pub ends-dumps : (stack name : List ℕ) (o : Outside) (mount : Mount) (file : �
     → Written (SaysDump mount o.bay o.bay_after (record { file = file; disk = 0 })) before after result → Written (SaysDumped stack name o) before after result
 ends-dumps stack name o mount file before after result has calm w = written-as before after result (λ text status said. dumps mount file has calm said) w
 
-pub ends-runs : (names : Names) (o : Outside) (mount : Mount) (script : Script) (ops : Ops) (before after : SinkSeen) (result : Status) → IsPrepared o.shelf names mount script ops → o.shelf_after.faults ≡ o.shelf.faults
-    → Written (SaysRun mount script o.bay o.bay_after) before after result → Written (SaysRan names o) before after result
-ends-runs names o mount script ops before after result prepared calm w = written-as before after result (λ text status said. runs mount script ops prepared calm said) w
+pub ends-runs : (names : Names) (trace : Bool) (o : Outside) (mount : Mount) (script : Script) (ops : Ops) (before after : SinkSeen) (result : Status) → IsPrepared o.shelf names mount script ops → o.shelf_after.faults ≡ o.shelf.faults
+    → Written (SaysRun mount script (traced_by ops trace) o.bay o.bay_after) before after result → Written (SaysRan names trace o) before after result
+ends-runs names trace o mount script ops before after result prepared calm w = written-as before after result (λ text status said. runs mount script ops prepared calm said) w
 
 pub ends-check : (words : List (List ℕ)) (stack : List ℕ) (o : Outside) (before after : SinkSeen) (result : Status) → asked words ≡ Some (Check stack) → IsIdle o
     → Written (SaysCheck stack o.shelf o.shelf_after) before after result → Ends words o before after result
@@ -47,19 +47,12 @@ pub ends-dump : (words : List (List ℕ)) (stack name : List ℕ) (o : Outside) 
     → Written (SaysDumped stack name o) before after result → Ends words o before after result
 ends-dump words stack name o before after result asks w = written-as before after result (λ text status said. dumped stack name asks said) w
 
-pub ends-run : (words : List (List ℕ)) (names : Names) (o : Outside) (before after : SinkSeen) (result : Status) → asked words ≡ Some (Run names.idl names.stack names.script)
-    → Written (SaysRan names o) before after result → Ends words o before after result
-ends-run words names o before after result asks w = written-as before after result (λ text status said. ran names asks said) w
+pub ends-run : (words : List (List ℕ)) (names : Names) (trace : Bool) (o : Outside) (before after : SinkSeen) (result : Status) → asked words ≡ Some (Run trace names.idl names.stack names.script)
+    → Written (SaysRan names trace o) before after result → Ends words o before after result
+ends-run words names trace o before after result asks w = written-as before after result (λ text status said. ran names trace asks said) w
 
 -- the names that a command was made with are those that the words have
 pub named-dump : {a b x y : List ℕ} (o : Outside) (before after : SinkSeen) (result : Status) → a ≡ b → x ≡ y
     → Written (SaysDumped a x o) before after result → Written (SaysDumped b y o) before after result
 named-dump {b = b} {x = x} o before after result stack name w =
     subst (λ (n : List ℕ). Written (SaysDumped b n o) before after result) name (subst (λ (s : List ℕ). Written (SaysDumped s x o) before after result) stack w)
-
-pub named-run : {a b x y p q : List ℕ} (o : Outside) (before after : SinkSeen) (result : Status) → a ≡ b → x ≡ y → p ≡ q
-    → Written (SaysRan (record { idl = a; stack = x; script = p }) o) before after result → Written (SaysRan (record { idl = b; stack = y; script = q }) o) before after result
-named-run {b = b} {x = x} {y = y} {p = p} o before after result idl stack script w =
-    subst (λ (n : List ℕ). Written (SaysRan (record { idl = b; stack = y; script = n }) o) before after result) script
-    (subst (λ (n : List ℕ). Written (SaysRan (record { idl = b; stack = n; script = p }) o) before after result) stack
-    (subst (λ (n : List ℕ). Written (SaysRan (record { idl = n; stack = x; script = p }) o) before after result) idl w))

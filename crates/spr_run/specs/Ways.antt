@@ -1,5 +1,5 @@
 -- The ways in which a command ends, each with the text that it writes and its status. The line of the status follows the text.
-use Rattle.std.specs.Prelude.{◌≡◌, ℕ, List, [], codes, Some, None}
+use Rattle.std.specs.Prelude.{◌≡◌, ℕ, Bool, List, [], codes, Some, None}
 use Rattle.pager_channel.specs.declared.numbers.Ops.{Ops}
 use Rattle.script_text.specs.declared.script.Script.{Script}
 use Rattle.stack_accept.specs.Mount.{Mount}
@@ -16,7 +16,7 @@ use Rattle.run_texts.specs.declared.refusal.Refusal.{Refusal}
 use Rattle.run_texts.specs.Stacks.{IsMounted, IsTreeOf}
 use Rattle.run_texts.specs.Interfaces.{AreTablesOf, IsInterfacesCause}
 use Rattle.run_texts.specs.Refusal.{Names, HasFile, IsPrepared, IsStackCause, IsFileCause, IsCause, refusal_text, refusal_status}
-use Rattle.run_files.specs.Run.{SaysRun}
+use Rattle.run_files.specs.Run.{SaysRun, traced_by}
 
 -- what was told of the shelf and the bay before a command, and after it
 pub record Outside : Type 0 where
@@ -74,11 +74,11 @@ pub data SaysDumped (stack name : List ℕ) (o : Outside) (text : List ℕ) (sta
   undumped : IsIdle o → Refuses (IsFileCause o.shelf o.shelf_after stack name) (only_stack stack) text status → SaysDumped stack name o text status
 
 -- `run`: the interfaces have each operation, and the script was run over the files of the stack, or they could not be opened; or
--- a text is refused, or could not be read
-pub data SaysRan (names : Names) (o : Outside) (text : List ℕ) (status : Status) : Type 0 where
+-- a text is refused, or could not be read. The report has the page messages if they are asked for
+pub data SaysRan (names : Names) (trace : Bool) (o : Outside) (text : List ℕ) (status : Status) : Type 0 where
   runs : (mount : Mount) (script : Script) (ops : Ops) → IsPrepared o.shelf names mount script ops → o.shelf_after.faults ≡ o.shelf.faults
-      → SaysRun mount script o.bay o.bay_after text status → SaysRan names o text status
-  unrun : IsIdle o → Refuses (IsCause o.shelf o.shelf_after names) names text status → SaysRan names o text status
+      → SaysRun mount script (traced_by ops trace) o.bay o.bay_after text status → SaysRan names trace o text status
+  unrun : IsIdle o → Refuses (IsCause o.shelf o.shelf_after names) names text status → SaysRan names trace o text status
 
 abbrev pub usage_text : List ℕ
 usage_text = codes "usage: spring run, gen, check, format, dump or idl\n"
@@ -92,7 +92,7 @@ pub data Says (words : List (List ℕ)) (o : Outside) (text : List ℕ) (status 
   tabled : (idl : List ℕ) → asked words ≡ Some (Idl idl) → IsIdle o → SaysTables idl o.shelf o.shelf_after text status → Says words o text status
   formatted : (stack : List ℕ) → asked words ≡ Some (Format stack) → SaysFormatted stack o text status → Says words o text status
   dumped : (stack name : List ℕ) → asked words ≡ Some (Dump stack name) → SaysDumped stack name o text status → Says words o text status
-  ran : (names : Names) → asked words ≡ Some (Run names.idl names.stack names.script) → SaysRan names o text status → Says words o text status
+  ran : (names : Names) (trace : Bool) → asked words ≡ Some (Run trace names.idl names.stack names.script) → SaysRan names trace o text status → Says words o text status
 
 -- How a command ends: in one of the ways, whose text and status are written; or the sink failed.
 abbrev pub Ends : List (List ℕ) → Outside → SinkSeen → SinkSeen → Status → Type 0

@@ -104,6 +104,19 @@ const WRITE_BELOW: &[u8] =
 const WRITE_BELOW_REPORT: &str =
     "client a\n3 life 0\n4 done\n6 life 0\n7 61\nfile f\n0 a 0 c 0 open life 0\n2 a 1 c 0 write 0 0 61 done\n3 a 2 k 0 open life 0\n5 a 3 k 0 read 0 0 1 61\n7 mount 0 c synced 6 done\nstatus 0\n";
 
+/// The same runs with their page messages, and the heads of their frames.
+const UNSAVED_TRACED: &str =
+    "client a\n3 life 0\n4 done\n5 61626364\nfile f\n0 a 0 c 0 open life 0\n1 c zero_fill 0 000200000000000000000000000000000000004002000000 000200040000000000000000000000000000004002040000\n2 a 1 c 0 write 0 0 61626364 done\n3 a 2 c 0 read 0 0 4 61626364\n4 c sync 0 000200030000000000000000000000000000004002010000 000200030000000000000000000000000000004002020000\n5 mount 0 c synced 4 done\nstatus 0\n";
+
+const ZEROS_TRACED: &str =
+    "client a\n3 life 0\n4 00000000000000000000000000000000000000000000000000000000000000000000000000000000000000000000000000000000000000000000000000000000\nfile f\n0 a 0 c 0 open life 0\n1 c zero_fill 1 000200000000000000000000000000400000004001000000 000200040000000000000000000000400000004001040000\n2 a 1 c 0 read 1 0 64 00000000000000000000000000000000000000000000000000000000000000000000000000000000000000000000000000000000000000000000000000000000\n3 mount 0 c synced 3 done\nstatus 0\n";
+
+const WRITE_ABOVE_TRACED: &str =
+    "client a\n3 life 0\n4 done\n6 life 0\n7 61\nfile f\n0 a 0 k 0 open life 0\n1 c zero_fill 0 000200000000000000000000000000000000004002000000 000200040000000000000000000000000000004002040000\n2 k zero_fill 0 000200000000000000000000000000000000004002000000 000200040000000000000000000000000000004002040000\n3 a 1 k 0 write 0 0 61 done\n4 a 2 c 0 open life 0\n5 k deny_writes 0 000200010000000000000000000000000000004001040000 000200010000000000000000000000000000004001070000\n6 a 3 c 0 read 0 0 1 61\n7 c sync 0 000200030000000000000000000000000000004002010000 000200030000000000000000000000000000004002020000\n8 mount 0 c synced 7 done\nstatus 0\n";
+
+const WRITE_BELOW_TRACED: &str =
+    "client a\n3 life 0\n4 done\n6 life 0\n7 61\nfile f\n0 a 0 c 0 open life 0\n1 c zero_fill 0 000200000000000000000000000000000000004002000000 000200040000000000000000000000000000004002040000\n2 a 1 c 0 write 0 0 61 done\n3 a 2 k 0 open life 0\n4 k page_in 0 000200000000000000000000000000000000004001000000 000200000000000000000000000000000000004001030000\n5 a 3 k 0 read 0 0 1 61\n6 c sync 0 000200030000000000000000000000000000004002010000 000200030000000000000000000000000000004002020000\n7 mount 0 c synced 6 done\nstatus 0\n";
+
 /// Three layers, one upon another.
 const DEEP: &[u8] =
     b"page 64\nfile f 2\ndisk d m\ncoherency c m d\ncoherency k m c\ncoherency l m k\n";
@@ -255,10 +268,11 @@ fn command<R: Threads + Wait + Sync>(
     command_at(rt, alloc, words, stack, script, &SOUND, &mut bay)
 }
 
-/// Runs a script over a stack whose stores were formatted, where some calls of the outside fail.
+/// Runs a script by these words over a stack whose stores were formatted, where some calls of the outside fail.
 fn run<R: Threads + Wait + Sync>(
     rt: &R,
     alloc: Global,
+    words: &[&str],
     stack: &[u8],
     script: &[u8],
     outside: &Outside<'_>,
@@ -266,12 +280,14 @@ fn run<R: Threads + Wait + Sync>(
     let mut bay = bay_of(alloc, outside)?;
     let (formatted, _sink) = command_at(rt, alloc, FORMAT, stack, b"", &SOUND, &mut bay)?;
     match formatted {
-        Status::Good => command_at(rt, alloc, RUN, stack, script, outside, &mut bay),
+        Status::Good => command_at(rt, alloc, words, stack, script, outside, &mut bay),
         _ => Err(Fail::from("the images")),
     }
 }
 
 const RUN: &[&str] = &["run", "I", "S", "T"];
+
+const TRACE: &[&str] = &["run", "--trace", "I", "S", "T"];
 
 const CHECK: &[&str] = &["check", "S"];
 
@@ -375,26 +391,31 @@ fn refusals(rt: HostRuntime) -> Result<(), Fail> {
 #[test]
 fn runs(rt: HostRuntime) -> Result<(), Fail> {
     let empty = "file f\n0 mount 0 c synced 0 done\nstatus 0\n";
-    let rows: [(&[u8], &[u8], &str); 12] = [
-        (STACK, UNSAVED, UNSAVED_REPORT),
-        (STACK, SCRIPT, REPORT),
-        (STACK, b"", empty),
-        (STACK, LOST_NAMES, LOST_NAMES_REPORT),
-        (STACK, EDGES, EDGES_REPORT),
-        (STACK, ZEROS, ZEROS_REPORT),
-        (STACK, TWO_CLIENTS, TWO_CLIENTS_REPORT),
-        (TWO_LAYERS, WRITE_ABOVE, WRITE_ABOVE_REPORT),
-        (TWO_LAYERS, WRITE_BELOW, WRITE_BELOW_REPORT),
-        (DEEP, DEEP_SCRIPT, DEEP_REPORT),
-        (WIDE, WIDE_SCRIPT, WIDE_REPORT),
+    let rows: [(&[&str], &[u8], &[u8], &str); 16] = [
+        (RUN, STACK, UNSAVED, UNSAVED_REPORT),
+        (RUN, STACK, SCRIPT, REPORT),
+        (RUN, STACK, b"", empty),
+        (RUN, STACK, LOST_NAMES, LOST_NAMES_REPORT),
+        (RUN, STACK, EDGES, EDGES_REPORT),
+        (RUN, STACK, ZEROS, ZEROS_REPORT),
+        (RUN, STACK, TWO_CLIENTS, TWO_CLIENTS_REPORT),
+        (RUN, TWO_LAYERS, WRITE_ABOVE, WRITE_ABOVE_REPORT),
+        (RUN, TWO_LAYERS, WRITE_BELOW, WRITE_BELOW_REPORT),
+        (RUN, DEEP, DEEP_SCRIPT, DEEP_REPORT),
+        (RUN, WIDE, WIDE_SCRIPT, WIDE_REPORT),
         (
+            RUN,
             b"page 128\nfile h 3\ndisk e m\ncoherency c m e\n",
             b"",
             "file h\n0 mount 0 c synced 0 done\nstatus 0\n",
         ),
+        (TRACE, STACK, UNSAVED, UNSAVED_TRACED),
+        (TRACE, STACK, ZEROS, ZEROS_TRACED),
+        (TRACE, TWO_LAYERS, WRITE_ABOVE, WRITE_ABOVE_TRACED),
+        (TRACE, TWO_LAYERS, WRITE_BELOW, WRITE_BELOW_TRACED),
     ];
-    for (stack, script, text) in rows {
-        let (got, sink) = run(&rt, rt.alloc(), stack, script, &SOUND)?;
+    for (words, stack, script, text) in rows {
+        let (got, sink) = run(&rt, rt.alloc(), words, stack, script, &SOUND)?;
         assert_eq!(rt; got, Status::Good, "at {text}");
         assert_eq!(rt; sink.bytes(), text.as_bytes(), "at {text}");
     }
@@ -567,12 +588,12 @@ const FILES_FAULTS: [(Outside<'static>, Status, &[u8]); 6] = [
 #[test]
 fn faults(rt: HostRuntime) -> Result<(), Fail> {
     for (outside, status, text) in FAULTS {
-        let (got, sink) = run(&rt, rt.alloc(), STACK, SCRIPT, &outside)?;
+        let (got, sink) = run(&rt, rt.alloc(), RUN, STACK, SCRIPT, &outside)?;
         assert_eq!(rt; got, status);
         assert_eq!(rt; sink.bytes(), text);
     }
     for (outside, status, text) in FILES_FAULTS {
-        let (got, sink) = run(&rt, rt.alloc(), FILES, FILES_SCRIPT, &outside)?;
+        let (got, sink) = run(&rt, rt.alloc(), RUN, FILES, FILES_SCRIPT, &outside)?;
         assert_eq!(rt; got, status);
         assert_eq!(rt; sink.bytes(), text);
     }
@@ -595,7 +616,7 @@ fn each_call(rt: HostRuntime) -> Result<(), Fail> {
     ] {
         for nth in 1..6 {
             let fails = [before + nth];
-            let (got, _sink) = run(&rt, alloc, STACK, SCRIPT, &refusing(call, &fails))?;
+            let (got, _sink) = run(&rt, alloc, RUN, STACK, SCRIPT, &refusing(call, &fails))?;
             assert_eq!(rt; got == Status::Good, nth > count, "at {call:?} {nth}");
         }
     }
@@ -636,14 +657,19 @@ const READ_AGAIN: &[u8] = b"client a m\nphase\na open x c/f\na read x 0 0 4\n";
 const READ_AGAIN_REPORT: &str =
     "client a\n3 life 0\n4 61626364\nfile f\n0 a 0 c 0 open life 0\n2 a 1 c 0 read 0 0 4 61626364\n3 mount 0 c synced 3 done\nstatus 0\n";
 
+/// The store does not give the page that the read needs.
+const UNREAD_REPORT: &str =
+    "client a\n3 life 0\n4 store d 1\nfile f\n0 a 0 c 0 open life 0\n1 mount 0 c synced 1 done\nstatus 1\n";
+
 const FIRST_PAGE: &str =
     "page 0 61626364000000000000000000000000000000000000000000000000000000000000000000000000000000000000000000000000000000000000000000000000\npage 1 zeros\nstatus 0\n";
 
-/// Commands one after another over the same store, which is blank at first.
+/// Commands one after another over the same store, which is blank at first. Each run reads the header and the map of the image,
+/// and the first that reads a page again does not get it.
 #[test]
 fn images(rt: HostRuntime) -> Result<(), Fail> {
     let alloc = rt.alloc();
-    let rows: [(&[&str], &[u8], Status, &str); 11] = [
+    let rows: [(&[&str], &[u8], Status, &str); 12] = [
         (
             RUN,
             SCRIPT,
@@ -660,6 +686,7 @@ fn images(rt: HostRuntime) -> Result<(), Fail> {
         ),
         (RUN, SCRIPT, Status::Good, REPORT),
         (DUMP, b"", Status::Good, FIRST_PAGE),
+        (RUN, READ_AGAIN, Status::Faulted, UNREAD_REPORT),
         (RUN, READ_AGAIN, Status::Good, READ_AGAIN_REPORT),
         (
             &["dump", "S", "q"],
@@ -681,7 +708,7 @@ fn images(rt: HostRuntime) -> Result<(), Fail> {
             "page 0 zeros\npage 1 zeros\nstatus 0\n",
         ),
     ];
-    let mut bay = bay_of(alloc, &SOUND)?;
+    let mut bay = bay_of(alloc, &refusing(Call::Read, &[14]))?;
     for (words, script, status, text) in rows {
         let (got, sink) = command_at(&rt, alloc, words, STACK, script, &SOUND, &mut bay)?;
         assert_eq!(rt; got, status, "at {text}");

@@ -22,20 +22,21 @@ use std::thread::Threads;
 const USAGE: &[u8] = b"usage: spring run, gen, check, format, dump or idl\n";
 
 /// Runs the script of a name over the files of the stack of a name, where the interfaces of a name fit together and have
-/// each operation, and writes how that ended.
+/// each operation, and writes how that ended; with the page messages, if they are asked for.
 fn run_named<H: Shelf, B: Bay, K: Sink>(
     alloc: Global,
     idl: &Text,
     stack: &Text,
     name: &Text,
+    trace: bool,
     shelf: &mut H,
     bay: &mut B,
     sink: &mut K,
 ) -> Status
-    ensures ends { Written (SaysRan (record { idl = idl.now; stack = stack.now; script = name.now }) (outside (H.told shelf.old) (H.told shelf.new) (B.told bay.old) (B.told bay.new))) (K.told sink.old) (K.told sink.new) result }
+    ensures ends { Written (SaysRan (record { idl = idl.now; stack = stack.now; script = name.now }) trace (outside (H.told shelf.old) (H.told shelf.new) (B.told bay.old) (B.told bay.new))) (K.told sink.old) (K.told sink.new) result }
 {
     match read_run(alloc, shelf, idl, stack, name) {
-        Ok((mount, script, _ops)) => run_files(alloc, &mount, &script, bay, sink),
+        Ok((mount, script, ops)) => run_files(alloc, &mount, &script, &ops, trace, bay, sink),
         Err(refusal) => {
             let names = TextNames {
                 idl: idl.as_str(),
@@ -53,7 +54,7 @@ fn run_named<H: Shelf, B: Bay, K: Sink>(
 /// view, unless a store failed in it or memory lacked, answers what one plain file answers at its place in the file's one
 /// history, which begins with all its caller had seen and holds its calls once each; after a successful sync every live store
 /// holds that history's bytes. So far a run builds stacks of coherency layers over one disk, its clients take turns, and its
-/// calls are file calls.
+/// calls are file calls. What is said of bytes is said where a store tells what it holds; a file of the host does not.
 pub fn spring<R: Threads + Wait + Sync, H: Shelf, B: Bay, K: Sink, G: Gate>(
     _rt: &R,
     alloc: Global,
@@ -66,9 +67,14 @@ pub fn spring<R: Threads + Wait + Sync, H: Shelf, B: Bay, K: Sink, G: Gate>(
     ensures ends { Ends words.now (outside (H.told shelf.old) (H.told shelf.new) (B.told bay.old) (B.told bay.new)) (K.told sink.old) (K.told sink.new) result }
 {
     match read_words(alloc, words) {
-        Ok(Asked::Run { idl, stack, script }) => {
-            run_named(alloc, &idl, &stack, &script, shelf, bay, sink)
-        }
+        Ok(
+            Asked::Run {
+                trace,
+                idl,
+                stack,
+                script,
+            },
+        ) => run_named(alloc, &idl, &stack, &script, trace, shelf, bay, sink),
         Ok(Asked::Idl { idl }) => put_tables(alloc, shelf, &idl, sink),
         Ok(Asked::Check { stack }) => check_stack(alloc, shelf, &stack, sink),
         Ok(Asked::Format { stack }) => format_stack(alloc, &stack, shelf, bay, sink),

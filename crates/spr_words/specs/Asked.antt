@@ -1,5 +1,6 @@
 -- The command that the words ask for.
-use Rattle.std.specs.Prelude.{List, Option, None, codes, option_map, option_and_then, if◌then◌else◌}
+use Rattle.std.specs.Prelude.{Bool, false, List, Option, None, codes, option_map, option_and_then, if◌then◌else◌}
+use Rattle.std.specs.Option.{option_map_or}
 use Rattle.std.specs.Str.{bytes_eq}
 use Rattle.clap.specs.Words.{Row, Text, first_of}
 use Rattle.clap.specs.Simple.{subcommand_of}
@@ -9,10 +10,14 @@ use Rattle.spr_words.specs.Line.{line}
 use Rattle.spr_words.specs.declared.words.Asked.{Asked}
 use Rattle.spr_words.specs.declared.words.Asked.TheVariants.{Run, Check, Format, Dump, Idl}
 
+-- whether a flag was given: clap finds the word `true` under its id
+abbrev pub is_given : Text → List Row → Bool
+is_given id found = option_map_or (λ word. bytes_eq word (codes "true")) (first_of id found) false
+
 -- the names that each command has, by what clap found
 abbrev pub run_in : List Row → Option Asked
 run_in found =
-    option_and_then (λ idl. option_and_then (λ stack. option_map (λ script. Run idl stack script)
+    option_and_then (λ idl. option_and_then (λ stack. option_map (λ script. Run (is_given (codes "trace") found) idl stack script)
     (first_of (codes "script") found)) (first_of (codes "stack") found)) (first_of (codes "idl") found)
 
 abbrev pub check_in : List Row → Option Asked

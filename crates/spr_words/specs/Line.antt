@@ -1,14 +1,19 @@
 -- The command line of the program, as it is told to clap.
-use Rattle.std.specs.Prelude.{codes, true}
+use Rattle.std.specs.Prelude.{codes, true, Some}
+use Rattle.clap.specs.declared.builder.action.ArgAction.TheVariants.{SetTrue}
 use Rattle.clap.specs.Words.{App, Rule, Shape, Text, new_app, new_rule, with_rule, with_subcommand}
 
 -- a name that a command needs
 abbrev pub name : Text → Rule
 name id = record (new_rule id) { required = true }
 
--- run IDL STACK SCRIPT
+-- a flag that a command may have
+abbrev pub flag : Text → Rule
+flag id = record (new_rule id) { long = Some id; action = Some SetTrue }
+
+-- run [--trace] IDL STACK SCRIPT
 abbrev pub run : Shape
-run = (with_rule (with_rule (with_rule (new_app (codes "run")) (name (codes "idl"))) (name (codes "stack"))) (name (codes "script"))).top
+run = (with_rule (with_rule (with_rule (with_rule (new_app (codes "run")) (flag (codes "trace"))) (name (codes "idl"))) (name (codes "stack"))) (name (codes "script"))).top
 
 -- check STACK
 abbrev pub check : Shape

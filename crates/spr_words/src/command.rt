@@ -2,9 +2,9 @@
 
 ghost use Rattle.std.specs.Prelude.{◌≡◌, false, IfOk};
 ghost use Rattle.clap.specs.Words.{app_of, rule_of, shape_of};
-ghost use Rattle.spr_words.specs.Line.{check, dump, format, idl, line, name, run};
+ghost use Rattle.spr_words.specs.Line.{check, dump, flag, format, idl, line, name, run};
 
-use clap::{Arg, Command};
+use clap::{Arg, ArgAction, Command};
 use std::alloc::{AllocError, Global};
 
 /// A name that a command needs.
@@ -15,11 +15,20 @@ fn name<'a>(alloc: Global, id: &'a str) -> Arg<'a>
     Arg::new(alloc, id).required(true)
 }
 
+/// A flag that a command may have.
+fn flag<'a>(alloc: Global, id: &'a str) -> Arg<'a>
+    ensures rule { rule_of result ≡ flag id.entry.now }
+    ensures global { result.global ≡ false }
+{
+    Arg::new(alloc, id).long(id).action(ArgAction::SetTrue)
+}
+
 /// The command that runs a script.
 fn run<'a>(alloc: Global) -> Result<Command<'a>, AllocError>
     ensures shape { IfOk result (λ c. shape_of c ≡ run) }
 {
     Command::new(alloc, "run")
+        .arg(flag(alloc, "trace"))?
         .arg(name(alloc, "idl"))?
         .arg(name(alloc, "stack"))?
         .arg(name(alloc, "script"))

@@ -9,6 +9,7 @@ use std::test::Fail;
 #[derive(Clone, Copy)]
 enum Wanted<'a> {
     Run(&'a str, &'a str, &'a str),
+    TracedRun(&'a str, &'a str, &'a str),
     Check(&'a str),
     Format(&'a str),
     Dump(&'a str, &'a str),
@@ -28,9 +29,28 @@ fn texts(alloc: Global, words: &[&str]) -> Result<Vec<Text>, Fail> {
 /// Whether the words ask for what is wanted.
 fn is(asked: &Result<Asked, WordsErr>, wanted: Wanted<'_>) -> bool {
     match (asked, wanted) {
-        (Ok(Asked::Run { idl, stack, script }), Wanted::Run(i, s, t)) => {
-            idl.as_str() == i && stack.as_str() == s && script.as_str() == t
-        }
+        (
+            Ok(
+                Asked::Run {
+                    trace,
+                    idl,
+                    stack,
+                    script,
+                },
+            ),
+            Wanted::Run(i, s, t),
+        ) => !*trace && idl.as_str() == i && stack.as_str() == s && script.as_str() == t,
+        (
+            Ok(
+                Asked::Run {
+                    trace,
+                    idl,
+                    stack,
+                    script,
+                },
+            ),
+            Wanted::TracedRun(i, s, t),
+        ) => *trace && idl.as_str() == i && stack.as_str() == s && script.as_str() == t,
         (Ok(Asked::Check { stack }), Wanted::Check(s)) => stack.as_str() == s,
         (Ok(Asked::Format { stack }), Wanted::Format(s)) => stack.as_str() == s,
         (Ok(Asked::Dump { stack, file }), Wanted::Dump(s, f)) => {
@@ -44,7 +64,7 @@ fn is(asked: &Result<Asked, WordsErr>, wanted: Wanted<'_>) -> bool {
 
 #[test]
 fn commands(rt: HostRuntime) -> Result<(), Fail> {
-    let rows: [(&[&str], Wanted<'static>); 34] = [
+    let rows: [(&[&str], Wanted<'static>); 39] = [
         (&["run", "i", "s", "t"], Wanted::Run("i", "s", "t")),
         (&["run", "", "s", "t"], Wanted::Run("", "s", "t")),
         (&["run", "-", "s", "t"], Wanted::Run("-", "s", "t")),
@@ -71,7 +91,21 @@ fn commands(rt: HostRuntime) -> Result<(), Fail> {
         (&["--", "check", "s"], Wanted::Usage),
         (&["run", "i", "s"], Wanted::Usage),
         (&["run", "i", "s", "t", "u"], Wanted::Usage),
-        (&["run", "--trace", "i", "s", "t"], Wanted::Usage),
+        (
+            &["run", "--trace", "i", "s", "t"],
+            Wanted::TracedRun("i", "s", "t"),
+        ),
+        (
+            &["run", "i", "s", "--trace", "t"],
+            Wanted::TracedRun("i", "s", "t"),
+        ),
+        (
+            &["run", "--", "i", "--trace", "t"],
+            Wanted::Run("i", "--trace", "t"),
+        ),
+        (&["run", "--trace", "--trace", "i", "s", "t"], Wanted::Usage),
+        (&["run", "--trace", "i", "s"], Wanted::Usage),
+        (&["check", "--trace", "s"], Wanted::Usage),
         (&["run", "--trace=1", "i", "s", "t"], Wanted::Usage),
         (&["run", "i", "s", "-t"], Wanted::Usage),
         (&["ru", "i", "s", "t"], Wanted::Usage),

@@ -17,6 +17,8 @@ use std::alloc::{AllocError, Global};
 pub enum Asked {
     /// Run a script over the files of a stack.
     Run {
+        /// Whether its messages are traced.
+        trace: bool,
         /// The name of the text of the interfaces.
         idl: Text,
         /// The name of the stack's text.
@@ -68,7 +70,7 @@ impl From<AllocError> for WordsErr {
     }
 }
 
-ghost use Rattle.spr_words.specs.Asked.{asked, asked_by, asked_in, check_in, dump_in, format_in, idl_in, run_in};
+ghost use Rattle.spr_words.specs.Asked.{asked, asked_by, asked_in, check_in, dump_in, format_in, idl_in, is_given, run_in};
 
 /// Lends the words.
 fn lend<'a>(alloc: Global, words: &'a [Text]) -> Result<Vec<&'a str>, AllocError>
@@ -116,15 +118,31 @@ fn named(alloc: Global, found: &ArgMatches<'_>, id: &str) -> Result<Text, WordsE
     }
 }
 
+/// Whether a flag was given under an id.
+fn is_given(found: &ArgMatches<'_>, id: &str) -> bool
+    ensures { result ≡ is_given id.now (rows_of (found_of found.now)) }
+{
+    match found.get_str(id) {
+        Some(word) => word == "true",
+        None => false,
+    }
+}
+
 /// A run, with its names.
 fn run_in(alloc: Global, found: &ArgMatches<'_>) -> Result<Asked, WordsErr>
     ensures ok { IfOk result (λ a. run_in (rows_of (found_of found.now)) ≡ Some a) }
     ensures usage { result ≡ Err WordsErr.Usage → run_in (rows_of (found_of found.now)) ≡ None }
 {
+    let trace = is_given(found, "trace");
     let idl = named(alloc, found, "idl")?;
     let stack = named(alloc, found, "stack")?;
     let script = named(alloc, found, "script")?;
-    Ok(Asked::Run { idl, stack, script })
+    Ok(Asked::Run {
+        trace,
+        idl,
+        stack,
+        script,
+    })
 }
 
 /// A check, with its name.

@@ -7,14 +7,15 @@ pub const HELP: &str =
     "spring: a stack of coherent file system layers, as the file services of Spring had them.
 
 usage: spring format STACK
-       spring run IDL STACK SCRIPT
+       spring run [--trace] IDL STACK SCRIPT
        spring dump STACK FILE
        spring check STACK
        spring idl IDL
 
   format STACK           writes a fresh image of each file on each disk: pages of zeros
   run IDL STACK SCRIPT   mounts the stack, runs the script over it, syncs each file, and writes each
-                         client's answers and each file's one history
+                         client's answers and each file's one history; with --trace also each page
+                         message, with the heads of its two frames
   dump STACK FILE        writes the pages of a file of the stack, as its image has them
   check STACK            writes the tree of layers that the stack makes, or why it cannot be mounted
   idl IDL                writes the numbered operations of each interface

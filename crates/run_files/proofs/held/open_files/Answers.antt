@@ -3,7 +3,7 @@ use Rattle.std.specs.Prelude.{slice_get}
 use Rattle.std.proofs.lemmas.Iterator.Adapters.{YieldsList-from_vec}
 use Rattle.std.proofs.lemmas.Iterator.Consumers.{YieldsList-turn}
 use Rattle.std.proofs.lemmas.Option.{slice_get-get_or}
-use Rattle.plain_tower.specs.Tower.{TowerSeen}
+use Rattle.stack_engine.specs.Tower.{TowerSeen}
 use Rattle.file_stores.specs.Held.{StoreSeen}
 use Rattle.file_stores.proofs.Lists.{to-map}
 use Rattle.run_files.specs.Held.{OpensSome}
@@ -16,7 +16,7 @@ push_reserved-requires g c =
     let from = c.into_iter-store-iterator.ensures.into_iter_gives in
     let turn = YieldsList-turn (YieldsList-from_vec {s = c.into_iter-store-iterator.result} c.args.stores.items from.0 (search rules)) c.loop-store.yielded c.loop-store.store-iterator c.loop-store.yielded_by c.next.result c.next.new.self c.in-Some.store c.in-Some.is c.next.ensures.steps in
     let less = turn.0 in
-    let count = opening-count c.args.mount.now c.args.callers c.loop-store.yielded c.loop-store.towers.items c.loop-store.rest.items c.loop-store.stopped inv.opening in
+    let count = opening-count c.args.mount.now c.loop-store.yielded c.loop-store.towers.items c.loop-store.rest.items c.loop-store.stopped inv.opening in
     let room = c.requires.rest.1 in
     let same = inv.rest_room in
     omega (arith, less, count, room, same)
@@ -28,8 +28,8 @@ loop-store-preserved-then-is_some g c =
     let stores : List StoreSeen = c.loop-store.yielded in
     let s : StoreSeen = c.in-Some.store in
     record {
-      opening = subst (λ (rs : List StoreSeen). Opening mount c.args.callers (stores ++ s ∷ []) c.loop-store.towers.items rs c.loop-store.stopped) (sym c.push_reserved.ensures.items)
-          (opening-left mount c.args.callers stores c.loop-store.towers.items c.loop-store.rest.items c.loop-store.stopped s (is-some c.loop-store.stopped c.is_some.result c.is_some.ensures c.if-is_some.true) inv.opening);
+      opening = subst (λ (rs : List StoreSeen). Opening mount (stores ++ s ∷ []) c.loop-store.towers.items rs c.loop-store.stopped) (sym c.push_reserved.ensures.items)
+          (opening-left mount stores c.loop-store.towers.items c.loop-store.rest.items c.loop-store.stopped s (is-some c.loop-store.stopped c.is_some.result c.is_some.ensures c.if-is_some.true) inv.opening);
       towers_room = inv.towers_room;
       rest_room = c.push_reserved.ensures.capacity ∙ inv.rest_room;
     }
@@ -58,7 +58,7 @@ push_reserved-requires-in-Ok g c =
     let from = c.into_iter-store-iterator.ensures.into_iter_gives in
     let turn = YieldsList-turn (YieldsList-from_vec {s = c.into_iter-store-iterator.result} c.args.stores.items from.0 (search rules)) c.loop-store.yielded c.loop-store.store-iterator c.loop-store.yielded_by c.next.result c.next.new.self c.in-Some.store c.in-Some.is c.next.ensures.steps in
     let less = turn.0 in
-    let count = opening-count c.args.mount.now c.args.callers c.loop-store.yielded c.loop-store.towers.items c.loop-store.rest.items c.loop-store.stopped inv.opening in
+    let count = opening-count c.args.mount.now c.loop-store.yielded c.loop-store.towers.items c.loop-store.rest.items c.loop-store.stopped inv.opening in
     let room = c.requires.towers.1 in
     let same = inv.towers_room in
     omega (arith, less, count, room, same)
@@ -71,8 +71,8 @@ loop-store-preserved-in-Ok g c =
     let s : StoreSeen = c.in-Some.store in
     let t : TowerSeen = c.in-Ok.tower in
     record {
-      opening = subst (λ (ts : List TowerSeen). Opening mount c.args.callers (stores ++ s ∷ []) ts c.loop-store.rest.items c.loop-store.stopped) (sym c.push_reserved-in-Ok.ensures.items)
-          (opening-next mount c.args.callers stores c.loop-store.towers.items c.loop-store.rest.items c.loop-store.stopped s t (is-none c.loop-store.stopped c.is_some.result c.is_some.ensures c.if-is_some.false) inv.opening c.in-Ok.ensures.opened);
+      opening = subst (λ (ts : List TowerSeen). Opening mount (stores ++ s ∷ []) ts c.loop-store.rest.items c.loop-store.stopped) (sym c.push_reserved-in-Ok.ensures.items)
+          (opening-next mount stores c.loop-store.towers.items c.loop-store.rest.items c.loop-store.stopped s t (is-none c.loop-store.stopped c.is_some.result c.is_some.ensures c.if-is_some.false) inv.opening c.in-Ok.ensures.opened);
       towers_room = c.push_reserved-in-Ok.ensures.capacity ∙ inv.towers_room;
       rest_room = inv.rest_room;
     }
@@ -83,7 +83,7 @@ push_reserved-requires-in-Err g c =
     let from = c.into_iter-store-iterator.ensures.into_iter_gives in
     let turn = YieldsList-turn (YieldsList-from_vec {s = c.into_iter-store-iterator.result} c.args.stores.items from.0 (search rules)) c.loop-store.yielded c.loop-store.store-iterator c.loop-store.yielded_by c.next.result c.next.new.self c.in-Some.store c.in-Some.is c.next.ensures.steps in
     let less = turn.0 in
-    let count = opening-count c.args.mount.now c.args.callers c.loop-store.yielded c.loop-store.towers.items c.loop-store.rest.items c.loop-store.stopped inv.opening in
+    let count = opening-count c.args.mount.now c.loop-store.yielded c.loop-store.towers.items c.loop-store.rest.items c.loop-store.stopped inv.opening in
     let room = c.requires.rest.1 in
     let same = inv.rest_room in
     omega (arith, less, count, room, same)
@@ -96,8 +96,8 @@ loop-store-preserved g c =
     let s : StoreSeen = c.in-Some.store in
     let n : StoreSeen = c.in-Err.store in
     record {
-      opening = subst (λ (rs : List StoreSeen). OpensSome mount c.args.callers (stores ++ s ∷ []) c.loop-store.towers.items rs c.in-Err.stop) (sym c.push_reserved-in-Err.ensures.items)
-          (opening-stops mount c.args.callers stores c.loop-store.towers.items c.loop-store.rest.items c.loop-store.stopped s n c.in-Err.stop (is-none c.loop-store.stopped c.is_some.result c.is_some.ensures c.if-is_some.false) inv.opening
+      opening = subst (λ (rs : List StoreSeen). OpensSome mount (stores ++ s ∷ []) c.loop-store.towers.items rs c.in-Err.stop) (sym c.push_reserved-in-Err.ensures.items)
+          (opening-stops mount stores c.loop-store.towers.items c.loop-store.rest.items c.loop-store.stopped s n c.in-Err.stop (is-none c.loop-store.stopped c.is_some.result c.is_some.ensures c.if-is_some.false) inv.opening
           c.in-Err.ensures.key c.in-Err.ensures.content c.in-Err.ensures.cause);
       towers_room = inv.towers_room;
       rest_room = c.push_reserved-in-Err.ensures.capacity ∙ inv.rest_room;

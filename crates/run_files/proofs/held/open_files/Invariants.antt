@@ -5,7 +5,7 @@ use Rattle.run_files.proofs.held.open_files.Given as goal
 -- which files were opened so far
 abbrev pub invariant-loop-store : goal.invariant-loop-store
 invariant-loop-store g l = record {
-  opening : Opening l.mount l.callers l.yielded l.towers.items l.rest.items l.stopped;
+  opening : Opening l.mount l.yielded l.towers.items l.rest.items l.stopped;
   towers_room : vec_capacity l.towers ≡ vec_capacity l.fn.towers;
   rest_room : vec_capacity l.rest ≡ vec_capacity l.fn.rest;
 }

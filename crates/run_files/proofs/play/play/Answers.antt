@@ -2,11 +2,11 @@ use Rattle.std.proofs.Common.{◌≡◌, suc, List, map, length, sym, ap, subst,
 use Rattle.std.specs.List.{AllByRecursion}
 use Rattle.std.proofs.lemmas.List.{with_items_is}
 use Rattle.script_text.specs.declared.script.CallLine.{CallLine}
-use Rattle.plain_run.specs.declared.client.Client.{Client}
-use Rattle.plain_run.specs.Towers.{histories}
-use Rattle.plain_run.specs.Phases.{AreReady, HaveClients, IsSilent, PhasesDone, FilesClosed}
-use Rattle.plain_run.proofs.TowerLaws.{length-towers, towers-then}
-use Rattle.run_files.proofs.PlayLaws.{ready, silent, played, phases-have, length-started, towers-later}
+use Rattle.run_clients.specs.declared.client.Client.{Client}
+use Rattle.run_clients.specs.Towers.{logs}
+use Rattle.run_clients.specs.Phases.{AreReady, HaveClients, IsSilent, PhasesDone, FilesClosed}
+use Rattle.run_clients.proofs.TowerLaws.{length-towers, towers-stay, towers-then}
+use Rattle.run_files.proofs.PlayLaws.{ready, silent, played, phases-have, length-started}
 use Rattle.run_files.proofs.play.play.Goals as goal
 
 pub run_phases-requires-clause-clients : goal.run_phases-requires-clause-clients
@@ -38,8 +38,7 @@ gather-requires g c =
 pub close_files-requires-clause-room : goal.close_files-requires-clause-room
 close_files-requires-clause-room g c κs within =
     let mount = c.args.mount.now in
-    let last = length c.args.script.now.clients in
-    let number = length-towers mount last c.run_phases.new.towers (towers-later mount last c.args.towers.now c.run_phases.new.towers c.requires.towers c.run_phases.ensures.later) in
+    let number = length-towers mount c.run_phases.new.towers (towers-stay mount c.args.towers.now c.run_phases.new.towers c.run_phases.ensures.later c.requires.towers) in
     let room = c.requires.room.closing.1 in
     omega (arith, number, room)
 
@@ -54,9 +53,13 @@ returns g c =
     let phases = c.run_phases.ensures.done in
     played mount script begun clients c.args.towers.now c.run_phases.new.towers c.close_files.new.towers (map (λ v. v.items) c.gather.new.said.items) c.close_files.new.closing.items
     c.requires.room.started c.requires.unwritten
-    (subst (λ (cs : List Client). PhasesDone mount script.phases cs clients (histories c.args.towers.now) (histories c.run_phases.new.towers)) c.deref_mut.ensures.value
-    (subst (λ (ps : List (List CallLine)). PhasesDone mount ps c.deref_mut.result.now clients (histories c.args.towers.now) (histories c.run_phases.new.towers)) c.as_slice-2.ensures phases))
+    (subst (λ (cs : List Client). PhasesDone mount script.phases cs clients (logs c.args.towers.now) (logs c.run_phases.new.towers)) c.deref_mut.ensures.value
+    (subst (λ (ps : List (List CallLine)). PhasesDone mount ps c.deref_mut.result.now clients (logs c.args.towers.now) (logs c.run_phases.new.towers)) c.as_slice-2.ensures phases))
     (subst (λ n. FilesClosed mount n mount.files c.close_files.new.closing.items c.run_phases.new.towers c.close_files.new.towers) count_is c.close_files.ensures.closed)
     (c.gather.ensures ∙ ap (λ (cs : List Client). map (λ k. k.said.items) cs) items)
     c.close_files.ensures.len
     (towers-then c.args.towers.now c.run_phases.new.towers c.close_files.new.towers c.run_phases.ensures.later c.close_files.ensures.later)
+
+pub close_files-requires-clause-towers : goal.close_files-requires-clause-towers
+close_files-requires-clause-towers g c κs within =
+    towers-stay c.args.mount.now c.args.towers.now c.run_phases.new.towers c.run_phases.ensures.later c.requires.towers

@@ -1,7 +1,7 @@
 use Rattle.std.proofs.Common.{◌++◌, List, length, sym, ap, subst, ◌∙◌, arith}
 use Rattle.std.proofs.lemmas.List.{length-drop}
 use Rattle.run_defs.specs.declared.store.StoreKey.{StoreKey}
-use Rattle.plain_tower.specs.Tower.{TowerSeen}
+use Rattle.stack_engine.specs.Tower.{TowerSeen}
 use Rattle.spr_report.specs.Writing.{Finishes}
 use Rattle.file_stores.specs.declared.stop.Stop.{Stop}
 use Rattle.file_stores.specs.Keys.{AreStores}
@@ -64,6 +64,6 @@ returns g c =
     let ends : Finishes old new (stop_text mount stop lost) (stop_status stop) c.stopped.result =
     subst (λ (l : List StoreKey). Finishes old new (stop_text mount stop l) (stop_status stop) c.stopped.result) c.deref-2.ensures.value c.stopped.ensures in
     record {
-      ended = λ before stores callers taken some.
-          stopped-writes mount before after keys lost stop old new c.stopped.result (stops-opening mount callers before mid after keys lost stores towers rest closed stop taken some shut given) ends;
+      ended = λ before stores taken some.
+          stopped-writes mount before after keys lost stop old new c.stopped.result (stops-opening mount before mid after keys lost stores towers rest closed stop taken some shut given) ends;
     }

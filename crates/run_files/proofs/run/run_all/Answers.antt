@@ -5,6 +5,7 @@ use Rattle.file_stores.specs.declared.stop.Stop.{Stop}
 use Rattle.file_stores.specs.Held.{StoreSeen, IsUntaken}
 use Rattle.file_stores.specs.Stop.{stop_text, stop_status}
 use Rattle.file_stores.proofs.ReturnLaws.{stops-taking}
+use Rattle.run_files.specs.Run.{traced_by}
 use Rattle.run_files.proofs.StopLaws.{stopped-writes, run-stopped}
 use Rattle.run_files.proofs.run.run_all.Goals as goal
 
@@ -17,7 +18,7 @@ returns-in-Ok g c =
 
 pub returns-in-Err : goal.returns-in-Err
 returns-in-Err g c =
-    let mount = c.args.mount.now in
+    let mount = c.args.given.now.mount.now in
     let before = g.B.Bay.told c.args.bay.now in
     let mid = g.B.Bay.told c.take_stores.new.bay in
     let after = g.B.Bay.told c.give_back.new.bay in
@@ -30,6 +31,6 @@ returns-in-Err g c =
     let new = g.K.Sink.told c.stopped.new.sink in
     let cause = subst (λ (ks : List StoreKey). IsUntaken ks (length taken) before mid stop) items c.in-Err.ensures.cause in
     let first = c.in-Err.ensures.first ∙ ap (take (length taken)) items in
-    run-stopped mount c.args.script.now before after keys old new c.stopped.result c.requires.keys
+    run-stopped mount c.args.given.now.script.now (traced_by c.args.given.now.ops.now c.args.given.now.trace) before after keys old new c.stopped.result c.requires.keys
     (stopped-writes mount before after keys lost stop old new c.stopped.result (stops-taking mount before mid after keys lost taken stop c.in-Err.ensures.out first cause c.give_back.ensures)
     (subst (λ (l : List StoreKey). Finishes old new (stop_text mount stop l) (stop_status stop) c.stopped.result) c.deref-in-Err.ensures.value c.stopped.ensures))

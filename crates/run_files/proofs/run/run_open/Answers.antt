@@ -1,43 +1,43 @@
-use Rattle.std.proofs.Common.{◌≡◌, ◌+◌, List, map, length, sym, ap, subst, ◌∙◌, arith}
+use Rattle.std.proofs.Common.{◌≡◌, List, map, length, Option, sym, ap, subst, ◌∙◌, arith}
 use Rattle.std.proofs.lemmas.List.{with_items_is}
 use Rattle.script_text.specs.declared.script.Reply.{Reply}
 use Rattle.script_text.specs.declared.script.Said.{Said}
 use Rattle.run_defs.specs.declared.store.StoreKey.{StoreKey}
-use Rattle.run_defs.specs.declared.log.History.{History}
-use Rattle.run_defs.specs.Stack.{shape_of}
-use Rattle.run_defs.specs.Log.{AreHistories}
+use Rattle.pager_channel.specs.declared.numbers.Ops.{Ops}
+use Rattle.tower_log.specs.declared.logged.Logged.{Logged}
+use Rattle.tower_log.specs.Trail.{TrailSeen}
 use Rattle.spr_report.specs.declared.status.Status.{Status}
-use Rattle.plain_tower.specs.Tower.{TowerSeen}
-use Rattle.plain_run.specs.Towers.{histories, AreLater}
-use Rattle.plain_run.proofs.TowerLaws.{length-towers}
+use Rattle.spr_report.specs.Tracing.{AreReported}
+use Rattle.stack_engine.specs.Tower.{TowerSeen}
+use Rattle.run_clients.specs.Towers.{logs, AreLater}
+use Rattle.run_clients.proofs.TowerLaws.{length-towers, towers-stay}
 use Rattle.file_stores.specs.Keys.{AreStores}
 use Rattle.file_stores.specs.Held.{StoreSeen}
 use Rattle.file_stores.proofs.KeyLaws.{stores-take}
 use Rattle.run_files.specs.Ended.{status_of}
 use Rattle.run_files.specs.Held.{AreShut}
 use Rattle.run_files.specs.Play.{ArePlayed}
+use Rattle.run_files.specs.Run.{traced_by}
 use Rattle.run_files.specs.Told.{Tells}
 use Rattle.run_files.proofs.HeldLaws.{shut-length, shut-keys}
-use Rattle.run_files.proofs.PlayLaws.{towers-later}
-use Rattle.run_files.proofs.RunLaws.{number-stores, histories-over, run-over}
+use Rattle.run_files.proofs.RunLaws.{number-stores, logs-over, run-over}
 use Rattle.run_files.proofs.run.run_open.Goals as goal
 
 pub close_towers-requires-clause-keys : goal.close_towers-requires-clause-keys
 close_towers-requires-clause-keys g c κs within =
-    let mount = c.args.mount.now in
-    let caller = length c.args.script.now.clients in
+    let mount = c.args.given.now.mount.now in
     let before : List TowerSeen = c.args.files.towers.items in
     let after : List TowerSeen = c.play-answers.new.towers in
     let items = ap length (with_items_is c.args.files.towers after (c.play-answers.auto.towers ∙ c.deref_mut.ensures.len)) in
     let later : AreLater before after = subst (λ (ts : List TowerSeen). AreLater ts after) c.deref_mut.ensures.value c.play-answers.ensures.later in
-    let many = length-towers mount caller after (towers-later mount caller before after c.requires.towers later) in
+    let many = length-towers mount after (towers-stay mount before after later c.requires.towers) in
     let files = ap length c.requires.keys ∙ number-stores mount c.requires.built.disk in
     let same = ap length c.deref.ensures.value in
     omega (arith, items, many, files, same)
 
 pub give_back-requires-clause-keys : goal.give_back-requires-clause-keys
 give_back-requires-clause-keys g c κs within =
-    let mount = c.args.mount.now in
+    let mount = c.args.given.now.mount.now in
     let keys : List StoreKey = c.args.files.keys.items in
     let after : List TowerSeen = c.play-answers.new.towers in
     let closed : List StoreSeen = c.close_towers.new.stores.items in
@@ -47,8 +47,7 @@ give_back-requires-clause-keys g c κs within =
 
 pub give_back-requires-clause-room : goal.give_back-requires-clause-room
 give_back-requires-clause-room g c κs within =
-    let mount = c.args.mount.now in
-    let caller = length c.args.script.now.clients in
+    let mount = c.args.given.now.mount.now in
     let keys : List StoreKey = c.args.files.keys.items in
     let before : List TowerSeen = c.args.files.towers.items in
     let after : List TowerSeen = c.play-answers.new.towers in
@@ -56,16 +55,15 @@ give_back-requires-clause-room g c κs within =
     let items = with_items_is c.args.files.towers after (c.play-answers.auto.towers ∙ c.deref_mut.ensures.len) in
     let shut : AreShut keys after closed = subst (λ (ks : List StoreKey). AreShut ks after closed) c.deref.ensures.value (subst (λ (ts : List TowerSeen). AreShut c.deref.result.now ts closed) items c.close_towers.ensures.shut) in
     let later : AreLater before after = subst (λ (ts : List TowerSeen). AreLater ts after) c.deref_mut.ensures.value c.play-answers.ensures.later in
-    let many = length-towers mount caller after (towers-later mount caller before after c.requires.towers later) in
+    let many = length-towers mount after (towers-stay mount before after later c.requires.towers) in
     let files = ap length c.requires.keys ∙ number-stores mount c.requires.built.disk in
     let stores = shut-length keys after closed shut in
     let room = c.requires.lost.1 in
     (c.requires.lost.0, omega (arith, many, files, stores, room))
 
-pub tell-requires-clause-histories : goal.tell-requires-clause-histories
-tell-requires-clause-histories g c =
-    let mount = c.args.mount.now in
-    let caller = length c.args.script.now.clients in
+pub tell-requires-clause-logs : goal.tell-requires-clause-logs
+tell-requires-clause-logs g c =
+    let mount = c.args.given.now.mount.now in
     let keys : List StoreKey = c.args.files.keys.items in
     let before : List TowerSeen = c.args.files.towers.items in
     let after : List TowerSeen = c.play-answers.new.towers in
@@ -73,14 +71,13 @@ tell-requires-clause-histories g c =
     let items = with_items_is c.args.files.towers after (c.play-answers.auto.towers ∙ c.deref_mut.ensures.len) in
     let shut : AreShut keys after closed = subst (λ (ks : List StoreKey). AreShut ks after closed) c.deref.ensures.value (subst (λ (ts : List TowerSeen). AreShut c.deref.result.now ts closed) items c.close_towers.ensures.shut) in
     let later : AreLater before after = subst (λ (ts : List TowerSeen). AreLater ts after) c.deref_mut.ensures.value c.play-answers.ensures.later in
-    let told : c.deref-2.result.now ≡ histories after = c.deref-2.ensures.value ∙ (c.close_towers.ensures.histories ∙ ap histories items) in
-    subst (λ (hs : List History). AreHistories (shape_of mount) mount.files hs) (sym told) (histories-over mount caller before after keys closed c.requires.towers later shut)
+    let told : map (λ t. t.log) c.deref-2.result.now ≡ logs after = ap (λ (ts : List TrailSeen). map (λ t. t.log) ts) c.deref-2.ensures.value ∙ (c.close_towers.ensures.logs ∙ ap logs items) in
+    subst (λ (ls : List (List Logged)). AreReported mount mount.files ls) (sym told) (logs-over mount after keys closed (towers-stay mount before after later c.requires.towers) shut)
 
 pub returns : goal.returns
 returns g c =
-    let mount = c.args.mount.now in
-    let script = c.args.script.now in
-    let callers = length script.clients + 1 in
+    let mount = c.args.given.now.mount.now in
+    let script = c.args.given.now.script.now in
     let keys : List StoreKey = c.args.files.keys.items in
     let before : List TowerSeen = c.args.files.towers.items in
     let after : List TowerSeen = c.play-answers.new.towers in
@@ -92,23 +89,26 @@ returns g c =
     let end = g.B.Bay.told c.give_back.new.bay in
     let old = g.K.Sink.told c.args.sink.now in
     let new = g.K.Sink.told c.tell.new.sink in
+    let traced : Option Ops = traced_by c.args.given.now.ops.now c.args.given.now.trace in
+    let ls : List (List Logged) = map (λ t. t.log) c.deref-2.result.now in
     let status : Status = c.status_of-status.result in
     let items = with_items_is c.args.files.towers after (c.play-answers.auto.towers ∙ c.deref_mut.ensures.len) in
     let shut : AreShut keys after closed = subst (λ (ks : List StoreKey). AreShut ks after closed) c.deref.ensures.value (subst (λ (ts : List TowerSeen). AreShut c.deref.result.now ts closed) items c.close_towers.ensures.shut) in
     let played : ArePlayed mount script before after said closing = subst (λ (ts : List TowerSeen). ArePlayed mount script ts after said closing) c.deref_mut.ensures.value c.play-answers.ensures in
-    let told : c.deref-2.result.now ≡ histories after = c.deref-2.ensures.value ∙ (c.close_towers.ensures.histories ∙ ap histories items) in
+    let told : map (λ t. t.log) c.deref-2.result.now ≡ logs after = ap (λ (ts : List TrailSeen). map (λ t. t.log) ts) c.deref-2.ensures.value ∙ (c.close_towers.ensures.logs ∙ ap logs items) in
     let said_is = ap (λ vs. map (λ v. v.items) vs) c.deref-3.ensures.value in
     let how : status ≡ status_of said closing lost =
     c.status_of-status.ensures
     ∙ (ap (λ ss. status_of (map (λ v. v.items) ss) c.deref-7.result.now c.deref-8.result.now) c.deref-6.ensures.value
-    ∙ (ap (λ (cs : List Reply). status_of said cs c.deref-8.result.now) c.deref-7.ensures.value ∙ ap (λ (ls : List StoreKey). status_of said closing ls) c.deref-8.ensures.value)) in
-    let tells : Tells mount script c.deref-2.result.now said closing lost status old new c.tell.result =
-    subst (λ (ls : List StoreKey). Tells mount script c.deref-2.result.now said closing ls status old new c.tell.result) c.deref-5.ensures.value
-    (subst (λ (cs : List Reply). Tells mount script c.deref-2.result.now said cs c.deref-5.result.now status old new c.tell.result) c.deref-4.ensures.value
-    (subst (λ (ss : List (List Said)). Tells mount script c.deref-2.result.now ss c.deref-4.result.now c.deref-5.result.now status old new c.tell.result) said_is c.tell.ensures)) in
+    ∙ (ap (λ (cs : List Reply). status_of said cs c.deref-8.result.now) c.deref-7.ensures.value ∙ ap (λ (gone : List StoreKey). status_of said closing gone) c.deref-8.ensures.value)) in
+    let tells : Tells mount script traced ls said closing lost status old new c.tell.result =
+    subst (λ (gone : List StoreKey). Tells mount script traced ls said closing gone status old new c.tell.result) c.deref-5.ensures.value
+    (subst (λ (cs : List Reply). Tells mount script traced ls said cs c.deref-5.result.now status old new c.tell.result) c.deref-4.ensures.value
+    (subst (λ (ss : List (List Said)). Tells mount script traced ls ss c.deref-4.result.now c.deref-5.result.now status old new c.tell.result) said_is
+    (subst (λ (o : Option Ops). Tells mount script o ls (map (λ v. v.items) c.deref-3.result.now) c.deref-4.result.now c.deref-5.result.now status old new c.tell.result) c.traced_by.ensures c.tell.ensures))) in
     record {
       ended = λ bay stores taken opens.
-          run-over mount script callers bay mid end before after stores closed keys lost said closing c.deref-2.result.now old new status c.tell.result taken
+          run-over mount script traced bay mid end before after stores closed keys lost said closing ls old new status c.tell.result taken
           (record {
             one = c.requires.built.disk;
             keys = taken.which ∙ c.requires.keys;

@@ -1,6 +1,6 @@
 use Rattle.script_text.specs.declared.script.CallLine.{CallLine}
-use Rattle.plain_run.specs.Lines.{IsCallOf}
-use Rattle.plain_run.proofs.TestLaws.{all-next}
+use Rattle.run_clients.specs.Lines.{IsCallOf}
+use Rattle.run_files.proofs.TestLaws.{all-next}
 use Rattle.run_files.proofs.tests.are_calls.Goals as goal
 
 pub loop-line-preserved : goal.loop-line-preserved

@@ -1,7 +1,7 @@
 use Rattle.std.proofs.Common.{List, subst}
 use Rattle.script_text.specs.declared.script.CallLine.{CallLine}
-use Rattle.plain_run.specs.Phases.{AreCalls}
-use Rattle.plain_run.proofs.TestLaws.{all-next}
+use Rattle.run_clients.specs.Phases.{AreCalls}
+use Rattle.run_files.proofs.TestLaws.{all-next}
 use Rattle.run_files.proofs.tests.are_phases.Goals as goal
 
 pub loop-phase-preserved : goal.loop-phase-preserved

@@ -1,7 +1,7 @@
 use Rattle.std.proofs.Common.{◌≡◌, ◌++◌, ◌∷◌, [], take, codes}
 use Rattle.std.specs.List.{flat_map}
 use Rattle.text_words.specs.Lines.{line_of}
-use Rattle.run_defs.specs.Report.{said_line}
+use Rattle.spr_report.specs.Report.{said_line}
 use Rattle.spr_report.proofs.answer.put_client.Given as goal
 
 abbrev pub invariant-loop-one : goal.invariant-loop-one

@@ -1,5 +1,5 @@
 use Rattle.std.proofs.Common.{◌≡◌, ◌++◌, drop, map}
-use Rattle.run_defs.specs.Report.{client_parts}
+use Rattle.spr_report.specs.Report.{client_parts}
 use Rattle.spr_report.proofs.whole.put_clients.Given as goal
 
 -- what is written and what is left to write are the whole

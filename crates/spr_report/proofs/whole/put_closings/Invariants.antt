@@ -1,5 +1,5 @@
 use Rattle.std.proofs.Common.{◌≡◌, ◌++◌, drop}
-use Rattle.run_defs.specs.Report.{closing_lines}
+use Rattle.spr_report.specs.Report.{closing_lines}
 use Rattle.spr_report.proofs.whole.put_closings.Given as goal
 
 -- what is written and what is left to write are the whole

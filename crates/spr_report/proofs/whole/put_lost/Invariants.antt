@@ -1,6 +1,6 @@
 use Rattle.std.proofs.Common.{◌≡◌, ◌++◌, take}
 use Rattle.std.specs.List.{flat_map}
-use Rattle.run_defs.specs.Report.{lost_line}
+use Rattle.spr_report.specs.Report.{lost_line}
 use Rattle.spr_report.proofs.whole.put_lost.Given as goal
 
 abbrev pub invariant-loop-one : goal.invariant-loop-one

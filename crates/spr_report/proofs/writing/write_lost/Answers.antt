@@ -1,5 +1,5 @@
 use Rattle.std.proofs.Common.{arith}
-use Rattle.run_defs.specs.Report.{lost_line}
+use Rattle.spr_report.specs.Report.{lost_line}
 use Rattle.spr_report.proofs.Writes.{broke-in, writes-err}
 use Rattle.spr_report.proofs.writing.write_lost.Goals as goal
 

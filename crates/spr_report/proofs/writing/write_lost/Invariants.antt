@@ -1,6 +1,6 @@
 use Rattle.std.proofs.Common.{◌≡◌, take}
 use Rattle.std.specs.List.{flat_map}
-use Rattle.run_defs.specs.Report.{lost_line}
+use Rattle.spr_report.specs.Report.{lost_line}
 use Rattle.spr_report.specs.Writing.{with_text}
 use Rattle.spr_report.proofs.writing.write_lost.Given as goal
 

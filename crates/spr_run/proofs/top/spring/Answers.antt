@@ -2,7 +2,7 @@ use Rattle.std.proofs.Common.{ℕ, List, ◌∙◌, ap, refl, subst, Some}
 use Rattle.file_stores.specs.Written.{Written}
 use Rattle.run_texts.specs.Refusal.{Names}
 use Rattle.spr_run.specs.Ways.{outside, SaysCheck, SaysTables, SaysFormatted}
-use Rattle.spr_run.proofs.WayLaws.{ends-check, ends-dump, ends-format, ends-run, ends-tables, named-dump, named-run}
+use Rattle.spr_run.proofs.WayLaws.{ends-check, ends-dump, ends-format, ends-run, ends-tables, named-dump}
 use Rattle.spr_run.proofs.top.spring.Goals as goal
 
 pub returns-in-Ok-Run : goal.returns-in-Ok-Run
@@ -10,10 +10,8 @@ returns-in-Ok-Run g c =
     let asks = c.in-Ok-Run.ensures.ok ∙ ap Some c.in-Ok-Run.field-0-is in
     let o = outside (g.H.Shelf.told c.args.shelf.now) (g.H.Shelf.told c.run_named.new.shelf) (g.B.Bay.told c.args.bay.now) (g.B.Bay.told c.run_named.new.bay) in
     let names : Names = record { idl = c.in-Ok-Run.idl; stack = c.in-Ok-Run.stack; script = c.in-Ok-Run.script } in
-    record {
-      ends = ends-run c.args.words.now names o (g.K.Sink.told c.args.sink.now) (g.K.Sink.told c.run_named.new.sink) c.run_named.result asks
-          (named-run o (g.K.Sink.told c.args.sink.now) (g.K.Sink.told c.run_named.new.sink) c.run_named.result c.in-Ok-Run.idl-is c.in-Ok-Run.stack-is c.in-Ok-Run.script-is c.run_named.ensures.ends);
-    }
+    let written = rw c.in-Ok-Run.field-0-is at c.run_named.ensures.ends in
+    record { ends = ends-run c.args.words.now names c.in-Ok-Run.trace o (g.K.Sink.told c.args.sink.now) (g.K.Sink.told c.run_named.new.sink) c.run_named.result asks written }
 
 pub returns-in-Ok-Check : goal.returns-in-Ok-Check
 returns-in-Ok-Check g c =

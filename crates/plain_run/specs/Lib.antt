@@ -1,4 +1,0 @@
-pub mod Towers
-pub mod Lines
-pub mod Phases
-pub mod Start

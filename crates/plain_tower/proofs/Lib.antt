@@ -1,8 +1,0 @@
-pub mod LogSteps
-pub mod PageSteps
-pub mod CurrentPages
-pub mod Grounds
-pub mod CoreLaws
-pub mod Calls
-pub mod TowerSteps
-pub mod Later

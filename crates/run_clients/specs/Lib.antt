@@ -1,0 +1,5 @@
+pub mod Towers
+pub mod Calls
+pub mod Lines
+pub mod Phases
+pub mod Start
