@@ -106,6 +106,13 @@ impl<G: Ground> Engine<G> {
         self.book.trail.len()
     }
 
+    /// How many things the log has: events and notes.
+    pub(crate) fn log_len(&self) -> u64
+        ensures { result ≡ length (log_in self.now) }
+    {
+        self.book.trail.log_len()
+    }
+
     /// The number of a caller's next event.
     pub(crate) fn number(&self, caller: u32) -> u32
         ensures { result ≡ length (mine (events_in self.now) caller) }

@@ -114,6 +114,13 @@ impl<G: Ground> Tower<G> {
         self.engine.len()
     }
 
+    /// How many things its log has: events and notes.
+    pub fn log_len(&self) -> u64
+        ensures { result ≡ length (log_in self.now.engine) }
+    {
+        self.engine.log_len()
+    }
+
     /// How many events of the trail a caller made: the number of its next one.
     pub fn number(&self, caller: u32) -> u32
         ensures { result ≡ length (mine (events_in self.now.engine) caller) }

@@ -1,5 +1,5 @@
 -- A log whose notes stand apart: its entries, and what one more entry or note makes of it.
-use Rattle.std.proofs.Common.{◌≡◌, ℕ, zero, suc, ◌+◌, ◌-◌, ◌≤◌, List, [], ◌∷◌, ◌++◌, length, take, drop, refl, sym, ap, subst, ◌∙◌, arith, append_assoc, length-drop, take-append-drop}
+use Rattle.std.proofs.Common.{◌≡◌, ℕ, zero, suc, ◌+◌, ◌-◌, ◌≤◌, List, [], ◌∷◌, ◌++◌, length, take, drop, refl, sym, ap, subst, ◌∙◌, arith, append_assoc, length-append, length-drop, take-append-drop}
 use Rattle.std.proofs.lemmas.List.{map-append}
 use Rattle.tower_log.specs.declared.logged.Entry.{Entry}
 use Rattle.tower_log.specs.declared.logged.Logged.{Logged}
@@ -106,3 +106,20 @@ pub log-noted : (entries : List Entry) (notes notes' : List Placed) (placed : Pl
 log-noted entries notes notes' placed are at more =
     ap (λ (ns : List Placed). merged 0 entries ns) more
     ∙ merged-noted 0 entries notes placed (omega arith) (subst (λ (end : ℕ). ArePlaced 0 end notes) (let e : length entries ≡ 0 + length entries = omega arith in e) are)
+
+length-entered : (entries : List Entry) → length (entered entries) ≡ length entries
+length-entered [] = refl
+length-entered (entry ∷ entries) = ap suc (length-entered entries)
+
+-- the log has the entries and the notes
+pub length-merged : (place : ℕ) (entries : List Entry) (notes : List Placed) → length (merged place entries notes) ≡ length entries + length notes
+length-merged place entries [] = let e = length-entered entries in omega arith
+length-merged place entries (placed ∷ notes) =
+    let here = take (placed.before - place) entries in
+    let rest = drop (placed.before - place) entries in
+    let one = length-append (entered here) (Noted placed.note ∷ merged placed.before rest notes) in
+    let two = length-entered here in
+    let more = length-merged placed.before rest notes in
+    let all = ap length (take-append-drop (placed.before - place) entries) in
+    let parts = length-append here rest in
+    omega arith

@@ -57,6 +57,14 @@ fn filled(alloc: Global, reads: u32) -> Result<Trail, Fail> {
     Ok(trail)
 }
 
+/// How many things the log has, events and notes.
+fn things(trail: &Trail) -> Option<u64> {
+    if trail.len() > MAX_EVENTS {
+        return None;
+    }
+    Some(trail.log_len())
+}
+
 /// The caller, the number and the bytes of the read at a place.
 fn seen(trail: &Trail, place: u64) -> Option<(u32, u32, &[u8])> {
     match trail.get(place) {
@@ -71,6 +79,7 @@ fn seen(trail: &Trail, place: u64) -> Option<(u32, u32, &[u8])> {
 fn read_back(rt: HostRuntime) -> Result<(), Fail> {
     let trail = filled(rt.alloc(), 600)?;
     assert_eq!(rt; trail.len(), 600);
+    assert_eq!(rt; things(&trail), Some(606));
     for (place, caller, number, byte) in [
         (0, 7, 0, 0u8),
         (1, 9, 0, 1),

@@ -61,6 +61,14 @@ impl Trail {
         self.blocks.len() as u64
     }
 
+    /// How many things the log has: events and notes.
+    pub fn log_len(&self) -> u64
+        requires { place_of self.now.log ≤ MAX_EVENTS }
+        ensures { result ≡ length self.now.log }
+    {
+        self.len() + self.notes.len() as u64
+    }
+
     /// How many events of the trail a caller made: the number of its next one.
     pub fn number(&self, caller: u32) -> u32
         ensures { result ≡ length (mine (trail_of self.now.log) caller) }
