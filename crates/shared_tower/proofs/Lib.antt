@@ -1,0 +1,5 @@
+pub mod Laters
+pub mod Sharing
+pub mod Trying
+pub mod Whole
+pub mod Crossing
