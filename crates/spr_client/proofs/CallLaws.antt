@@ -1,0 +1,183 @@
+-- What a call at a file is for the one who called, and for the others of its pass.
+use Rattle.std.proofs.Common.{◌≡◌, ◌≢◌, ℕ, suc, ◌≤◌, ◌<◌, ◌==◌, true, false, cond, List, [], ◌∷◌, ◌++◌, map, Option, Some, None, Result, Ok, Err, refl, sym, ap, subst, ◌∙◌, arith}
+use Rattle.std.proofs.lemmas.List.{append-nil}
+use Rattle.std.proofs.lemmas.Bool.Decides.{nat_tests}
+use Rattle.std.specs.Option.{option_map}
+use mathlib.Core.Logic.{dite}
+use native.Mathlib.Decide.{ℕ_discrete}
+use Rattle.hist_plain.specs.declared.event.Answer.{Answer}
+use Rattle.hist_plain.specs.declared.event.Answer.TheVariants as answers
+use Rattle.hist_plain.specs.declared.event.Event.{Event}
+use Rattle.hist_plain.specs.Event.{caller_of}
+use Rattle.hist_plain.specs.Plain.{Told}
+use Rattle.hist_plain.specs.History.{Entry, is_by}
+use Rattle.hist_plain.specs.declared.TheConstants.{MAX_EVENTS}
+use Rattle.script_text.specs.declared.script.Reply.{Reply}
+use Rattle.tower_log.specs.declared.logged.Entry.{Entry as LogEntry}
+use Rattle.tower_log.specs.declared.logged.Logged.{Logged}
+use Rattle.tower_log.specs.declared.logged.Logged.TheVariants.{Entered, Noted}
+use Rattle.tower_log.specs.Log.{bytes_with, place_of, told_by, trail_of}
+use Rattle.hist_lock.specs.Ranges.{Quiet, in_range}
+use Rattle.stack_engine.specs.declared.refusal.StepErr.{StepErr}
+use Rattle.stack_engine.specs.declared.refusal.StepErr.TheVariants.{StoreFault, TrailFull, Memory}
+use Rattle.run_defs.specs.declared.client.ClientState.{ClientState}
+use Rattle.run_defs.specs.Log.{Item, entered, noted, items, items_from, by_caller, log_at, IsFull}
+use Rattle.run_defs.specs.Plan.{Plan, ends, calls, Request, Ask, access, sync, Asks, Made, Goes}
+use Rattle.run_defs.specs.Fits.{made_on, SyncsFrom, SyncsInOrder, GoesOn, Did, Went}
+use Rattle.run_defs.proofs.Logs.{by_caller-more}
+use Rattle.run_defs.proofs.Parts.{goes_on_same, goes_on_then, did_nothing, went_call, went_fault, went_refused}
+use Rattle.spr_volume.specs.declared.answered.Answered.{Answered}
+use Rattle.spr_volume.specs.Passes.{Knows, is_own, Quietly}
+use Rattle.spr_client.specs.Calls.{CallDone, IsAsked, refusal_of}
+
+same : (c : ℕ) → (c == c) ≡ true
+same c = grind (arith, nat_tests)
+
+differ : (a b : ℕ) → b ≢ a → (a == b) ≡ false
+differ a b n = grind (arith, nat_tests)
+
+-- what is no caller's of a range is not this caller's of it
+not_by : (first end c : ℕ) (o : Option ℕ) → first ≤ c → c < end → in_range first end o ≡ false → is_by c o ≡ false
+not_by first end c None low high e = refl
+not_by first end c (Some n) low high e = grind (arith, nat_tests)
+
+-- a log without an entry of a range says nothing of its callers
+quiet_items : (first end c : ℕ) → first ≤ c → c < end → (place : ℕ) (log : List Logged) → Quiet (is_own first end) log → by_caller c (items_from place log) ≡ []
+quiet_items first end c low high place [] q = refl
+quiet_items first end c low high place (Entered entry ∷ log) q =
+    rw (not_by first end c (caller_of entry.event) low high q.0) (quiet_items first end c low high (suc place) log q.1)
+quiet_items first end c low high place (Noted note ∷ log) q = rw (not_by first end c (Some note.caller) low high q.0) (quiet_items first end c low high place log q.1)
+
+pub quiet_by : (first end c : ℕ) (old new : List Logged) → first ≤ c → c < end → Quietly first end old new → by_caller c (items new) ≡ by_caller c (items old)
+quiet_by first end c old new low high q =
+    ap (λ (h : List Logged). by_caller c (items h)) q.whole
+    ∙ (by_caller-more c old q.rest ∙ (ap (λ (is : List Item). by_caller c (items old) ++ is) (quiet_items first end c low high (place_of old) q.rest q.quiet) ∙ append-nil (by_caller c (items old))))
+
+-- these things, at one file
+abbrev at_file : ℕ → List Item → List Made
+at_file k is = map (λ i. record { file = k; item = i }) is
+
+made_same : (k : ℕ) (is : List Item) → made_on k (at_file k is) ≡ is
+made_same k [] = refl
+made_same k (i ∷ is) = rw (same k) (ap (λ (l : List Item). i ∷ l) (made_same k is))
+
+made_other : (k file : ℕ) (is : List Item) → file ≢ k → made_on file (at_file k is) ≡ []
+made_other k file [] n = refl
+made_other k file (i ∷ is) n = rw (differ k file n) (made_other k file is n)
+
+-- what a caller did at one file, where the others stay as they were
+did_at : (c k : ℕ) (old new : List (List Logged)) (is : List Item) → ((file : ℕ) → file ≢ k → log_at new file ≡ log_at old file)
+    → GoesOn (log_at old k) (log_at new k) → by_caller c (items (log_at new k)) ≡ by_caller c (items (log_at old k)) ++ is → SyncsInOrder (place_of (log_at old k)) is
+    → Did c old new (at_file k is)
+did_at c k old new is others goes part syncs = record {
+  later = λ file. dite (ℕ_discrete file k) (λ e. subst (λ (f : ℕ). GoesOn (log_at old f) (log_at new f)) (sym e) goes) (λ n. goes_on_same (log_at old file) (log_at new file) (others file n));
+  part = λ file. dite (ℕ_discrete file k)
+      (λ e. subst (λ (f : ℕ). by_caller c (items (log_at new f)) ≡ by_caller c (items (log_at old f)) ++ made_on f (at_file k is)) (sym e) (part ∙ ap (λ (l : List Item). by_caller c (items (log_at old k)) ++ l) (sym (made_same k is))))
+      (λ n. ap (λ (h : List Logged). by_caller c (items h)) (others file n) ∙ (sym (append-nil (by_caller c (items (log_at old file)))) ∙ ap (λ (l : List Item). by_caller c (items (log_at old file)) ++ l) (sym (made_other k file is n))));
+  syncs = λ file. dite (ℕ_discrete file k)
+      (λ e. subst (λ (f : ℕ). SyncsInOrder (place_of (log_at old f)) (made_on f (at_file k is))) (sym e) (subst (SyncsInOrder (place_of (log_at old k))) (sym (made_same k is)) syncs))
+      (λ n. subst (SyncsInOrder (place_of (log_at old file))) (sym (made_other k file is n)) tt);
+}
+
+-- what a call's end says of a caller of the pass is what the call says of it
+called_by : (m c : ℕ) (request : Request) (old new : Knows) (out : List ℕ) (r : Result Answered StepErr) (is : List Item) → old.first ≤ c → c < old.end → (called : CallDone m request old new out r)
+    → by_caller c (items_from (place_of called.here.before) called.here.last) ≡ is → SyncsInOrder (place_of (log_at old.logs request.file)) is
+    → Did c old.logs new.logs (at_file request.file is)
+called_by m c request old new out r is low high called last syncs =
+    let k : ℕ = request.file in
+    let h : List Logged = log_at old.logs k in
+    let b : List Logged = called.here.before in
+    did_at c k old.logs new.logs is called.others
+    (goes_on_then h b (log_at new.logs k) (record { more = called.here.quietly.rest; log = called.here.quietly.whole }) (record { more = called.here.last; log = called.here.log }))
+    (ap (λ (x : List Logged). by_caller c (items x)) called.here.log ∙ (by_caller-more c b called.here.last
+    ∙ (ap (λ (l : List Item). l ++ by_caller c (items_from (place_of b) called.here.last)) (quiet_by old.first old.end c h b low high called.here.quietly) ∙ ap (λ (l : List Item). by_caller c (items h) ++ l) last)))
+    syncs
+
+-- the event of what is asked is what is asked
+asks_event : (c least : ℕ) (ask : Ask) (trail : List Event) (event : Event) → IsAsked c least ask trail event → Asks c ask event
+asks_event c least (access node life op) trail event is = subst (Asks c (access node life op)) (sym is) (refl, refl, refl, refl)
+asks_event c least (sync node keep) trail event is = subst (Asks c (sync node keep)) (sym is.is) (refl, refl, refl)
+
+event_by : (c least : ℕ) (ask : Ask) (trail : List Event) (event : Event) → IsAsked c least ask trail event → caller_of event ≡ Some c
+event_by c least (access node life op) trail event is = ap caller_of is
+event_by c least (sync node keep) trail event is = ap caller_of is.is
+
+-- a sync that is asked is from no place before this one
+event_from : (c least : ℕ) (ask : Ask) (trail : List Event) (event : Event) → IsAsked c least ask trail event → SyncsFrom least event
+event_from c least (access node life op) trail event is = subst (SyncsFrom least) (sym is) tt
+event_from c least (sync node keep) trail event is = subst (SyncsFrom least) (sym is.is) is.least_is
+
+entered_item : (c place : ℕ) (entry : LogEntry) (last : List Logged) → last ≡ Entered entry ∷ [] → caller_of entry.event ≡ Some c
+    → by_caller c (items_from place last) ≡ entered (record { place = place; event = entry.event; told = told_by entry }) ∷ []
+entered_item c place entry last is own = rw is (rw own (rw (same c) refl))
+
+other_entered : (m c place : ℕ) (entry : LogEntry) (last : List Logged) → c ≢ m → last ≡ Entered entry ∷ [] → caller_of entry.event ≡ Some m
+    → by_caller c (items_from place last) ≡ []
+other_entered m c place entry last n is own = rw is (rw own (rw (differ m c n) refl))
+
+noted_item : (m c disk count place : ℕ) (last : List Logged) → last ≡ Noted (record { caller = m; disk = disk; count = count }) ∷ []
+    → by_caller c (items_from place last) ≡ cond (m == c) (noted m disk count ∷ []) []
+noted_item m c disk count place last is = rw is refl
+
+no_item : (c place : ℕ) (last : List Logged) → last ≡ [] → by_caller c (items_from place last) ≡ []
+no_item c place last is = rw is refl
+
+-- what an answered entry tells
+abbrev pub told_of : LogEntry → Answer → Told
+told_of entry answer = record { answer = answer; bytes = bytes_with answer entry.bytes }
+
+tells : (entry : LogEntry) (answer : Answer) → entry.answer ≡ Some answer → told_by entry ≡ Some (told_of entry answer)
+tells entry answer is = ap (λ (a : Option Answer). option_map {T = Answer} (λ (x : Answer). told_of entry x) a) is
+
+pub told_bytes : (entry : LogEntry) (answer : Answer) (out : List ℕ) → (answer ≡ answers.Bytes → entry.bytes ≡ out) → answer ≡ answers.Bytes → (told_of entry answer).bytes ≡ out
+told_bytes entry answer out bytes read = ap (λ (a : Answer). bytes_with a entry.bytes) read ∙ bytes read
+
+-- a call that was answered, and ended the line
+pub line_end : (c : ℕ) (kept : ClientState) (p : Plan) (request : Request) (state : ClientState) (go_on : Told → Plan) (old new : Knows) (out : List ℕ) (a : Answered) (said : Reply) (left : ClientState)
+    → p ≡ calls request state go_on → old.first ≤ c → c < old.end → (called : CallDone c request old new out (Ok a)) → go_on (told_of called.here.ends.0 a.answer) ≡ ends said left → Went c kept p old.logs new.logs said left
+line_end c kept p request state go_on old new out a said left is low high called end =
+    let entry : LogEntry = called.here.ends.0 in
+    let asked = called.here.ends.2 in
+    let answered = called.here.ends.3 in
+    let b : List Logged = called.here.before in
+    let least : ℕ = place_of (log_at old.logs request.file) in
+    let e : Entry = record { place = place_of b; event = entry.event; told = told_by entry } in
+    let did : Did c old.logs new.logs (record { file = request.file; item = entered e } ∷ []) =
+    called_by c c request old new out (Ok a) (entered e ∷ []) low high called
+    (entered_item c (place_of b) entry called.here.last called.here.ends.1 (event_by c least request.ask (trail_of b) entry.event asked))
+    (event_from c least request.ask (trail_of b) entry.event asked, tt) in
+    went_call c kept p request state go_on old.logs new.logs new.logs e (told_of entry a.answer) [] said left is did
+    (asks_event c least request.ask (trail_of b) entry.event asked) (tells entry a.answer answered.answer_is) (did_nothing c new.logs new.logs refl)
+    (subst (λ (q : Plan). Goes (IsFull new.logs) c q [] said left) (sym end) (refl, refl))
+
+-- a call that was refused ends the line
+pub line_err : (c : ℕ) (kept : ClientState) (p : Plan) (request : Request) (state : ClientState) (go_on : Told → Plan) (old new : Knows) (out : List ℕ) (err : StepErr)
+    → p ≡ calls request state go_on → old.first ≤ c → c < old.end → CallDone c request old new out (Err err) → Went c kept p old.logs new.logs (refusal_of err) state
+line_err c kept p request state go_on old new out (StoreFault disk count) is low high called =
+    went_fault c kept p request state go_on old.logs new.logs disk count is
+    (called_by c c request old new out (Err (StoreFault disk count)) (noted c disk count ∷ []) low high called
+    (noted_item c c disk count (place_of called.here.before) called.here.last called.here.ends ∙ rw (same c) refl) tt)
+line_err c kept p request state go_on old new out TrailFull is low high called =
+    let b : List Logged = called.here.before in
+    let whole : log_at new.logs request.file ≡ b = called.here.log ∙ (ap (λ (l : List Logged). b ++ l) called.here.ends.0 ∙ append-nil b) in
+    let full : IsFull new.logs request.file = subst (λ (l : List Logged). MAX_EVENTS ≤ place_of l) (sym whole) called.here.ends.1 in
+    went_refused c kept p request state go_on old.logs new.logs (refusal_of TrailFull) is
+    (called_by c c request old new out (Err TrailFull) [] low high called (no_item c (place_of b) called.here.last called.here.ends.0) tt) full
+line_err c kept p request state go_on old new out Memory is low high called =
+    went_refused c kept p request state go_on old.logs new.logs (refusal_of Memory) is
+    (called_by c c request old new out (Err Memory) [] low high called (no_item c (place_of called.here.before) called.here.last called.here.ends.0) tt) tt
+
+-- a call of one caller is nothing for another of its pass
+pub called_other : (m c : ℕ) (request : Request) (old new : Knows) (out : List ℕ) (r : Result Answered StepErr) → c ≢ m → old.first ≤ c → c < old.end → CallDone m request old new out r → Did c old.logs new.logs []
+called_other m c request old new out (Ok a) n low high called =
+    let entry : LogEntry = called.here.ends.0 in
+    let b : List Logged = called.here.before in
+    called_by m c request old new out (Ok a) [] low high called
+    (other_entered m c (place_of b) entry called.here.last n called.here.ends.1 (event_by m (place_of (log_at old.logs request.file)) request.ask (trail_of b) entry.event called.here.ends.2)) tt
+called_other m c request old new out (Err (StoreFault disk count)) n low high called =
+    called_by m c request old new out (Err (StoreFault disk count)) [] low high called
+    (noted_item m c disk count (place_of called.here.before) called.here.last called.here.ends ∙ rw (differ m c n) refl) tt
+called_other m c request old new out (Err TrailFull) n low high called =
+    called_by m c request old new out (Err TrailFull) [] low high called (no_item c (place_of called.here.before) called.here.last called.here.ends.0) tt
+called_other m c request old new out (Err Memory) n low high called =
+    called_by m c request old new out (Err Memory) [] low high called (no_item c (place_of called.here.before) called.here.last called.here.ends.0) tt

@@ -1,0 +1,17 @@
+//! A client of a stack's files: its open objects, and what its lines of a script do.
+//!
+//! The lines are this project's own; what a call on a file is follows the Spring papers.
+#![tactic(auto)]
+
+mod calls;
+mod client;
+mod line;
+mod lines;
+
+pub use calls::sync_at;
+pub use client::{Client, Common, perform};
+pub use line::{refused, reply_to};
+pub use lines::{do_lines, lines_in, run_phase};
+
+#[cfg(test)]
+mod tests;
