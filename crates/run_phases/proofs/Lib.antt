@@ -1,0 +1,4 @@
+pub mod PartLaws
+pub mod PhaseLaws
+pub mod StartLaws
+pub mod ClosingLaws

@@ -1,0 +1,4 @@
+pub mod Workers
+pub mod Phases
+pub mod Parts
+pub mod Closing

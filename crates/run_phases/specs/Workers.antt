@@ -1,0 +1,37 @@
+-- The clients of a script with their answers, before its first phase.
+use Rattle.std.specs.Prelude.{◌≡◌, ℕ, suc, ◌+◌, ◌≤◌, List, [], ◌∷◌, length, slice_get, Some, vec_capacity}
+use Rattle.std.specs.List.{AllByRecursion, flat_map}
+use Rattle.script_text.specs.declared.script.CallLine.{CallLine}
+use Rattle.script_text.specs.declared.script.ClientLine.{ClientLine}
+use Rattle.stack_accept.specs.Mount.{Mount}
+use Rattle.run_defs.specs.Plan.{start_state}
+use Rattle.run_defs.specs.Fits.{lines_of}
+use Rattle.spr_client.specs.Lines.{IsObject}
+use Rattle.run_phases.specs.declared.worker.Worker.{Worker}
+
+-- a client on its machine, with no object open, that has answered nothing
+pub record IsStarted (mount : Mount) (caller : ℕ) (line : ClientLine) (worker : Worker) : Type 0 where
+  pub caller_is : worker.client.caller ≡ caller
+  pub state_is : worker.client.state ≡ start_state mount line
+  pub silent : worker.said.items ≡ []
+
+-- so is each client from this one on
+abbrev pub AreStarted : Mount → ℕ → List ClientLine → List Worker → Type 0
+AreStarted mount caller [] [] = Unit {0}
+AreStarted mount caller [] (worker ∷ workers) = ⊥
+AreStarted mount caller (line ∷ lines) [] = ⊥
+AreStarted mount caller (line ∷ lines) (worker ∷ workers) = IsStarted mount caller line worker × AreStarted mount (suc caller) lines workers
+
+-- each worker is the client of the next number, and its objects are of the stack
+abbrev pub AreReady : Mount → ℕ → List Worker → Type 0
+AreReady mount first [] = Unit {0}
+AreReady mount first (worker ∷ workers) =
+    (worker.client.caller ≡ first) × AllByRecursion (IsObject mount) worker.client.state.objects × AreReady mount (suc first) workers
+
+-- each client has room for the answers to its lines of these phases
+abbrev pub HaveRoom : List (List CallLine) → List Worker → Type 0
+HaveRoom phases workers = AllByRecursion (λ w. length w.said.items + length (flat_map (lines_of w.client.caller) phases) ≤ vec_capacity w.said) workers
+
+-- a client that has answered nothing
+abbrev pub IsSilent : Worker → Type 0
+IsSilent worker = worker.said.items ≡ []
