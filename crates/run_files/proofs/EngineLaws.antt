@@ -20,20 +20,22 @@ use Rattle.tower_core.specs.TreeShape.{TreeShape}
 use Rattle.page_messages.specs.declared.paged.PagedFile.{PagedFile}
 use Rattle.tower_log.specs.declared.logged.Logged.{Logged}
 use Rattle.tower_log.specs.declared.logged.Logged.TheVariants.{Entered, Noted}
+use Rattle.tower_log.specs.Log.{trail_of}
 use Rattle.tower_log.specs.Notes.{Rises, counts_of}
 use Rattle.tower_shows.specs.Began.{ArePagesOf}
 use Rattle.stack_engine.specs.Engine.{EngineSeen, IsSound, events_in, file_in, log_in, tree_in}
 use Rattle.stack_engine.specs.Opened.{AreAnswers, IsOf, KeepsSince}
 use Rattle.stack_engine.specs.Start as engines
-use Rattle.tower_calls.specs.Later.{IsLater, IsLaterOn, IsNoteOf, IsOnDisk, KeepsFirst, KeepsWhole}
+use Rattle.shared_tower.specs.Later.{IsLater, IsLaterOn, IsNoteOf, IsOnDisk, KeepsFirst}
 use Rattle.run_defs.specs.declared.store.StoreKey.{StoreKey}
 use Rattle.run_defs.specs.Stack.{pages_of}
 use Rattle.file_stores.specs.Keys.{image_shape}
 use Rattle.file_stores.proofs.Lists.{some-is}
 use Rattle.run_files.specs.WholeDisk.{seen_whole}
 use Rattle.run_files.specs.Held.{paged}
+use Rattle.run_files.specs.Play.{KeepsNow}
 use Rattle.run_files.specs.Run.{IsOfDisks, IsOfFile, StandFor, pages_in, IsAlong, Holds, HoldsAll, IsKept, IsTold}
-use Rattle.run_files.proofs.PageLaws.{ArePaged, image-paged, joined-are, length-of}
+use Rattle.run_files.proofs.PageLaws.{ArePaged, image-many, image-paged, joined-are, length-of}
 use Rattle.run_files.proofs.WholeLaws.{kept-under, faults-under, opened-under, is-live, on-disk}
 
 -- the file that these pages began, if the disk tells them
@@ -129,6 +131,13 @@ stands shape blocks P kept is told =
     by None e (ps, same, p) = absurd cc
     by (Some found) e (ps, same, p) = (found, e, subst P (sym (some-is found.pages ps same)) p)
 
+-- pages of the file as it is now, in an image, are all of its pages
+all-held : (mount : Mount) (key : StoreKey) (opening : List ℕ) (log : List Logged) (blocks : List (List ℕ))
+    → StandFor (image_shape mount key) (λ ps. ArePagesOf mount.page_size (length ps) (file_after mount.tree mount.page_size opening (trail_of log)).bytes ps) blocks
+    → StandFor (image_shape mount key) (HoldsAll mount key.file opening log) blocks
+all-held mount key opening log blocks (found, is, are) =
+    (found, is, subst (λ n. ArePagesOf mount.page_size n (file_after mount.tree mount.page_size opening (trail_of log)).bytes found.pages) (image-many (image_shape mount key) blocks found is) are)
+
 -- what a told disk kept
 kept-told : (d : Disk) (shape : ImageShape) (c : Content) → d.shape ≡ shape → d.content ≡ Some c → kept_on d ≡ Some (image shape c.kept)
 kept-told d shape c is content =
@@ -143,7 +152,7 @@ still-told d is = by d.content is
 
 -- what a store keeps of a file that began with these bytes
 kept-of : (mount : Mount) (key : StoreKey) (d0 d1 : Disk) (e0 e1 : EngineSeen) (closing : List Reply) (opening : List ℕ) (old new : Content) → EngineRun mount key d0 d1 e0 e1 → d0.shape ≡ image_shape mount key
-    → IsOf opening e0 → d0.content ≡ Some old → d1.content ≡ Some new → (slice_get closing key.file ≡ Some Done → KeepsWhole e1) → IsKept mount closing (log_in e1) key opening old new
+    → IsOf opening e0 → d0.content ≡ Some old → d1.content ≡ Some new → (slice_get closing key.file ≡ Some Done → KeepsNow e1) → IsKept mount closing (log_in e1) key opening old new
 kept-of mount key d0 d1 e0 e1 closing opening old new run first of before after whole =
     let shape : ImageShape = image_shape mount key in
     let on = later-on mount key d0 d1 e0 e1 run in
@@ -167,10 +176,11 @@ kept-of mount key d0 d1 e0 e1 closing opening old new run first of before after 
           (from_start none);
       synced = λ from last. since from ((now.synced from last).disks d0.disk on.same.live);
       whole = λ done.
-          stands shape new.kept (HoldsAll mount key.file opening (log_in e1)) (kept_by e1.ground.disks d0.disk) kept1
+          all-held mount key opening (log_in e1) new.kept
+          (stands shape new.kept (λ ps. ArePagesOf mount.page_size (length ps) (file_after mount.tree mount.page_size opening (events_in e1)).bytes ps) (kept_by e1.ground.disks d0.disk) kept1
           (at-mount mount key d0 d1 e0 e1
-          (λ t f. IfSome (told_in (kept_by e1.ground.disks d0.disk)) (λ pages. (ps : List (List ℕ)) × (pages ≡ Some ps) × ArePagesOf f.page_size f.pages (file_after t f.page_size opening (events_in e1)).bytes ps))
-          run (whole done opening d0.disk now on.same));
+          (λ t f. IfSome (told_in (kept_by e1.ground.disks d0.disk)) (λ pages. (ps : List (List ℕ)) × (pages ≡ Some ps) × ArePagesOf f.page_size (length ps) (file_after t f.page_size opening (events_in e1)).bytes ps))
+          run (whole done opening d0.disk now on.same)));
     }
 
 -- a file along its log
@@ -185,7 +195,7 @@ along-of mount key d0 d1 e0 e1 opening run of =
 
 -- the store of a disk that told its content
 pub told-of : (mount : Mount) (key : StoreKey) (d0 d1 : Disk) (e0 e1 : EngineSeen) (closing : List Reply) → EngineRun mount key d0 d1 e0 e1 → d0.shape ≡ image_shape mount key → HasImage d0
-    → IsShaped mount.page_size (blocks_of (image_shape mount key)) d0.content → (slice_get closing key.file ≡ Some Done → KeepsWhole e1) → IfSome d0.content (λ c. IsTold mount closing (log_in e1) key c d1.content)
+    → IsShaped mount.page_size (blocks_of (image_shape mount key)) d0.content → (slice_get closing key.file ≡ Some Done → KeepsNow e1) → IfSome d0.content (λ c. IsTold mount closing (log_in e1) key c d1.content)
 told-of mount key d0 d1 e0 e1 closing run first has fits whole = by d0.content refl
   where
     by : (o : Option Content) → d0.content ≡ o → IfSome o (λ c. IsTold mount closing (log_in e1) key c d1.content)

@@ -27,7 +27,7 @@ use Rattle.tower_shows.specs.Began.{ArePagesOf}
 use Rattle.stack_engine.specs.Opened.{IsOf}
 use Rattle.stack_engine.specs.Start as engines
 use Rattle.stack_engine.specs.Tower.{TowerSeen}
-use Rattle.run_clients.specs.Towers.{logs}
+use Rattle.spr_volume.specs.Passes.{logs}
 use Rattle.file_stores.specs.declared.stop.Stop.{Stop}
 use Rattle.file_stores.specs.declared.stop.Stop.TheVariants as stops
 use Rattle.file_stores.specs.State.{StoreState}

@@ -2,6 +2,8 @@ pub mod WholeLaws
 pub mod PageLaws
 pub mod EngineLaws
 pub mod EndedLaws
+pub mod TowerLaws
+pub mod ClosedLaws
 pub mod HeldLaws
 pub mod PlayLaws
 pub mod StopLaws

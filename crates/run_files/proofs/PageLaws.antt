@@ -45,6 +45,18 @@ pub record ArePaged (shape : ImageShape) (pages : List (List ℕ)) : Type 0 wher
   pub many : length pages ≡ shape.pages
   pub sizes : Sizes shape.page_size pages
 
+-- an image has as many pages as its shape
+pub image-many : (shape : ImageShape) (blocks : List (List ℕ)) (found : Imaged) → image shape blocks ≡ Some found → length found.pages ≡ shape.pages
+image-many shape blocks found is = by (image_in shape (front_of shape blocks)) refl is
+  where
+    by : (r : Result Image BadImage) → image_in shape (front_of shape blocks) ≡ r → imaged shape blocks r ≡ Some found → length found.pages ≡ shape.pages
+    by (Err bad) e told = absurd cc
+    by (Ok i) e told =
+        let parts = image-parts shape (take shape.page_size (front_of shape blocks)) (drop shape.page_size (front_of shape blocks)) i e in
+        let here : Imaged = record { generation = i.generation; pages = pages_of shape.page_size blocks i.entries } in
+        ap (λ (x : Imaged). length x.pages) (sym (some-is here found told))
+        ∙ (length-map i.entries (page_of shape.page_size blocks) ∙ (ap length (sym parts.entries) ∙ length-entries_in shape.pages (drop shape.page_size (front_of shape blocks))))
+
 -- the pages of an image
 pub image-paged : (shape : ImageShape) (blocks : List (List ℕ)) (found : Imaged) → Sizes shape.page_size blocks → length blocks ≡ blocks_of shape → image shape blocks ≡ Some found → ArePaged shape found.pages
 image-paged shape blocks found s many is = by (image_in shape (front_of shape blocks)) refl is
@@ -57,7 +69,7 @@ image-paged shape blocks found s many is = by (image_in shape (front_of shape bl
         let here : Imaged = record { generation = i.generation; pages = pages_of shape.page_size blocks i.entries } in
         subst (λ (x : Imaged). ArePaged shape x.pages) (some-is here found told)
         (record {
-          many = length-map i.entries (page_of shape.page_size blocks) ∙ (ap length (sym parts.entries) ∙ length-entries_in shape.pages (drop shape.page_size (front_of shape blocks)));
+          many = ap (λ (x : Imaged). length x.pages) (some-is here found told) ∙ image-many shape blocks found is;
           sizes = pages-long shape blocks shape.page_size i.entries s many good.0.entry;
         })
 

@@ -33,9 +33,10 @@ use Rattle.tower_log.specs.Log.{trail_of}
 use Rattle.tower_log.specs.Notes.{Rises, counts_of}
 use Rattle.stack_engine.specs.Engine.{EngineSeen, IsSound, events_in, file_in, log_in, tree_in}
 use Rattle.stack_engine.specs.Tower.{TowerSeen}
-use Rattle.run_clients.specs.Towers.{frames, logs, AreFrames, AreTowers, IsFree, IsLaterTower, EachLater, AreLater}
-use Rattle.run_clients.specs.Phases.{IsClosed}
-use Rattle.run_clients.proofs.TowerLaws.{log_at-tower}
+use Rattle.shared_tower.specs.Later.{IsLater}
+use Rattle.spr_volume.specs.Passes.{logs}
+use Rattle.spr_volume.specs.Passes.{AreBack as AreTowersBack}
+use Rattle.spr_client.specs.Calls.{frames, AreFrames, AreOfStack}
 use Rattle.file_stores.specs.Keys.{image_shape, stores_of, berth_of, is_lost, SameOthers}
 use Rattle.file_stores.specs.State.{BackFrom, RoseBy}
 use Rattle.file_stores.specs.Held.{StoreSeen, IsFit, keys_of, AreGiven}
@@ -46,10 +47,11 @@ use Rattle.file_stores.proofs.HeldLaws.{same-then}
 use Rattle.file_stores.proofs.StackLaws.{length-stores, store-of-one}
 use Rattle.run_files.specs.Ended.{status_of}
 use Rattle.run_files.specs.Held.{IsTaken, Opens, OpensEach, IsShut, AreShut}
-use Rattle.run_files.specs.Play.{IsUnwritten, ArePlayed}
+use Rattle.run_files.specs.Play.{IsClosed, IsUnwritten, ArePlayed}
 use Rattle.run_files.specs.Run.{IsOfFile, AreOfFiles, IsTold, Leaves, LeavesEach, CameBack, AreBack, start_of, Played, SaysRun, reported, ran_out}
 use Rattle.run_files.specs.Told.{Tells}
 use Rattle.run_files.proofs.HeldLaws.{opens-length, opens-at, shut-length, shut-at, shut-keys, length-logs, number-keys}
+use Rattle.run_files.proofs.TowerLaws.{back-at, log_at-tower, same-number}
 use Rattle.run_files.proofs.EngineLaws.{EngineRun, rises-of, calm-of, of-file, told-of}
 
 -- the pages of a file of the stack
@@ -78,49 +80,24 @@ key-at mount stores k s one keys is =
 number-files : (mount : Mount) (stores : List StoreSeen) → length mount.disks ≡ 1 → keys_of stores ≡ stores_of mount → length stores ≡ length mount.files
 number-files mount stores one keys = sym (number-keys stores) ∙ (ap length keys ∙ number-stores mount one)
 
-free-opened : (mount : Mount) (stores : List StoreSeen) (ts : List TowerSeen) → OpensEach mount stores ts → AllByRecursion IsFree ts
-free-opened mount [] [] opens = tt
-free-opened mount [] (t ∷ ts) opens = absurd opens
-free-opened mount (s ∷ ss) [] opens = absurd opens
-free-opened mount (s ∷ ss) (t ∷ ts) opens = (opens.0.free, free-opened mount ss ts opens.1)
-
 -- the towers may be called
-pub towers-opened : (mount : Mount) (stores : List StoreSeen) (ts : List TowerSeen) → length mount.disks ≡ 1 → keys_of stores ≡ stores_of mount → OpensEach mount stores ts → AreTowers mount ts
+pub towers-opened : (mount : Mount) (stores : List StoreSeen) (ts : List TowerSeen) → length mount.disks ≡ 1 → keys_of stores ≡ stores_of mount → OpensEach mount stores ts → AreOfStack mount ts
 towers-opened mount stores ts one keys opens =
     let many = opens-length mount stores ts opens in
     let files = number-files mount stores one keys in
-    record {
-      frames_are = frames-of mount mount.files ts (many ∙ files)
-          (λ k f t is at.
-          let within = slice_get_within ts k t at in
-          let s = there stores k (omega (arith, within, many)) in
-          let o = opens-at mount stores ts k s.0 t opens s.1 at in
-          let file : (s.0).key.file ≡ k = ap (λ (x : StoreKey). x.file) (key-at mount stores k s.0 one keys s.1) in
-          (o.opens.tree_is, ap (λ (p : PagedFile). p.page_size) o.opens.file_is, ap (λ (p : PagedFile). p.pages) o.opens.file_is ∙ (ap (λ n. pages_of mount n) file ∙ pages-at mount k f is)));
-      free = free-opened mount stores ts opens;
-    }
+    frames-of mount mount.files ts (many ∙ files)
+    (λ k f t is at.
+    let within = slice_get_within ts k t at in
+    let s = there stores k (omega (arith, within, many)) in
+    let o = opens-at mount stores ts k s.0 t opens s.1 at in
+    let file : (s.0).key.file ≡ k = ap (λ (x : StoreKey). x.file) (key-at mount stores k s.0 one keys s.1) in
+    (o.opens.tree_is, ap (λ (p : PagedFile). p.page_size) o.opens.file_is, ap (λ (p : PagedFile). p.pages) o.opens.file_is ∙ (ap (λ n. pages_of mount n) file ∙ pages-at mount k f is)))
 
 pub unwritten-opened : (mount : Mount) (stores : List StoreSeen) (ts : List TowerSeen) → OpensEach mount stores ts → AllByRecursion IsUnwritten ts
 unwritten-opened mount [] [] opens = tt
 unwritten-opened mount [] (t ∷ ts) opens = absurd opens
 unwritten-opened mount (s ∷ ss) [] opens = absurd opens
 unwritten-opened mount (s ∷ ss) (t ∷ ts) opens = (opens.0.opens.no_log, unwritten-opened mount ss ts opens.1)
-
-each-length : (before after : List TowerSeen) → EachLater before after → length after ≡ length before
-each-length [] [] later = refl
-each-length [] (y ∷ ys) later = absurd later
-each-length (x ∷ xs) [] later = absurd later
-each-length (x ∷ xs) (y ∷ ys) later = ap suc (each-length xs ys later.1)
-
-pub same-number : (before after : List TowerSeen) → AreLater before after → length after ≡ length before
-same-number before after later = each-length before after later.each
-
-later-at : (before after : List TowerSeen) (k : ℕ) (t0 t1 : TowerSeen) → EachLater before after → slice_get before k ≡ Some t0 → slice_get after k ≡ Some t1 → IsLaterTower t0 t1
-later-at [] after k t0 t1 later is0 is1 = absurd (no-item k t0 is0)
-later-at (x ∷ xs) [] k t0 t1 later is0 is1 = absurd later
-later-at (x ∷ xs) (y ∷ ys) zero t0 t1 later is0 is1 =
-    subst (λ (z : TowerSeen). IsLaterTower z t1) (some-is x t0 is0) (subst (λ (z : TowerSeen). IsLaterTower x z) (some-is y t1 is1) later.0)
-later-at (x ∷ xs) (y ∷ ys) (suc k) t0 t1 later is0 is1 = later-at xs ys k t0 t1 later.1 is0 is1
 
 rises-is : (a b c d : ℕ) (m n : ℕ) (log : List Logged) → a ≡ b → c ≡ d → m ≡ n → Rises a c (counts_of m log) → Rises b d (counts_of n log)
 rises-is a b c d m n log p q r rises =
@@ -136,7 +113,7 @@ record FileRun (mount : Mount) (after : List TowerSeen) (k : ℕ) (s n : StoreSe
   t1 : TowerSeen
   there1 : slice_get after k ≡ Some t1
   opens : Opens mount s t0
-  later : IsLaterTower t0 t1
+  later : IsLater t0.engine t1.engine
   shut : IsShut s.key t1 n
   key : s.key ≡ record { file = k; disk = 0 }
 
@@ -145,17 +122,18 @@ pub record IsRunOver (mount : Mount) (before after : List TowerSeen) (olds news 
   pub one : length mount.disks ≡ 1
   pub keys : keys_of olds ≡ stores_of mount
   pub opened : OpensEach mount olds before
-  pub later : AreLater before after
+  pub end : ℕ
+  pub back : AreTowersBack end before after
   pub shut : AreShut (keys_of olds) after news
 
 number-news : (mount : Mount) (before after : List TowerSeen) (olds news : List StoreSeen) → IsRunOver mount before after olds news → length news ≡ length olds
 number-news mount before after olds news run =
-    shut-length (keys_of olds) after news run.shut ∙ (same-number before after run.later ∙ opens-length mount olds before run.opened)
+    shut-length (keys_of olds) after news run.shut ∙ (same-number run.end before after run.back ∙ opens-length mount olds before run.opened)
 
 -- the stores are the same ones
 keys-news : (mount : Mount) (before after : List TowerSeen) (olds news : List StoreSeen) → IsRunOver mount before after olds news → keys_of news ≡ keys_of olds
 keys-news mount before after olds news run =
-    let many = same-number before after run.later ∙ opens-length mount olds before run.opened in
+    let many = same-number run.end before after run.back ∙ opens-length mount olds before run.opened in
     shut-keys (keys_of olds) after news run.shut ∙ take-whole (keys_of olds) (length after) (let all = number-keys olds in omega (arith, many, all))
   where
     take-whole : (xs : List StoreKey) (n : ℕ) → n ≡ length xs → take n xs ≡ xs
@@ -178,14 +156,14 @@ file-run mount before after olds news k s n run is at =
       t1 = b.0;
       there1 = b.1;
       opens = opens-at mount olds before k s a.0 run.opened is a.1;
-      later = later-at before after k a.0 b.0 run.later.each a.1 b.1;
+      later = (back-at run.end before after k a.0 b.0 run.back a.1 b.1).later;
       shut = subst (λ (x : StoreKey). IsShut x b.0 n) same b.2;
       key = key-at mount olds k s run.one run.keys is;
     }
 
 -- the engine of a file, from its opening to its end
 engine-run : (mount : Mount) (after : List TowerSeen) (k : ℕ) (s n : StoreSeen) (f : FileRun mount after k s n) → EngineRun mount s.key f.opens.disk f.shut.disk f.t0.engine f.t1.engine
-engine-run mount after k s n f = record { opens = f.opens.opens; began = f.opens.began; later = f.later.engine; sound = f.shut.sound; ground = f.shut.ground }
+engine-run mount after k s n f = record { opens = f.opens.opens; began = f.opens.began; later = f.later; sound = f.shut.sound; ground = f.shut.ground }
 
 -- what became of a file's store
 file-left : (mount : Mount) (closer : ℕ) (after : List TowerSeen) (closing : List Reply) (k : ℕ) (s n : StoreSeen) → FileRun mount after k s n → IsFit mount s
@@ -204,7 +182,7 @@ file-left mount closer after closing k s n f fit closed =
     rises-is d0.opened s.state.faults d1.faults n.state.faults d0.disk s.key.disk (log_in e1) (over.opened ∙ over.calm) (sym f.shut.faults) over.disk (rises-of mount s.key d0 d1 e0 e1 run) in
     let fits : IsShaped mount.page_size (blocks_of (image_shape mount s.key)) d0.content = subst (λ (o : Option Content). IsShaped mount.page_size (blocks_of (image_shape mount s.key)) o) (sym over.content) fit.told in
     let told : IfSome d0.content (λ c. IsTold mount closing (log_in e1) s.key c d1.content) =
-    told-of mount s.key d0 d1 e0 e1 closing run over.shape over.image fits (λ done. (closed k f.t1 (ap (λ m. slice_get closing m) (sym file) ∙ done) f.there1).whole) in (
+    told-of mount s.key d0 d1 e0 e1 closing run over.shape over.image fits (λ done. (closed k f.t1 (ap (λ m. slice_get closing m) (sym file) ∙ done) f.there1).now) in (
       subst (λ (l : List Logged). Leaves mount closing l s.key s.state n.state) log
           (record {
             rises = rises;
@@ -297,8 +275,8 @@ shut-reported mount (f ∷ fs) [] (t ∷ ts) (s ∷ ss) h k = absurd k
 shut-reported mount (f ∷ fs) (key ∷ keys) (t ∷ ts) (s ∷ ss) h k = (reported-is mount f t.engine k.0.sound h.0 h.1 h.2, shut-reported mount fs keys ts ss h.3 k.1)
 
 -- a log for each file
-pub logs-over : (mount : Mount) (after : List TowerSeen) (keys : List StoreKey) (stores : List StoreSeen) → AreTowers mount after → AreShut keys after stores → AreReported mount mount.files (logs after)
-logs-over mount after keys stores may shut = shut-reported mount mount.files keys after stores may.frames_are shut
+pub logs-over : (mount : Mount) (after : List TowerSeen) (keys : List StoreKey) (stores : List StoreSeen) → AreOfStack mount after → AreShut keys after stores → AreReported mount mount.files (logs after)
+logs-over mount after keys stores may shut = shut-reported mount mount.files keys after stores may shut
 
 shut-numbered : (keys : List StoreKey) (ts : List TowerSeen) (ss : List StoreSeen) → AreShut keys ts ss → AllByRecursion (λ l. IsNumbered (trail_of l)) (logs ts)
 shut-numbered keys [] ss k = tt
@@ -307,12 +285,12 @@ shut-numbered [] (t ∷ ts) (s ∷ ss) k = absurd k
 shut-numbered (key ∷ keys) (t ∷ ts) (s ∷ ss) k = (k.0.sound.numbered, shut-numbered keys ts ss k.1)
 
 -- the logs before were empty
-starts-are : (before after : List TowerSeen) → EachLater before after → AllByRecursion IsUnwritten before → logs before ≡ map start_of (logs after)
-starts-are [] [] later none = refl
-starts-are [] (t ∷ ts) later none = absurd later
-starts-are (t ∷ ts) [] later none = absurd later
-starts-are (t ∷ ts) (u ∷ us) later none =
-    ap (λ (l : List Logged). l ∷ logs ts) none.0 ∙ ap (λ (ls : List (List Logged)). start_of (log_in u.engine) ∷ ls) (starts-are ts us later.1 none.1)
+starts-are : (end : ℕ) (before after : List TowerSeen) → AreTowersBack end before after → AllByRecursion IsUnwritten before → logs before ≡ map start_of (logs after)
+starts-are end [] [] back none = refl
+starts-are end [] (t ∷ ts) back none = absurd back
+starts-are end (t ∷ ts) [] back none = absurd back
+starts-are end (t ∷ ts) (u ∷ us) back none =
+    ap (λ (l : List Logged). l ∷ logs ts) none.0 ∙ ap (λ (ls : List (List Logged)). start_of (log_in u.engine) ∷ ls) (starts-are end ts us back.1 none.1)
 
 -- the run of the files
 played-over : (mount : Mount) (script : Script) (before mid after : BaySeen) (towers towers_after : List TowerSeen) (olds news : List StoreSeen) (keys lost : List StoreKey) (said : List (List Said)) (closing : List Reply)
@@ -324,7 +302,7 @@ played-over mount script before mid after towers towers_after olds news keys los
       stores = subst (λ (ks : List StoreKey). AreBack mount before after ks lost (LeavesEach mount closing (logs towers_after))) run.keys
           (are-back mount (length script.clients) before mid after towers towers_after olds news keys lost closing taken run played.closed given);
       files = of-files mount (length script.clients) towers towers_after olds news closing run played.closing_each played.closed;
-      fits = subst (λ (ls : List (List Logged)). FitsScript mount script ls (logs towers_after) said closing) (starts-are towers towers_after run.later.each unwritten) (played.fits (shut-numbered (keys_of olds) towers_after news run.shut));
+      fits = subst (λ (ls : List (List Logged)). FitsScript mount script ls (logs towers_after) said closing) (starts-are run.end towers towers_after run.back unwritten) (played.fits (shut-numbered (keys_of olds) towers_after news run.shut));
       answered = played.answered;
     }
 

@@ -1,6 +1,7 @@
 -- What becomes of stores whose files could not all be opened.
-use Rattle.std.proofs.Common.{◌≡◌, ℕ, zero, suc, ◌+◌, ◌<◌, ◌≤◌, List, [], ◌∷◌, ◌++◌, length, Option, Some, None, IfSome, refl, sym, ap, subst, ◌∙◌, arith}
+use Rattle.std.proofs.Common.{◌≡◌, ⊎_elim, ℕ, zero, suc, ◌+◌, ◌<◌, ◌≤◌, List, [], ◌∷◌, ◌++◌, length, Option, Some, None, IfSome, refl, sym, ap, subst, ◌∙◌, arith}
 use Rattle.std.specs.Prelude.{slice_get, IsSome}
+use Rattle.std.proofs.lemmas.List.{append-nil}
 use Rattle.stack_accept.specs.Mount.{Mount}
 use Rattle.run_defs.specs.declared.store.StoreKey.{StoreKey}
 use Rattle.spr_io.specs.Content.{Content}
@@ -26,7 +27,7 @@ use Rattle.script_text.specs.declared.script.Script.{Script}
 use Rattle.file_stores.specs.Keys.{stores_of}
 use Rattle.pager_channel.specs.declared.numbers.Ops.{Ops}
 use Rattle.run_files.specs.WholeDisk.{seen_whole}
-use Rattle.run_files.specs.Held.{IsTaken, Opens, IsShut, OpensEach, OpensSome, AreShut}
+use Rattle.run_files.specs.Held.{Halts, IsTaken, Opens, IsShut, OpensEach, OpensSome, AreShut}
 use Rattle.run_files.specs.Run.{SaysRun, stopped}
 use Rattle.run_files.specs.Told.{Stopped}
 use Rattle.run_files.proofs.WholeLaws.{whole-content, whole-count}
@@ -149,7 +150,7 @@ which-refused mount before mid keys stores ts rest stop taken some =
     ∙ to-map (λ (s : StoreSeen). s.key) (some.first ++ some.old ∷ some.behind) (length some.first) some.old (at-join some.first some.behind some.old)
 
 -- a run whose files were not all opened
-pub stops-opening : (mount : Mount) (before mid after : BaySeen) (keys lost : List StoreKey) (stores : List StoreSeen) (ts : List TowerSeen) (rest closed : List StoreSeen) (stop : Stop) → IsTaken mount before mid keys stores
+stops-opening : (mount : Mount) (before mid after : BaySeen) (keys lost : List StoreKey) (stores : List StoreSeen) (ts : List TowerSeen) (rest closed : List StoreSeen) (stop : Stop) → IsTaken mount before mid keys stores
     → OpensSome mount stores ts rest stop → AreShut keys ts closed → AreGiven mount mid after (closed ++ rest) lost → Stops mount before after keys lost stop
 stops-opening mount before mid after keys lost stores ts rest closed (stops.Store key count) taken some shut given =
     let number : ℕ = length some.first in
@@ -181,6 +182,27 @@ stops-opening mount before mid after keys lost stores ts rest closed stops.Memor
     stops-memory mount before after keys lost
     (came-back mount before mid after keys lost stores ts rest closed stops.Memory AsTaken taken some shut given (λ k s lt image. refl) (one-same (λ a b. b ≡ a) some.old.state some.new.state some.cause some.cause) (λ k s gt. refl))
 stops-opening mount before mid after keys lost stores ts rest closed (stops.Bay key) taken some shut given = absurd some.cause
+
+-- a run whose files were all opened, for which memory ran out then
+stops-opened : (mount : Mount) (before mid after : BaySeen) (keys lost : List StoreKey) (stores : List StoreSeen) (ts : List TowerSeen) (rest closed : List StoreSeen) → IsTaken mount before mid keys stores → OpensEach mount stores ts
+    → rest ≡ [] → AreShut keys ts closed → AreGiven mount mid after (closed ++ rest) lost → Stops mount before after keys lost stops.Memory
+stops-opened mount before mid after keys lost stores ts rest closed taken opened none shut given =
+    let which : keys ≡ keys_of (stores ++ []) = sym taken.which ∙ ap keys_of (sym (append-nil stores)) in
+    let pairs : Pairs (Fate AsTaken) 0 stores closed = shut-pairs mount AsTaken 0 stores [] ts closed opened (subst (λ (ks : List StoreKey). AreShut ks ts closed) which shut) (λ k s lt image. refl) in
+    let calm = taken.calm in
+    let back : AreGiven mount mid after closed lost = subst (λ (ss : List StoreSeen). AreGiven mount mid after ss lost) (ap (λ (rs : List StoreSeen). closed ++ rs) none ∙ append-nil closed) given in
+    stops-memory mount before after keys lost
+    (subst (λ (ks : List StoreKey). Returned mount before after ks lost AsTaken) taken.which
+    (returned-of mount before mid after stores closed lost AsTaken taken.out (omega (arith, calm)) (became-pairs AsTaken stores closed pairs) back))
+
+-- a run that was halted before its script
+pub stops-halted : (mount : Mount) (before mid after : BaySeen) (keys lost : List StoreKey) (stores : List StoreSeen) (ts : List TowerSeen) (rest closed : List StoreSeen) (stop : Stop) → IsTaken mount before mid keys stores
+    → Halts mount stores ts rest stop → AreShut keys ts closed → AreGiven mount mid after (closed ++ rest) lost → Stops mount before after keys lost stop
+stops-halted mount before mid after keys lost stores ts rest closed stop taken halts shut given =
+    ⊎_elim (λ (some : OpensSome mount stores ts rest stop). stops-opening mount before mid after keys lost stores ts rest closed stop taken some shut given)
+    (λ (all : OpensEach mount stores ts × (rest ≡ []) × (stop ≡ stops.Memory)).
+    subst (λ (s : Stop). Stops mount before after keys lost s) (sym all.2) (stops-opened mount before mid after keys lost stores ts rest closed taken all.0 all.1 shut given))
+    halts
 
 -- the text of a run that stopped was written
 pub stopped-writes : (mount : Mount) (before after : BaySeen) (keys lost : List StoreKey) (stop : Stop) (old new : SinkSeen) (result : Status) → Stops mount before after keys lost stop

@@ -7,7 +7,7 @@ use Rattle.spr_io.specs.Content.{Content}
 use Rattle.disk_format.specs.Image.{Imaged}
 use Rattle.disk_layer.specs.Disk.{Disk, kept_on}
 use Rattle.disk_layer.specs.Seen.{DiskSeen, Seen, faults_in, kept_in, live_in, opened_in}
-use Rattle.tower_calls.specs.Later.{IsOnDisk}
+use Rattle.shared_tower.specs.Later.{IsOnDisk}
 use Rattle.run_files.specs.WholeDisk.{seen_whole}
 
 -- what is found under its number

@@ -1,5 +1,5 @@
 -- The files over the stores that were taken: opened, and closed.
-use Rattle.std.specs.Prelude.{◌≡◌, ℕ, ◌*◌, List, [], ◌∷◌, ◌++◌, length, Some}
+use Rattle.std.specs.Prelude.{◌≡◌, ◌⊎◌, ℕ, ◌*◌, List, [], ◌∷◌, ◌++◌, length, Some}
 use Rattle.stack_accept.specs.Mount.{Mount}
 use Rattle.spr_io.specs.Berth.{BaySeen}
 use Rattle.run_defs.specs.declared.store.StoreKey.{StoreKey}
@@ -72,6 +72,10 @@ pub record OpensSome (mount : Mount) (stores : List StoreSeen) (towers : List To
   pub key : new.key ≡ old.key
   pub content : new.state.content ≡ old.state.content
   pub cause : IsUnopened mount old new stop
+
+-- why the script is not run over files: not all were opened; or all were, and memory ran out then
+abbrev pub Halts : Mount → List StoreSeen → List TowerSeen → List StoreSeen → Stop → Type 0
+Halts mount stores towers rest stop = OpensSome mount stores towers rest stop ⊎ (OpensEach mount stores towers × (rest ≡ []) × (stop ≡ stops.Memory))
 
 -- a tower was closed, and this is its store
 pub record IsShut (key : StoreKey) (t : TowerSeen) (s : StoreSeen) : Type 0 where

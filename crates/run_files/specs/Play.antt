@@ -1,5 +1,5 @@
 -- What a script over the files did.
-use Rattle.std.specs.Prelude.{◌≡◌, ℕ, List, [], length, slice_get, Some}
+use Rattle.std.specs.Prelude.{◌≡◌, ℕ, suc, List, [], length, slice_get, Some, IfSome}
 use Rattle.std.specs.List.{AllByRecursion}
 use Rattle.hist_plain.specs.History.{IsNumbered}
 use Rattle.script_text.specs.declared.script.Script.{Script}
@@ -7,22 +7,57 @@ use Rattle.script_text.specs.declared.script.Said.{Said}
 use Rattle.script_text.specs.declared.script.Reply.{Reply}
 use Rattle.script_text.specs.declared.script.Reply.TheVariants.{Done}
 use Rattle.stack_accept.specs.Mount.{Mount}
+use Rattle.disk_layer.specs.Seen.{pages_in}
+use Rattle.disk_layer.specs.Seen.{kept_in as kept_on}
+use Rattle.tower_core.specs.Legal.{file_after}
+use Rattle.tower_log.specs.declared.logged.Logged.{Logged}
 use Rattle.tower_log.specs.Log.{trail_of}
-use Rattle.run_defs.specs.Fits.{FitsScript, EachAnswered}
-use Rattle.stack_engine.specs.Engine.{log_in}
+use Rattle.tower_shows.specs.Began.{ArePagesOf}
+use Rattle.run_defs.specs.Log.{EndsSynced, items}
+use Rattle.run_defs.specs.Fits.{FitsScript, EachAnswered, IsUpTo}
+use Rattle.stack_engine.specs.Engine.{EngineSeen, events_in, file_in, log_in, tree_in}
+use Rattle.stack_engine.specs.Opened.{IsOf}
 use Rattle.stack_engine.specs.Tower.{TowerSeen}
-use Rattle.run_clients.specs.Towers.{logs, AreLater}
-use Rattle.run_clients.specs.Phases.{IsClosed}
+use Rattle.shared_tower.specs.Later.{IsOnDisk}
+use Rattle.spr_volume.specs.Passes.{AreBack, Knows, known, logs, with_logs}
+use Rattle.run_phases.specs.Closing.{EndsQuietly}
 
 -- nothing was logged yet
 abbrev pub IsUnwritten : TowerSeen → Type 0
 IsUnwritten t = log_in t.engine ≡ []
+
+-- each log was made by callers up to this one, and numbers their events
+pub record AreMadeUpTo (last : ℕ) (logs : List (List Logged)) : Type 0 where
+  pub numbered : AllByRecursion (λ log. IsNumbered (trail_of log)) logs
+  pub callers : AllByRecursion (λ log. AllByRecursion (IsUpTo last) (items log)) logs
+
+-- THE PHASES AND THE CLOSING SYNCS, by what the pass of all callers knew before them and knows after them: what it knows fits the
+-- script, if nobody else did anything; each line has its answer; and a file whose closing sync is done has nothing of the callers
+-- behind the place that the sync is from
+pub record IsPlayed (mount : Mount) (script : Script) (p q : Knows) (said : List (List Said)) (closing : List Reply) : Type 0 where
+  pub pass : q ≡ with_logs p q.logs
+  pub fits : AreMadeUpTo (length script.clients) q.logs → FitsScript mount script p.logs q.logs said closing
+  pub answered : EachAnswered script said
+  pub closed : (file : ℕ) → slice_get closing file ≡ Some Done → EndsQuietly p.first p.end (length script.clients) (known q file)
+  pub said_each : length said ≡ length script.clients
+  pub closing_each : length closing ≡ length mount.files
+
+-- the live disk keeps pages of the file as it is now, if it is told
+abbrev pub KeepsNow : EngineSeen → Type 0
+KeepsNow e = (opening : List ℕ) (disk : ℕ) → IsOf opening e → IsOnDisk disk e.ground
+    → IfSome (pages_in (kept_on e.ground.disks disk)) (λ pages. (ps : List (List ℕ)) × (pages ≡ Some ps)
+    × ArePagesOf (file_in e).page_size (length ps) (file_after (tree_in e) (file_in e).page_size opening (events_in e)).bytes ps)
+
+-- a file that a caller's sync ended: its disk keeps the file as it is now
+pub record IsClosed (caller : ℕ) (t : TowerSeen) : Type 0 where
+  pub ends : EndsSynced caller (events_in t.engine)
+  pub now : KeepsNow t.engine
 
 -- the logs and the answers fit the script, each line has its answer, and a file whose closing sync is done is closed
 pub record ArePlayed (mount : Mount) (script : Script) (before after : List TowerSeen) (said : List (List Said)) (closing : List Reply) : Type 0 where
   pub fits : AllByRecursion (λ log. IsNumbered (trail_of log)) (logs after) → FitsScript mount script (logs before) (logs after) said closing
   pub answered : EachAnswered script said
   pub closed : (file : ℕ) (t : TowerSeen) → slice_get closing file ≡ Some Done → slice_get after file ≡ Some t → IsClosed (length script.clients) t
-  pub later : AreLater before after
+  pub later : AreBack (suc (length script.clients)) before after
   pub said_each : length said ≡ length script.clients
   pub closing_each : length closing ≡ length mount.files

@@ -2,9 +2,8 @@
 use Rattle.std.specs.Prelude.{length}
 use Rattle.script_text.specs.declared.script.Script.{Script}
 use Rattle.stack_accept.specs.Mount.{Mount}
-use Rattle.run_clients.specs.Start.{AreStarted}
-use Rattle.run_clients.specs.Phases.{HaveRoom}
 use Rattle.file_stores.specs.Held.{IsRoom}
+use Rattle.run_phases.specs.Workers.{AreStarted, HaveRoom}
 use Rattle.run_files.specs.declared.room.Asked.{Asked}
 
 -- the clients of a script before its first phase, with room for all answers

@@ -5,7 +5,7 @@ ghost use Rattle.disk_layer.specs.Calls.{Opened};
 ghost use Rattle.stack_engine.specs.Engine.{log_in};
 ghost use Rattle.stack_engine.specs.Start as engines;
 ghost use Rattle.run_defs.specs.Stack.{IsBuilt};
-ghost use Rattle.run_clients.specs.Towers.{logs};
+ghost use Rattle.spr_volume.specs.Passes.{logs};
 ghost use Rattle.file_stores.specs.Keys.{EachAt, AreStores, IsStore, image_shape};
 ghost use Rattle.file_stores.specs.Held.{IsRoom, IsFit, keys_of};
 ghost use Rattle.run_files.specs.WholeDisk.{seen_whole};
@@ -129,6 +129,7 @@ pub(crate) fn open_files<S: Store>(
     requires towers { IsRoom (length stores.items) towers.old }
     requires rest { IsRoom (length stores.items) rest.old }
     ensures opened { OnOk result (OpensEach mount.now stores.items towers.new.items) }
+    ensures none_left { OnOk result (rest.new.items ≡ []) }
     ensures stopped { IfErr result (OpensSome mount.now stores.items towers.new.items rest.new.items) }
 {
     let mut stopped = None;

@@ -1,21 +1,27 @@
 //! A script over the files.
 
-ghost use Rattle.std.specs.Prelude.{◌≡◌, length, map};
+ghost use Rattle.std.specs.Prelude.{◌≡◌, IfErr, IfOk, length, map, suc};
 ghost use Rattle.std.specs.List.{AllByRecursion};
 ghost use Rattle.script_text.specs.Grammar.{IsScript};
-ghost use Rattle.run_clients.specs.Towers.{AreTowers};
-ghost use Rattle.run_clients.specs.Phases.{AreCalls};
 ghost use Rattle.file_stores.specs.Held.{IsRoom};
-ghost use Rattle.run_files.specs.Play.{IsUnwritten, ArePlayed};
+ghost use Rattle.spr_volume.specs.Passes.{IsOf};
+ghost use Rattle.spr_client.specs.Calls.{AreOfStack};
+ghost use Rattle.spr_client.specs.Lines.{AreCalls};
+ghost use Rattle.run_files.specs.Play.{IsPlayed, IsUnwritten, ArePlayed};
 ghost use Rattle.run_files.specs.Room.{HasAnswerRoom};
 
 use crate::room::Asked;
 use disk_layer::Ground;
-use run_clients::{Client, close_files, run_phases};
+use run_phases::{Worker, close_files, run_phases};
 use script_text::{Reply, Said, Script};
+use spr_client::Common;
+use spr_io::Gate;
+use spr_volume::{Pass, Volume};
 use stack_accept::Mounted;
 use stack_engine::Tower;
 use std::alloc::Global;
+use std::sync::Wait;
+use std::thread::Threads;
 
 /// The answers of a run.
 #[derive(Debug, Drop)]
@@ -27,7 +33,7 @@ pub(crate) struct Answers {
 }
 
 /// Puts the answers of the clients together. The room for them is there.
-fn gather(clients: Vec<Client>, said: &mut Vec<Vec<Said>>)
+fn gather(clients: Vec<Worker>, said: &mut Vec<Vec<Said>>)
     requires { IsRoom (length clients.items) said.old }
     ensures { map (λ v. v.items) said.new.items ≡ map (λ c. c.said.items) clients.items }
 {
@@ -36,30 +42,69 @@ fn gather(clients: Vec<Client>, said: &mut Vec<Vec<Said>>)
     }
 }
 
-/// Runs the phases of a script and then the closing syncs, which the caller after the last client makes. The room for the
-/// answers is there.
-pub(crate) fn play<G: Ground>(
+/// Runs the phases of a script over a volume and then the closing syncs, which the caller after the last client makes. The room for
+/// the answers is there.
+fn play_over<R: Threads + Wait + Sync, G: Ground + Send, T: Gate>(
+    rt: &R,
     alloc: Global,
-    mount: &Mounted,
+    common: &Common<'_, G, T>,
+    pass: Pass<G>,
     script: &Script,
-    towers: &mut [Tower<G>],
     asked: Asked,
-) -> Answers
+) -> (Pass<G>, Answers)
     requires script { IsScript script.now }
     requires calls { AllByRecursion AreCalls script.now.phases }
-    requires towers { AreTowers mount.now towers.old }
-    requires unwritten { AllByRecursion IsUnwritten towers.old }
-    requires room { HasAnswerRoom mount.now script.now asked }
-    ensures { ArePlayed mount.now script.now towers.old towers.new (map (λ v. v.items) result.said.items) result.closing.items }
+    requires towers { AreOfStack common.now.mount.now common.now.volume.now.towers }
+    requires pass { IsOf common.now.volume.now pass }
+    requires all { (pass.first ≡ 0) × (pass.end ≡ suc (length script.now.clients)) }
+    requires room { HasAnswerRoom common.now.mount.now script.now asked }
+    ensures { IsPlayed common.now.mount.now script.now pass result.0 (map (λ v. v.items) result.1.said.items) result.1.closing.items }
 {
     let Asked {
-        mut clients,
+        clients,
         mut said,
         mut closing,
     } = asked;
     let closer = script.clients.as_slice().len() as u32;
-    run_phases(alloc, mount, towers, &mut clients, script.phases.as_slice());
+    let (mut pass, clients) = run_phases(
+        rt,
+        alloc,
+        common,
+        pass,
+        clients,
+        script.phases.as_slice(),
+    );
     gather(clients, &mut said);
-    close_files(alloc, mount, towers, closer, &mut closing);
-    Answers { said, closing }
+    close_files(rt, alloc, common, &mut pass, closer, &mut closing);
+    (pass, Answers { said, closing })
+}
+
+/// Runs a script over the files: its clients phase by phase, each on a thread of its own, and then the closing syncs. The room for the
+/// answers is there. For want of memory all towers are handed back, and nothing was run.
+pub(crate) fn play<R: Threads + Wait + Sync, G: Ground + Send, T: Gate>(
+    rt: &R,
+    alloc: Global,
+    mount: &Mounted,
+    script: &Script,
+    towers: Vec<Tower<G>>,
+    asked: Asked,
+    gate: &T,
+) -> Result<(Vec<Tower<G>>, Answers), Vec<Tower<G>>>
+    requires script { IsScript script.now }
+    requires calls { AllByRecursion AreCalls script.now.phases }
+    requires towers { AreOfStack mount.now towers.items }
+    requires unwritten { AllByRecursion IsUnwritten towers.items }
+    requires room { HasAnswerRoom mount.now script.now asked }
+    ensures played { IfOk result (λ r. ArePlayed mount.now script.now towers.items r.0.items (map (λ v. v.items) r.1.said.items) r.1.closing.items) }
+    ensures back { IfErr result (λ back. back.items ≡ towers.items) }
+{
+    let callers = script.clients.as_slice().len() as u32 + 1;
+    let (volume, pass) = Volume::mount(alloc, towers, callers)?;
+    let common = Common {
+        volume: &volume,
+        mount,
+        gate,
+    };
+    let (pass, answers) = play_over(rt, alloc, &common, pass, script, asked);
+    Ok((volume.unmount(pass), answers))
 }

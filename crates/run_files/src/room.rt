@@ -9,8 +9,8 @@ ghost use Rattle.run_files.specs.Room.{HasAnswerRoom};
 
 use crate::whole_disk::WholeDisk;
 use file_stores::{Held, stores_of};
-use run_clients::{Client, clients_of};
 use run_defs::StoreKey;
+use run_phases::{Worker, workers_of};
 use script_text::{Reply, Said, Script};
 use spr_io::Store;
 use stack_accept::Mounted;
@@ -22,7 +22,7 @@ use tower_log::Trail;
 #[derive(Drop)]
 pub(crate) struct Asked {
     /// The clients, each with room for its answers.
-    pub clients: Vec<Client>,
+    pub clients: Vec<Worker>,
     /// Room for the clients' answers.
     pub said: Vec<Vec<Said>>,
     /// Room for the answers of the closing syncs.
@@ -65,7 +65,7 @@ pub(crate) fn room_for_answers(
     ensures { IfOk result (HasAnswerRoom mount.now script.now) }
 {
     Ok(Asked {
-        clients: clients_of(alloc, mount, script)?,
+        clients: workers_of(alloc, mount, script)?,
         said: Vec::with_capacity(alloc, script.clients.as_slice().len())?,
         closing: Vec::with_capacity(alloc, mount.files().len())?,
     })

@@ -1,33 +1,36 @@
 //! A run over the files of a stack: their stores are taken, opened, run over and given back, and the report is written.
 
-ghost use Rattle.std.specs.Prelude.{◌≡◌, ◌≤◌, List, length, map, drop};
+ghost use Rattle.std.specs.Prelude.{◌≡◌, ◌≤◌, [], List, length, map, drop};
 ghost use Rattle.std.specs.List.{AllByRecursion};
 ghost use Rattle.script_text.specs.Grammar.{IsScript};
 ghost use Rattle.run_defs.specs.Stack.{IsBuilt};
 ghost use Rattle.spr_io.specs.Berth.{BaySeen};
 ghost use Rattle.spr_report.specs.Tracing.{AreReported};
-ghost use Rattle.run_clients.specs.Towers.{AreTowers};
-ghost use Rattle.run_clients.specs.Phases.{AreCalls};
+ghost use Rattle.spr_client.specs.Calls.{AreOfStack};
+ghost use Rattle.spr_client.specs.Lines.{AreCalls};
 ghost use Rattle.file_stores.specs.Keys.{EachAt, AreStores, stores_of};
 ghost use Rattle.file_stores.specs.Held.{StoreSeen, IsRoom, IsFit, keys_of};
 ghost use Rattle.file_stores.specs.Written.{Written};
-ghost use Rattle.run_files.specs.Held.{IsTaken, OpensEach, OpensSome};
-ghost use Rattle.run_files.specs.Play.{IsUnwritten};
+ghost use Rattle.stack_engine.specs.Tower.{TowerSeen};
+ghost use Rattle.run_files.specs.Held.{Halts, IsTaken, OpensEach};
+ghost use Rattle.run_files.specs.Play.{ArePlayed, IsUnwritten};
 ghost use Rattle.run_files.specs.Room.{HasAnswerRoom};
 ghost use Rattle.run_files.specs.Run.{SaysRun, traced_by};
 ghost use Rattle.run_files.specs.Told.{Tells, Stopped};
 
 use crate::ended::status_of;
 use crate::held::{close_towers, open_files};
-use crate::play::play;
+use crate::play::{Answers, play};
 use crate::room::{Asked, Files, Shelves, room_for_answers, room_for_stores};
 use file_stores::{Stop, finish_lost, give_back, put_behind, stopped, take_stores};
 use pager_channel::Ops;
 use script_text::Script;
-use spr_io::{Bay, Sink};
+use spr_io::{Bay, Gate, Sink};
 use spr_report::{Run, Status, finish, report};
 use stack_accept::Mounted;
 use std::alloc::{AllocError, Global};
+use std::sync::Wait;
+use std::thread::Threads;
 
 /// What a run is given.
 #[derive(Clone, Copy)]
@@ -62,38 +65,36 @@ fn tell<K: Sink>(alloc: Global, run: &Run<'_>, status: Status, sink: &mut K) -> 
     }
 }
 
-/// Runs the script over the open files, closes them and gives their stores back, and writes the report.
-fn run_open<B: Bay, K: Sink>(
+/// Closes the files that the script was run over, gives their stores back, and writes the report.
+fn end_run<B: Bay, K: Sink>(
     alloc: Global,
     given: &Given<'_>,
     bay: &mut B,
     sink: &mut K,
     files: Files<B::Store>,
-    asked: Asked,
+    answers: Answers,
 ) -> Status
     requires built { IsBuilt given.now.mount.now }
-    requires script { IsScript given.now.script.now }
-    requires calls { AllByRecursion AreCalls given.now.script.now.phases }
-    requires answers { HasAnswerRoom given.now.mount.now given.now.script.now asked }
     requires keys { files.keys.items ≡ stores_of given.now.mount.now }
     requires stores { AreStores given.now.mount.now files.keys.items }
-    requires towers { AreTowers given.now.mount.now files.towers.items }
-    requires unwritten { AllByRecursion IsUnwritten files.towers.items }
+    requires towers { AreOfStack given.now.mount.now files.towers.items }
+    requires said { length answers.said.items ≡ length given.now.script.now.clients }
+    requires closing { length answers.closing.items ≡ length given.now.mount.now.files }
     requires closed { IsRoom (length files.keys.items) files.closed }
     requires trails { IsRoom (length files.keys.items) files.trails }
     requires lost { IsRoom (length files.keys.items) files.lost }
-    ensures ended { (before : BaySeen) (stores : List StoreSeen) → IsTaken given.now.mount.now before (B.told bay.old) files.keys.items stores
-        → OpensEach given.now.mount.now stores files.towers.items → Written (SaysRun given.now.mount.now given.now.script.now (traced_by given.now.ops.now given.now.trace) before (B.told bay.new)) (K.told sink.old) (K.told sink.new) result }
+    ensures ended { (before : BaySeen) (stores : List StoreSeen) (begun : List TowerSeen) → IsTaken given.now.mount.now before (B.told bay.old) files.keys.items stores → OpensEach given.now.mount.now stores begun
+        → ArePlayed given.now.mount.now given.now.script.now begun files.towers.items (map (λ v. v.items) answers.said.items) answers.closing.items
+        → Written (SaysRun given.now.mount.now given.now.script.now (traced_by given.now.ops.now given.now.trace) before (B.told bay.new)) (K.told sink.old) (K.told sink.new) result }
 {
     let Files {
         keys,
-        mut towers,
+        towers,
         mut closed,
         mut trails,
         mut lost,
         ..
     } = files;
-    let answers = play(alloc, given.mount, given.script, &mut towers, asked);
     close_towers(&keys, towers, &mut closed, &mut trails);
     give_back(given.mount, bay, closed, &mut lost);
     let run = Run {
@@ -109,7 +110,7 @@ fn run_open<B: Bay, K: Sink>(
     tell(alloc, &run, status, sink)
 }
 
-/// Closes the files that were opened, gives all stores back, and writes why not all files were opened.
+/// Closes the files that were opened, gives all stores back, and writes why the script was not run.
 fn return_all<B: Bay, K: Sink>(
     mount: &Mounted,
     bay: &mut B,
@@ -124,7 +125,7 @@ fn return_all<B: Bay, K: Sink>(
     requires trails { IsRoom (length files.keys.items) files.trails }
     requires lost { IsRoom (length files.keys.items) files.lost }
     ensures ended { (before : BaySeen) (stores : List StoreSeen) → IsTaken mount.now before (B.told bay.old) files.keys.items stores
-        → OpensSome mount.now stores files.towers.items files.rest.items stop → Written (Stopped mount.now before (B.told bay.new) files.keys.items) (K.told sink.old) (K.told sink.new) result }
+        → Halts mount.now stores files.towers.items files.rest.items stop → Written (Stopped mount.now before (B.told bay.new) files.keys.items) (K.told sink.old) (K.told sink.new) result }
 {
     let Files {
         keys,
@@ -140,14 +141,77 @@ fn return_all<B: Bay, K: Sink>(
     stopped(sink, mount, stop, &lost)
 }
 
+/// Runs the script over the open files, closes them and gives their stores back, and writes the report. If memory runs out before
+/// that, the script is not run.
+fn run_open<R: Threads + Wait + Sync, B: Bay, K: Sink, T: Gate>(
+    rt: &R,
+    alloc: Global,
+    given: &Given<'_>,
+    bay: &mut B,
+    sink: &mut K,
+    files: Files<B::Store>,
+    asked: Asked,
+    gate: &T,
+) -> Status
+    requires built { IsBuilt given.now.mount.now }
+    requires script { IsScript given.now.script.now }
+    requires calls { AllByRecursion AreCalls given.now.script.now.phases }
+    requires answers { HasAnswerRoom given.now.mount.now given.now.script.now asked }
+    requires keys { files.keys.items ≡ stores_of given.now.mount.now }
+    requires stores { AreStores given.now.mount.now files.keys.items }
+    requires towers { AreOfStack given.now.mount.now files.towers.items }
+    requires unwritten { AllByRecursion IsUnwritten files.towers.items }
+    requires rest { files.rest.items ≡ [] }
+    requires closed { IsRoom (length files.keys.items) files.closed }
+    requires trails { IsRoom (length files.keys.items) files.trails }
+    requires lost { IsRoom (length files.keys.items) files.lost }
+    ensures ended { (before : BaySeen) (stores : List StoreSeen) → IsTaken given.now.mount.now before (B.told bay.old) files.keys.items stores
+        → OpensEach given.now.mount.now stores files.towers.items → Written (SaysRun given.now.mount.now given.now.script.now (traced_by given.now.ops.now given.now.trace) before (B.told bay.new)) (K.told sink.old) (K.told sink.new) result }
+{
+    let Files {
+        keys,
+        towers,
+        rest,
+        closed,
+        trails,
+        lost,
+    } = files;
+    match play(rt, alloc, given.mount, given.script, towers, asked, gate) {
+        Ok((towers, answers)) => {
+            let files = Files {
+                keys,
+                towers,
+                rest,
+                closed,
+                trails,
+                lost,
+            };
+            end_run(alloc, given, bay, sink, files, answers)
+        }
+        Err(towers) => {
+            let files = Files {
+                keys,
+                towers,
+                rest,
+                closed,
+                trails,
+                lost,
+            };
+            return_all(given.mount, bay, sink, files, Stop::Memory)
+        }
+    }
+}
+
 /// Opens the files over the stores that were taken, runs the script over them, gives the stores back, and writes how that ended.
-fn run_taken<B: Bay, K: Sink>(
+fn run_taken<R: Threads + Wait + Sync, B: Bay, K: Sink, T: Gate>(
+    rt: &R,
     alloc: Global,
     given: &Given<'_>,
     bay: &mut B,
     sink: &mut K,
     shelves: Shelves<B::Store>,
     asked: Asked,
+    gate: &T,
 ) -> Status
     requires built { IsBuilt given.now.mount.now }
     requires script { IsScript given.now.script.now }
@@ -173,19 +237,21 @@ fn run_taken<B: Bay, K: Sink>(
         &mut files.towers,
         &mut files.rest,
     ) {
-        Ok(()) => run_open(alloc, given, bay, sink, files, asked),
+        Ok(()) => run_open(rt, alloc, given, bay, sink, files, asked, gate),
         Err(stop) => return_all(given.mount, bay, sink, files, stop),
     }
 }
 
 /// Takes the stores of the files, opens them and runs the script over them, gives the stores back, and writes how that ended.
-fn run_all<B: Bay, K: Sink>(
+fn run_all<R: Threads + Wait + Sync, B: Bay, K: Sink, T: Gate>(
+    rt: &R,
     alloc: Global,
     given: &Given<'_>,
     bay: &mut B,
     sink: &mut K,
     shelves: Shelves<B::Store>,
     asked: Asked,
+    gate: &T,
 ) -> Status
     requires built { IsBuilt given.now.mount.now }
     requires script { IsScript given.now.script.now }
@@ -203,7 +269,7 @@ fn run_all<B: Bay, K: Sink>(
 {
     let mut shelves = shelves;
     match take_stores(given.mount, bay, &shelves.files.keys, &mut shelves.taken) {
-        Ok(()) => run_taken(alloc, given, bay, sink, shelves, asked),
+        Ok(()) => run_taken(rt, alloc, given, bay, sink, shelves, asked, gate),
         Err(stop) => {
             let Shelves { taken, files } = shelves;
             let mut lost = files.lost;
@@ -217,7 +283,8 @@ fn run_all<B: Bay, K: Sink>(
 /// stores back, and writes the report and the status. All room for that but the report's is made first.
 ///
 /// The order of the steps and the texts are this project's own.
-pub fn run_files<B: Bay, K: Sink>(
+pub fn run_files<R: Threads + Wait + Sync, B: Bay, K: Sink, T: Gate>(
+    rt: &R,
     alloc: Global,
     mount: &Mounted,
     script: &Script,
@@ -225,6 +292,7 @@ pub fn run_files<B: Bay, K: Sink>(
     trace: bool,
     bay: &mut B,
     sink: &mut K,
+    gate: &T,
 ) -> Status
     requires built { IsBuilt mount.now }
     requires script { IsScript script.now }
@@ -243,5 +311,5 @@ pub fn run_files<B: Bay, K: Sink>(
         ops,
         trace,
     };
-    run_all(alloc, &given, bay, sink, shelves, asked)
+    run_all(rt, alloc, &given, bay, sink, shelves, asked, gate)
 }

@@ -4,19 +4,20 @@ ghost use Rattle.std.specs.Prelude.{◌≤◌, IfOk, IsTrue, length};
 ghost use Rattle.std.specs.List.{AllByRecursion};
 ghost use Rattle.script_text.specs.Grammar.{IsScript};
 ghost use Rattle.run_defs.specs.Stack.{IsBuilt};
-ghost use Rattle.run_clients.specs.Lines.{IsCallOf};
-ghost use Rattle.run_clients.specs.Phases.{AreCalls};
+ghost use Rattle.spr_client.specs.Lines.{AreCalls, IsCallOf};
 
 use super::*;
 use pager_channel::Ops;
 use script_text::{Call, CallLine, Script, parse_script};
 use seen_values::Items;
-use spr_io::{MemBay, MemSink, MemStore, Store};
+use spr_io::{MemBay, MemSink, MemStore, OpenGate, Store};
 use spr_report::Status;
 use stack_accept::{GroundPlan, Mounted, accept};
 use stack_text::{StackText, parse_stack};
 use std::alloc::{AllocError, Global};
+use std::sync::Wait;
 use std::test::Fail;
+use std::thread::Threads;
 
 /// The files `f` and `g`, each of two pages of 64 bytes, on the disk `d`, and the layer `c`.
 const STACK: &str = "page 64\nfile f 2\nfile g 2\ndisk d m\ncoherency c m d\n";
@@ -294,14 +295,21 @@ fn bay_of(alloc: Global, row: &Row) -> Result<MemBay, Fail> {
 }
 
 /// Whether a run goes as a row says.
-fn runs_as(alloc: Global, mount: &Mounted, row: &Row) -> Result<bool, Fail>
+fn runs_as<R: Threads + Wait + Sync>(
+    rt: &R,
+    alloc: Global,
+    mount: &Mounted,
+    row: &Row,
+) -> Result<bool, Fail>
     requires { IsBuilt mount.now }
 {
     let script = script_of(alloc, row.script)?;
     let mut bay = bay_of(alloc, row)?;
     let mut sink = MemSink::new(alloc, 4_096, &[])?;
     let ops = Ops::new([0, 1, 2, 3, 4], [0, 1, 2, 3, 4, 5], [2, 3, 4, 5, 6, 0, 1]);
-    let status = run_files(alloc, mount, &script, &ops, row.trace, &mut bay, &mut sink);
+    let status = run_files(
+        rt, alloc, mount, &script, &ops, row.trace, &mut bay, &mut sink, &OpenGate,
+    );
     Ok(
         status == row.status
             && sink.bytes().strip_prefix(row.first) == Some(row.last)
@@ -313,7 +321,7 @@ fn runs_as(alloc: Global, mount: &Mounted, row: &Row) -> Result<bool, Fail>
 fn runs(rt: HostRuntime) -> Result<(), Fail> {
     let mount = mounted(rt.alloc())?;
     for (number, row) in ROWS.iter().enumerate() {
-        assert!(rt; runs_as(rt.alloc(), &mount, row)?, "row {number}");
+        assert!(rt; runs_as(&rt, rt.alloc(), &mount, row)?, "row {number}");
     }
     Ok(())
 }

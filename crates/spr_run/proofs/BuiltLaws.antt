@@ -5,8 +5,7 @@ use Rattle.std.specs.List.{AllByRecursion}
 use Rattle.script_text.specs.declared.script.Call.{Call}
 use Rattle.script_text.specs.declared.script.Call.TheVariants as calls
 use Rattle.script_text.specs.declared.script.CallLine.{CallLine}
-use Rattle.run_clients.specs.Lines.{IsCallOf}
-use Rattle.run_clients.specs.Phases.{AreCalls}
+use Rattle.spr_client.specs.Lines.{AreCalls, IsCallOf}
 use Rattle.run_texts.specs.Later.{is_built, has_part, later_in, later_call}
 
 path-part : (path : List (List ℕ)) → has_part path ≡ true → 0 < length path

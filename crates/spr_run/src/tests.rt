@@ -1,14 +1,16 @@
 //! Whole runs over the forms in memory, each with its text and status.
 
 use crate::spring;
+use hist_plain::Event;
 use seen_values::Text;
-use spr_io::{Bay, HostBay, MemBay, MemShelf, MemSink, MemStore, OpenGate};
+use spr_io::{Bay, Gate, HostBay, MemBay, MemShelf, MemSink, MemStore, OpenGate};
 use spr_report::Status;
 use std::alloc::Global;
 use std::fs;
 use std::sync::Wait;
+use std::sync::atomic::{AtomicBool, Ordering};
 use std::test::Fail;
-use std::thread::Threads;
+use std::thread::{Threads, yield_now};
 
 /// Interfaces with each operation that a run looks for.
 const IDL: &[u8] =
@@ -69,12 +71,12 @@ const ZEROS: &[u8] = b"client a m\nphase\na open x c/f\na read x 1 0 64\n";
 const ZEROS_REPORT: &str =
     "client a\n3 life 0\n4 00000000000000000000000000000000000000000000000000000000000000000000000000000000000000000000000000000000000000000000000000000000\nfile f\n0 a 0 c 0 open life 0\n2 a 1 c 0 read 1 0 64 00000000000000000000000000000000000000000000000000000000000000000000000000000000000000000000000000000000000000000000000000000000\n3 mount 0 c synced 3 done\nstatus 0\n";
 
-/// Two clients in two phases, whose lines alternate.
+/// Two clients that take turns, a phase each.
 const TWO_CLIENTS: &[u8] =
-    b"client a m\nclient b m\nphase\nb open y c/f\na open x c/f\na write x 1 0 61\nphase\nb read y 1 0 2\na read x 1 0 1\nb clear y 1\n";
+    b"client a m\nclient b m\nphase\nb open y c/f\nphase\na open x c/f\na write x 1 0 61\nphase\nb read y 1 0 2\nphase\na read x 1 0 1\nphase\nb clear y 1\n";
 
 const TWO_CLIENTS_REPORT: &str =
-    "client a\n5 life 0\n6 done\n9 61\nclient b\n4 life 0\n8 6100\n10 done\nfile f\n0 b 0 c 0 open life 0\n1 a 0 c 0 open life 0\n3 a 1 c 0 write 1 0 61 done\n4 b 1 c 0 read 1 0 2 6100\n5 a 2 c 0 read 1 0 1 61\n6 b 2 c 0 clear 1 done\n8 mount 0 c synced 7 done\nstatus 0\n";
+    "client a\n6 life 0\n7 done\n11 61\nclient b\n4 life 0\n9 6100\n13 done\nfile f\n0 b 0 c 0 open life 0\n1 a 0 c 0 open life 0\n3 a 1 c 0 write 1 0 61 done\n4 b 1 c 0 read 1 0 2 6100\n5 a 2 c 0 read 1 0 1 61\n6 b 2 c 0 clear 1 done\n8 mount 0 c synced 7 done\nstatus 0\n";
 
 /// Names that lead nowhere.
 const LOST_NAMES: &[u8] = b"client a m\nphase\na open x c\na open x q\na read x 0 0 1\n";
@@ -239,6 +241,20 @@ fn command_at<R: Threads + Wait + Sync, B: Bay>(
     outside: &Outside<'_>,
     bay: &mut B,
 ) -> Result<(Status, MemSink), Fail> {
+    command_past(rt, alloc, words, stack, script, outside, bay, &OpenGate)
+}
+
+/// The same with a gate, which is called between the steps of the clients.
+fn command_past<R: Threads + Wait + Sync, B: Bay, G: Gate>(
+    rt: &R,
+    alloc: Global,
+    words: &[&str],
+    stack: &[u8],
+    script: &[u8],
+    outside: &Outside<'_>,
+    bay: &mut B,
+    gate: &G,
+) -> Result<(Status, MemSink), Fail> {
     let words = words_of(alloc, words)?;
     let mut shelf = MemShelf::new(alloc, outside.shelf)?;
     shelf.put(alloc, "I", IDL)?;
@@ -252,7 +268,7 @@ fn command_at<R: Threads + Wait + Sync, B: Bay>(
         return Err(Fail::from("the width"));
     }
     let mut sink = MemSink::new(alloc, outside.width, outside.sinks)?;
-    let status = spring(rt, alloc, &words, &mut shelf, bay, &mut sink, &OpenGate);
+    let status = spring(rt, alloc, &words, &mut shelf, bay, &mut sink, gate);
     Ok((status, sink))
 }
 
@@ -781,6 +797,205 @@ fn images_on_two_disks(rt: HostRuntime) -> Result<(), Fail> {
         let (got, sink) = command_at(&rt, alloc, words, stack, b"", &SOUND, &mut bay)?;
         assert_eq!(rt; got, status, "at {text}");
         assert_eq!(rt; sink.bytes(), text.as_bytes(), "at {text}");
+    }
+    Ok(())
+}
+
+/// Two clients that write to one page in one phase.
+const WRITERS: &[u8] =
+    b"client a m\nclient b m\nphase\na open x c/f\na write x 0 0 61616161\nb open y c/f\nb write y 0 0 62626262\n";
+
+/// What each of them is answered.
+const WRITERS_ANSWERS: &[u8] = b"client a\n4 life 0\n5 done\nclient b\n6 life 0\n7 done\nfile f\n";
+
+/// The write of each in the file's history.
+const A_WROTE: &[u8] = b"a 1 c 0 write 0 0 61616161 done\n";
+
+const B_WROTE: &[u8] = b"b 1 c 0 write 0 0 62626262 done\n";
+
+/// Where a part stands first in a text.
+fn place_of(text: &[u8], part: &[u8]) -> Option<usize> {
+    for start in 0..text.len() {
+        if text[start..].starts_with(part) {
+            return Some(start);
+        }
+    }
+    None
+}
+
+/// How often a part stands in a text.
+fn times(text: &[u8], part: &[u8]) -> usize {
+    let mut count = 0;
+    for start in 0..text.len() {
+        if text[start..].starts_with(part) {
+            count += 1;
+        }
+    }
+    count
+}
+
+/// Whatever the order, the history has each write once, and the page is the later one's.
+#[test]
+fn writers_at_once(rt: HostRuntime) -> Result<(), Fail> {
+    let alloc = rt.alloc();
+    for _round in 0..20 {
+        let mut bay = bay_of(alloc, &SOUND)?;
+        let (_got, _sink) = command_at(&rt, alloc, FORMAT, STACK, b"", &SOUND, &mut bay)?;
+        let (got, sink) = command_at(&rt, alloc, RUN, STACK, WRITERS, &SOUND, &mut bay)?;
+        assert_eq!(rt; got, Status::Good);
+        let text = sink.bytes();
+        assert!(rt; text.starts_with(WRITERS_ANSWERS));
+        assert_eq!(rt; (times(text, A_WROTE), times(text, B_WROTE)), (1, 1));
+        let page = if place_of(text, A_WROTE) < place_of(text, B_WROTE) {
+            "page 0 62626262"
+        } else {
+            "page 0 61616161"
+        };
+        let (_got, sink) = command_at(&rt, alloc, DUMP, STACK, b"", &SOUND, &mut bay)?;
+        assert!(rt; sink.bytes().starts_with(page.as_bytes()));
+    }
+    Ok(())
+}
+
+/// Two clients that write to two pages in one phase.
+const MEETERS: &[u8] =
+    b"client a m\nclient b m\nphase\na open x c/f\na write x 0 0 61\nb open y c/f\nb write y 1 0 62\n";
+
+/// How often a client looks at most for what another does.
+const LOOKS: u32 = 10_000_000;
+
+/// A gate that holds the first client in its miss until the second one is in its own.
+#[derive(Drop)]
+struct MeetingGate {
+    /// The second client is in a miss.
+    second: AtomicBool,
+    /// It was not in time.
+    late: AtomicBool,
+}
+
+impl MeetingGate {
+    /// Waits until the second client is in a miss, and tells whether it was in time.
+    fn meets_in_time(&self) -> bool {
+        for _look in 0..LOOKS {
+            if self.second.load(Ordering::SeqCst) {
+                return true;
+            }
+            yield_now();
+        }
+        false
+    }
+}
+
+impl Gate for MeetingGate {
+    fn between(&self, caller: u32, _file: u32, _event: &Event) {
+        if caller == 1 {
+            self.second.store(true, Ordering::SeqCst);
+        }
+        if caller == 0 && !self.meets_in_time() {
+            self.late.store(true, Ordering::SeqCst);
+        }
+    }
+}
+
+/// The clients of a phase run at once: the first one is held in its miss until the second one is in its own.
+#[test]
+fn clients_run_at_once(rt: HostRuntime) -> Result<(), Fail> {
+    let alloc = rt.alloc();
+    let mut bay = bay_of(alloc, &SOUND)?;
+    let (_got, _sink) = command_at(&rt, alloc, FORMAT, STACK, b"", &SOUND, &mut bay)?;
+    let gate = MeetingGate {
+        second: AtomicBool::new(false),
+        late: AtomicBool::new(false),
+    };
+    let (got, _sink) = command_past(&rt, alloc, RUN, STACK, MEETERS, &SOUND, &mut bay, &gate)?;
+    let late = gate.late.load(Ordering::SeqCst);
+    assert_eq!(rt; (got, late), (Status::Good, false));
+    Ok(())
+}
+
+/// One client's store refuses its sync, beside another client whose calls are good.
+const BESIDE: &[u8] =
+    b"client a m\nclient b m\nphase\na open x c/f\na write x 0 0 61\na sync x\nb open y c/g\nb write y 1 0 62\nb sync y\n";
+
+const BESIDE_REPORT: &str =
+    "client a\n4 life 0\n5 done\n6 done\nclient b\n7 life 0\n8 done\n9 store d 1\nfile f\n0 a 0 c 0 open life 0\n2 a 1 c 0 write 0 0 61 done\n4 a 2 c synced 3 done\n5 mount 0 c synced 5 done\nfile g\n0 b 0 c 0 open life 0\n2 b 1 c 0 write 1 0 62 done\n4 mount 0 c synced 3 done\nstatus 1\n";
+
+#[test]
+fn refused_beside_good(rt: HostRuntime) -> Result<(), Fail> {
+    let mut outside = SOUND;
+    outside.file = "g";
+    outside.writes = &[3];
+    let (got, sink) = run(&rt, rt.alloc(), RUN, FILES, BESIDE, &outside)?;
+    assert_eq!(rt; got, Status::Faulted);
+    assert_eq!(rt; sink.bytes(), BESIDE_REPORT.as_bytes());
+    Ok(())
+}
+
+/// The names of sixteen clients.
+const NAMES: [&str; 16] = [
+    "a", "b", "c", "d", "e", "f", "g", "h", "i", "j", "k", "l", "n", "o", "p", "q",
+];
+
+/// How many writes each of them makes.
+const WRITES: usize = 100;
+
+/// Adds these words to a text.
+fn add(text: &mut Vec<u8>, words: &[&str]) -> Result<(), Fail> {
+    for word in words {
+        text.extend_from_slice(word.as_bytes())?;
+    }
+    Ok(())
+}
+
+/// A stack of two layers beside each other on a third, with a file for each client, or one for all.
+fn stack_of_many(alloc: Global, own: bool) -> Result<Vec<u8>, Fail> {
+    let mut text = Vec::new(alloc);
+    add(&mut text, &["page 64\n"])?;
+    for name in NAMES {
+        if own || name == "a" {
+            add(&mut text, &["file ", name, " 1\n"])?;
+        }
+    }
+    add(
+        &mut text,
+        &["disk dd m\ncoherency cc m dd\ncoherency kk m cc\ncoherency ll m cc\n"],
+    )?;
+    Ok(text)
+}
+
+/// A phase in which each of the clients opens a file and writes to it often, every second one at the other layer.
+fn script_of_many(alloc: Global, own: bool) -> Result<Vec<u8>, Fail> {
+    let mut text = Vec::new(alloc);
+    for name in NAMES {
+        add(&mut text, &["client ", name, " m\n"])?;
+    }
+    add(&mut text, &["phase\n"])?;
+    let mut view = "kk";
+    for name in NAMES {
+        let file = if own { name } else { "a" };
+        add(&mut text, &[name, " open x ", view, "/", file, "\n"])?;
+        for _write in 0..WRITES {
+            add(&mut text, &[name, " write x 0 0 61\n"])?;
+        }
+        view = if view == "kk" { "ll" } else { "kk" };
+    }
+    Ok(text)
+}
+
+/// Sixteen clients over a file each, and over one file, twice: each write stands once in a history.
+#[test]
+fn many_clients(rt: HostRuntime) -> Result<(), Fail> {
+    let alloc = rt.alloc();
+    let mut outside = SOUND;
+    outside.width = 4_096;
+    for own in [true, false, true, false] {
+        let stack = stack_of_many(alloc, own)?;
+        let script = script_of_many(alloc, own)?;
+        let mut bay = MemBay::new(alloc, &[], &[])?;
+        let (_got, _sink) = command_at(&rt, alloc, FORMAT, &stack, b"", &outside, &mut bay)?;
+        let (got, sink) = command_at(&rt, alloc, RUN, &stack, &script, &outside, &mut bay)?;
+        assert_eq!(rt; got, Status::Good);
+        assert_eq!(rt; times(sink.bytes(), b" write 0 0 61 done\n"), 16 * WRITES);
     }
     Ok(())
 }

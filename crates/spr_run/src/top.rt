@@ -23,7 +23,8 @@ const USAGE: &[u8] = b"usage: spring run, gen, check, format, dump or idl\n";
 
 /// Runs the script of a name over the files of the stack of a name, where the interfaces of a name fit together and have
 /// each operation, and writes how that ended; with the page messages, if they are asked for.
-fn run_named<H: Shelf, B: Bay, K: Sink>(
+fn run_named<R: Threads + Wait + Sync, H: Shelf, B: Bay, K: Sink, G: Gate>(
+    rt: &R,
     alloc: Global,
     idl: &Text,
     stack: &Text,
@@ -32,11 +33,14 @@ fn run_named<H: Shelf, B: Bay, K: Sink>(
     shelf: &mut H,
     bay: &mut B,
     sink: &mut K,
+    gate: &G,
 ) -> Status
     ensures ends { Written (SaysRan (record { idl = idl.now; stack = stack.now; script = name.now }) trace (outside (H.told shelf.old) (H.told shelf.new) (B.told bay.old) (B.told bay.new))) (K.told sink.old) (K.told sink.new) result }
 {
     match read_run(alloc, shelf, idl, stack, name) {
-        Ok((mount, script, ops)) => run_files(alloc, &mount, &script, &ops, trace, bay, sink),
+        Ok((mount, script, ops)) => run_files(
+            rt, alloc, &mount, &script, &ops, trace, bay, sink, gate,
+        ),
         Err(refusal) => {
             let names = TextNames {
                 idl: idl.as_str(),
@@ -53,16 +57,16 @@ fn run_named<H: Shelf, B: Bay, K: Sink>(
 /// Headline: for every accepted stack and interleaving, each access within one page, by file call, mapping or any stacked
 /// view, unless a store failed in it or memory lacked, answers what one plain file answers at its place in the file's one
 /// history, which begins with all its caller had seen and holds its calls once each; after a successful sync every live store
-/// holds that history's bytes. So far a run builds stacks of coherency layers over one disk, its clients take turns, and its
-/// calls are file calls. What is said of bytes is said where a store tells what it holds; a file of the host does not.
+/// holds that history's bytes. So far a run builds stacks of coherency layers over one disk, and its calls are file calls. What is
+/// said of bytes is said where a store tells what it holds; a file of the host does not.
 pub fn spring<R: Threads + Wait + Sync, H: Shelf, B: Bay, K: Sink, G: Gate>(
-    _rt: &R,
+    rt: &R,
     alloc: Global,
     words: &[Text],
     shelf: &mut H,
     bay: &mut B,
     sink: &mut K,
-    _gate: &G,
+    gate: &G,
 ) -> Status
     ensures ends { Ends words.now (outside (H.told shelf.old) (H.told shelf.new) (B.told bay.old) (B.told bay.new)) (K.told sink.old) (K.told sink.new) result }
 {
@@ -74,7 +78,9 @@ pub fn spring<R: Threads + Wait + Sync, H: Shelf, B: Bay, K: Sink, G: Gate>(
                 stack,
                 script,
             },
-        ) => run_named(alloc, &idl, &stack, &script, trace, shelf, bay, sink),
+        ) => run_named(
+            rt, alloc, &idl, &stack, &script, trace, shelf, bay, sink, gate,
+        ),
         Ok(Asked::Idl { idl }) => put_tables(alloc, shelf, &idl, sink),
         Ok(Asked::Check { stack }) => check_stack(alloc, shelf, &stack, sink),
         Ok(Asked::Format { stack }) => format_stack(alloc, &stack, shelf, bay, sink),

@@ -7,7 +7,7 @@ use Rattle.run_defs.specs.declared.store.StoreKey.{StoreKey}
 use Rattle.tower_log.specs.declared.logged.Logged.{Logged}
 use Rattle.tower_log.specs.Trail.{TrailSeen}
 use Rattle.stack_engine.specs.Tower.{TowerSeen}
-use Rattle.run_clients.specs.Towers.{logs}
+use Rattle.spr_volume.specs.Passes.{logs}
 use Rattle.file_stores.specs.Held.{StoreSeen}
 use Rattle.run_files.specs.Held.{AreShut}
 use Rattle.run_files.proofs.HeldLaws.{shut-more, shut-length, logs-more, length-logs, length-trails}

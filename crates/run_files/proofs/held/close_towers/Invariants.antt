@@ -1,5 +1,5 @@
 use Rattle.std.proofs.Common.{◌≡◌, map, vec_capacity}
-use Rattle.run_clients.specs.Towers.{logs}
+use Rattle.spr_volume.specs.Passes.{logs}
 use Rattle.run_files.specs.Held.{AreShut}
 use Rattle.run_files.proofs.held.close_towers.Given as goal
 

@@ -9,7 +9,7 @@ use Rattle.file_stores.specs.Held.{StoreSeen, keys_of, AreGiven}
 use Rattle.file_stores.specs.Stop.{stop_text, stop_status}
 use Rattle.run_files.specs.Held.{AreShut}
 use Rattle.run_files.proofs.HeldLaws.{shut-length, all-keys, number-keys}
-use Rattle.run_files.proofs.StopLaws.{stops-opening, stopped-writes}
+use Rattle.run_files.proofs.StopLaws.{stops-halted, stopped-writes}
 use Rattle.run_files.proofs.run.return_all.Goals as goal
 
 pub put_behind-requires-after_bounds : goal.put_behind-requires-after_bounds
@@ -65,5 +65,5 @@ returns g c =
     subst (λ (l : List StoreKey). Finishes old new (stop_text mount stop l) (stop_status stop) c.stopped.result) c.deref-2.ensures.value c.stopped.ensures in
     record {
       ended = λ before stores taken some.
-          stopped-writes mount before after keys lost stop old new c.stopped.result (stops-opening mount before mid after keys lost stores towers rest closed stop taken some shut given) ends;
+          stopped-writes mount before after keys lost stop old new c.stopped.result (stops-halted mount before mid after keys lost stores towers rest closed stop taken some shut given) ends;
     }

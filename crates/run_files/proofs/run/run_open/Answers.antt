@@ -1,120 +1,46 @@
-use Rattle.std.proofs.Common.{◌≡◌, List, map, length, Option, sym, ap, subst, ◌∙◌, arith}
-use Rattle.std.proofs.lemmas.List.{with_items_is}
-use Rattle.script_text.specs.declared.script.Reply.{Reply}
-use Rattle.script_text.specs.declared.script.Said.{Said}
+use Rattle.std.proofs.Common.{◌≡◌, [], inr, refl, suc, length, List, drop, sym, ap, subst, ◌∙◌, arith}
+use Rattle.std.proofs.lemmas.List.{drop_all}
 use Rattle.run_defs.specs.declared.store.StoreKey.{StoreKey}
-use Rattle.pager_channel.specs.declared.numbers.Ops.{Ops}
-use Rattle.tower_log.specs.declared.logged.Logged.{Logged}
-use Rattle.tower_log.specs.Trail.{TrailSeen}
-use Rattle.spr_report.specs.declared.status.Status.{Status}
-use Rattle.spr_report.specs.Tracing.{AreReported}
 use Rattle.stack_engine.specs.Tower.{TowerSeen}
-use Rattle.run_clients.specs.Towers.{logs, AreLater}
-use Rattle.run_clients.proofs.TowerLaws.{length-towers, towers-stay}
-use Rattle.file_stores.specs.Keys.{AreStores}
-use Rattle.file_stores.specs.Held.{StoreSeen}
-use Rattle.file_stores.proofs.KeyLaws.{stores-take}
-use Rattle.run_files.specs.Ended.{status_of}
-use Rattle.run_files.specs.Held.{AreShut}
-use Rattle.run_files.specs.Play.{ArePlayed}
+use Rattle.file_stores.specs.Held.{keys_of}
+use Rattle.run_files.specs.Held.{OpensEach}
 use Rattle.run_files.specs.Run.{traced_by}
-use Rattle.run_files.specs.Told.{Tells}
-use Rattle.run_files.proofs.HeldLaws.{shut-length, shut-keys}
-use Rattle.run_files.proofs.RunLaws.{number-stores, logs-over, run-over}
+use Rattle.run_files.proofs.RunLaws.{number-stores}
+use Rattle.run_files.proofs.StopLaws.{run-stopped}
+use Rattle.run_files.proofs.TowerLaws.{length-towers, towers-stay}
 use Rattle.run_files.proofs.run.run_open.Goals as goal
 
-pub close_towers-requires-clause-keys : goal.close_towers-requires-clause-keys
-close_towers-requires-clause-keys g c κs within =
+pub end_run-requires-clause-towers : goal.end_run-requires-clause-towers
+end_run-requires-clause-towers g c κs within =
+    towers-stay c.args.given.now.mount.now (suc (length c.args.given.now.script.now.clients)) c.args.files.towers.items c.in-Ok.towers.items c.in-Ok.ensures.played.later c.requires.towers
+
+pub return_all-requires-clause-towers : goal.return_all-requires-clause-towers
+return_all-requires-clause-towers g c κs within =
     let mount = c.args.given.now.mount.now in
-    let before : List TowerSeen = c.args.files.towers.items in
-    let after : List TowerSeen = c.play-answers.new.towers in
-    let items = ap length (with_items_is c.args.files.towers after (c.play-answers.auto.towers ∙ c.deref_mut.ensures.len)) in
-    let later : AreLater before after = subst (λ (ts : List TowerSeen). AreLater ts after) c.deref_mut.ensures.value c.play-answers.ensures.later in
-    let many = length-towers mount after (towers-stay mount before after later c.requires.towers) in
+    let same = ap length c.in-Err.ensures.back in
+    let many = length-towers mount c.args.files.towers.items c.requires.towers in
     let files = ap length c.requires.keys ∙ number-stores mount c.requires.built.disk in
-    let same = ap length c.deref.ensures.value in
-    omega (arith, items, many, files, same)
+    omega (arith, same, many, files)
 
-pub give_back-requires-clause-keys : goal.give_back-requires-clause-keys
-give_back-requires-clause-keys g c κs within =
+pub return_all-requires-clause-rest : goal.return_all-requires-clause-rest
+return_all-requires-clause-rest g c κs within =
     let mount = c.args.given.now.mount.now in
     let keys : List StoreKey = c.args.files.keys.items in
-    let after : List TowerSeen = c.play-answers.new.towers in
-    let closed : List StoreSeen = c.close_towers.new.stores.items in
-    let items = with_items_is c.args.files.towers after (c.play-answers.auto.towers ∙ c.deref_mut.ensures.len) in
-    let shut : AreShut keys after closed = subst (λ (ks : List StoreKey). AreShut ks after closed) c.deref.ensures.value (subst (λ (ts : List TowerSeen). AreShut c.deref.result.now ts closed) items c.close_towers.ensures.shut) in
-    subst (AreStores mount) (sym (shut-keys keys after closed shut)) (stores-take mount (length after) keys c.requires.stores)
-
-pub give_back-requires-clause-room : goal.give_back-requires-clause-room
-give_back-requires-clause-room g c κs within =
-    let mount = c.args.given.now.mount.now in
-    let keys : List StoreKey = c.args.files.keys.items in
-    let before : List TowerSeen = c.args.files.towers.items in
-    let after : List TowerSeen = c.play-answers.new.towers in
-    let closed : List StoreSeen = c.close_towers.new.stores.items in
-    let items = with_items_is c.args.files.towers after (c.play-answers.auto.towers ∙ c.deref_mut.ensures.len) in
-    let shut : AreShut keys after closed = subst (λ (ks : List StoreKey). AreShut ks after closed) c.deref.ensures.value (subst (λ (ts : List TowerSeen). AreShut c.deref.result.now ts closed) items c.close_towers.ensures.shut) in
-    let later : AreLater before after = subst (λ (ts : List TowerSeen). AreLater ts after) c.deref_mut.ensures.value c.play-answers.ensures.later in
-    let many = length-towers mount after (towers-stay mount before after later c.requires.towers) in
+    let same = ap length c.in-Err.ensures.back in
+    let many = length-towers mount c.args.files.towers.items c.requires.towers in
     let files = ap length c.requires.keys ∙ number-stores mount c.requires.built.disk in
-    let stores = shut-length keys after closed shut in
-    let room = c.requires.lost.1 in
-    (c.requires.lost.0, omega (arith, many, files, stores, room))
+    ap keys_of c.requires.rest ∙ sym (drop_all (length c.in-Err.towers.items) keys (omega (arith, same, many, files)))
 
-pub tell-requires-clause-logs : goal.tell-requires-clause-logs
-tell-requires-clause-logs g c =
-    let mount = c.args.given.now.mount.now in
-    let keys : List StoreKey = c.args.files.keys.items in
-    let before : List TowerSeen = c.args.files.towers.items in
-    let after : List TowerSeen = c.play-answers.new.towers in
-    let closed : List StoreSeen = c.close_towers.new.stores.items in
-    let items = with_items_is c.args.files.towers after (c.play-answers.auto.towers ∙ c.deref_mut.ensures.len) in
-    let shut : AreShut keys after closed = subst (λ (ks : List StoreKey). AreShut ks after closed) c.deref.ensures.value (subst (λ (ts : List TowerSeen). AreShut c.deref.result.now ts closed) items c.close_towers.ensures.shut) in
-    let later : AreLater before after = subst (λ (ts : List TowerSeen). AreLater ts after) c.deref_mut.ensures.value c.play-answers.ensures.later in
-    let told : map (λ t. t.log) c.deref-2.result.now ≡ logs after = ap (λ (ts : List TrailSeen). map (λ t. t.log) ts) c.deref-2.ensures.value ∙ (c.close_towers.ensures.logs ∙ ap logs items) in
-    subst (λ (ls : List (List Logged)). AreReported mount mount.files ls) (sym told) (logs-over mount after keys closed (towers-stay mount before after later c.requires.towers) shut)
+pub returns-in-Ok : goal.returns-in-Ok
+returns-in-Ok g c = record { ended = λ before stores taken opens. c.end_run.ensures.ended before stores c.args.files.towers.items taken opens c.in-Ok.ensures.played }
 
-pub returns : goal.returns
-returns g c =
+pub returns-in-Err : goal.returns-in-Err
+returns-in-Err g c =
     let mount = c.args.given.now.mount.now in
-    let script = c.args.given.now.script.now in
-    let keys : List StoreKey = c.args.files.keys.items in
-    let before : List TowerSeen = c.args.files.towers.items in
-    let after : List TowerSeen = c.play-answers.new.towers in
-    let closed : List StoreSeen = c.close_towers.new.stores.items in
-    let lost : List StoreKey = c.give_back.new.lost.items in
-    let said : List (List Said) = map (λ v. v.items) c.play-answers.result.said.items in
-    let closing : List Reply = c.play-answers.result.closing.items in
-    let mid = g.B.Bay.told c.args.bay.now in
-    let end = g.B.Bay.told c.give_back.new.bay in
-    let old = g.K.Sink.told c.args.sink.now in
-    let new = g.K.Sink.told c.tell.new.sink in
-    let traced : Option Ops = traced_by c.args.given.now.ops.now c.args.given.now.trace in
-    let ls : List (List Logged) = map (λ t. t.log) c.deref-2.result.now in
-    let status : Status = c.status_of-status.result in
-    let items = with_items_is c.args.files.towers after (c.play-answers.auto.towers ∙ c.deref_mut.ensures.len) in
-    let shut : AreShut keys after closed = subst (λ (ks : List StoreKey). AreShut ks after closed) c.deref.ensures.value (subst (λ (ts : List TowerSeen). AreShut c.deref.result.now ts closed) items c.close_towers.ensures.shut) in
-    let played : ArePlayed mount script before after said closing = subst (λ (ts : List TowerSeen). ArePlayed mount script ts after said closing) c.deref_mut.ensures.value c.play-answers.ensures in
-    let told : map (λ t. t.log) c.deref-2.result.now ≡ logs after = ap (λ (ts : List TrailSeen). map (λ t. t.log) ts) c.deref-2.ensures.value ∙ (c.close_towers.ensures.logs ∙ ap logs items) in
-    let said_is = ap (λ vs. map (λ v. v.items) vs) c.deref-3.ensures.value in
-    let how : status ≡ status_of said closing lost =
-    c.status_of-status.ensures
-    ∙ (ap (λ ss. status_of (map (λ v. v.items) ss) c.deref-7.result.now c.deref-8.result.now) c.deref-6.ensures.value
-    ∙ (ap (λ (cs : List Reply). status_of said cs c.deref-8.result.now) c.deref-7.ensures.value ∙ ap (λ (gone : List StoreKey). status_of said closing gone) c.deref-8.ensures.value)) in
-    let tells : Tells mount script traced ls said closing lost status old new c.tell.result =
-    subst (λ (gone : List StoreKey). Tells mount script traced ls said closing gone status old new c.tell.result) c.deref-5.ensures.value
-    (subst (λ (cs : List Reply). Tells mount script traced ls said cs c.deref-5.result.now status old new c.tell.result) c.deref-4.ensures.value
-    (subst (λ (ss : List (List Said)). Tells mount script traced ls ss c.deref-4.result.now c.deref-5.result.now status old new c.tell.result) said_is
-    (subst (λ (o : Option Ops). Tells mount script o ls (map (λ v. v.items) c.deref-3.result.now) c.deref-4.result.now c.deref-5.result.now status old new c.tell.result) c.traced_by.ensures c.tell.ensures))) in
+    let after = g.B.Bay.told c.return_all.new.bay in
     record {
-      ended = λ bay stores taken opens.
-          run-over mount script traced bay mid end before after stores closed keys lost said closing ls old new status c.tell.result taken
-          (record {
-            one = c.requires.built.disk;
-            keys = taken.which ∙ c.requires.keys;
-            opened = opens;
-            later = played.later;
-            shut = subst (λ (ks : List StoreKey). AreShut ks after closed) (sym taken.which) shut;
-          })
-          played c.give_back.ensures told how tells;
+      ended = λ before stores taken opens.
+          run-stopped mount c.args.given.now.script.now (traced_by c.args.given.now.ops.now c.args.given.now.trace) before after c.args.files.keys.items (g.K.Sink.told c.args.sink.now) (g.K.Sink.told c.return_all.new.sink) c.return_all.result c.requires.keys
+          (c.return_all.ensures.ended before stores taken
+          (inr (subst (λ (ts : List TowerSeen). OpensEach mount stores ts) (sym c.in-Err.ensures.back) opens, c.requires.rest, refl)));
     }

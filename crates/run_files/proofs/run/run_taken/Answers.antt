@@ -1,4 +1,4 @@
-use Rattle.std.proofs.Common.{◌∙◌}
+use Rattle.std.proofs.Common.{inl, ◌∙◌}
 use Rattle.run_files.specs.Run.{traced_by}
 use Rattle.run_files.proofs.HeldLaws.{left-keys, few-opened}
 use Rattle.run_files.proofs.StopLaws.{run-stopped}
@@ -30,5 +30,5 @@ returns-in-Err g c =
     record {
       ended = λ before taken.
           run-stopped mount c.args.given.now.script.now (traced_by c.args.given.now.ops.now c.args.given.now.trace) before after c.args.shelves.files.keys.items (g.K.Sink.told c.args.sink.now) (g.K.Sink.told c.return_all.new.sink) c.return_all.result c.requires.keys
-          (c.return_all.ensures.ended before c.args.shelves.taken.items taken c.in-Err.ensures.stopped);
+          (c.return_all.ensures.ended before c.args.shelves.taken.items taken (inl c.in-Err.ensures.stopped));
     }

@@ -1,5 +1,5 @@
 use Rattle.script_text.specs.declared.script.CallLine.{CallLine}
-use Rattle.run_clients.specs.Lines.{IsCallOf}
+use Rattle.spr_client.specs.Lines.{IsCallOf}
 use Rattle.run_files.proofs.TestLaws.{all-next}
 use Rattle.run_files.proofs.tests.are_calls.Goals as goal
 

@@ -1,5 +1,5 @@
 use Rattle.std.proofs.Common.{take}
-use Rattle.run_clients.specs.Phases.{AreCalls}
+use Rattle.spr_client.specs.Lines.{AreCalls}
 use Rattle.run_files.proofs.tests.are_calls.Given as goal
 
 abbrev pub invariant-loop-line : goal.invariant-loop-line

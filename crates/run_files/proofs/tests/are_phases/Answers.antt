@@ -1,6 +1,6 @@
 use Rattle.std.proofs.Common.{List, subst}
 use Rattle.script_text.specs.declared.script.CallLine.{CallLine}
-use Rattle.run_clients.specs.Phases.{AreCalls}
+use Rattle.spr_client.specs.Lines.{AreCalls}
 use Rattle.run_files.proofs.TestLaws.{all-next}
 use Rattle.run_files.proofs.tests.are_phases.Goals as goal
 

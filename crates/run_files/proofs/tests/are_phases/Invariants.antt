@@ -1,6 +1,6 @@
 use Rattle.std.proofs.Common.{take}
 use Rattle.std.specs.List.{AllByRecursion}
-use Rattle.run_clients.specs.Phases.{AreCalls}
+use Rattle.spr_client.specs.Lines.{AreCalls}
 use Rattle.run_files.proofs.tests.are_phases.Given as goal
 
 abbrev pub invariant-loop-phase : goal.invariant-loop-phase
