@@ -1,0 +1,6 @@
+pub mod Whys
+pub mod Forms
+pub mod Fields
+pub mod Calls
+pub mod Received
+pub mod Laws

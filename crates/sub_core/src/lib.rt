@@ -1,0 +1,26 @@
+//! Objects, and what a subcontract does with them: how an object is sent, received, copied and given up, and where its
+//! calls go. That a subcontract decides this is the Spring papers' rule. How the bytes of an object lie, and that an
+//! identifier of two bytes stands before them, is this project's own.
+#![tactic(auto)]
+
+mod any;
+mod given;
+mod laws;
+mod received;
+mod roles;
+mod sent;
+mod shape;
+#[cfg(test)]
+mod tests;
+mod values;
+mod why;
+
+pub use any::unmarshal_any;
+pub use given::{consume_held, copy_held};
+pub use laws::{sent_keeps_route, written_is_read};
+pub use received::unmarshal_as;
+pub use roles::{Registry, Subcontract};
+pub use sent::marshal_as;
+pub use shape::Form;
+pub use values::{Fields, Object, Route};
+pub use why::{AnyErr, ObjectErr};
