@@ -1,0 +1,20 @@
+use Rattle.std.proofs.Common.{Some, None, refl}
+use Rattle.name_context.specs.declared.entry.NameCall.TheVariants as calls
+use Rattle.name_context.specs.Calls.{refused_by}
+use Rattle.name_context.proofs.StoryLaws.{history-entered, call-kept, call-called, answered-by}
+use Rattle.name_context.proofs.stack_names.Names.unbind.Goals as goal
+
+pub invariant_of-self-2 : goal.invariant_of-self-2
+invariant_of-self-2 c =
+    let more = history-entered c.args.caller calls.Unbind calls.Unbind (Some c.args.path.now) c.in_ok-asked.asked.path None c.in_ok-asked.asked.refused c.self.inside.story.entries c.ask.new.story.entries c.enter.new.self.entries
+    c.enter.ensures c.in_ok-asked.ensures.same refl c.in_ok-asked.ensures.path in
+    call-kept c.self.inside.began.value c.self.inside.tree c.remove_unless.new.tree c.self.inside.story.entries c.enter.new.self.entries c.args.caller calls.Unbind (Some c.args.path.now) None c.in_ok-asked.asked.refused
+    c.self.invariant more c.in_ok-asked.ensures.refused c.requires refl c.remove_unless.ensures
+
+pub returns : goal.returns
+returns c =
+    let more = history-entered c.args.caller calls.Unbind calls.Unbind (Some c.args.path.now) c.in_ok-asked.asked.path None c.in_ok-asked.asked.refused c.self.inside.story.entries c.ask.new.story.entries c.enter.new.self.entries
+    c.enter.ensures c.in_ok-asked.ensures.same refl c.in_ok-asked.ensures.path in
+    answered-by c.args.caller calls.Unbind (Some c.args.path.now) None c.args.self.now _ c.in_ok-asked.asked.refused (refused_by c.done_unless.result) c.done_unless.ensures
+    (call-called c.self.inside.began.value c.self.inside.tree c.self.inside.story.entries c.enter.new.self.entries c.args.self.now c.args.caller calls.Unbind (Some c.args.path.now) None None c.in_ok-asked.asked.refused
+    c.self.invariant c.self.view_is more c.in_ok-asked.ensures.refused refl)

@@ -1,0 +1,11 @@
+pub mod Names
+pub mod Refusal
+pub mod History
+pub mod Listed
+pub mod Start
+pub mod Calls
+pub mod Keys
+pub mod TreeView
+pub mod HistorySeen
+pub mod HistoryView
+pub mod NamesView
