@@ -15,10 +15,12 @@ use Rattle.tower_log.specs.declared.logged.Logged.{Logged}
 use Rattle.tower_log.specs.declared.logged.Logged.TheVariants.{Entered, Noted}
 use Rattle.tower_log.specs.Log.{trail_of, place_of}
 use Rattle.stack_accept.specs.Mount.{Mount}
-use Rattle.run_defs.specs.declared.client.ClientState.{ClientState}
-use Rattle.run_defs.specs.Log.{items_from, items, Item, entered, noted, who, by_caller, log_at, IsFull}
-use Rattle.run_defs.specs.Plan.{Plan, ends, calls, unknown, Request, Ask, Made, Makes, Asks, Goes, Refuses, plan}
-use Rattle.run_defs.specs.Fits.{made_on, SyncsFrom, SyncsInOrder, GoesOn, Did, Went, Worked, Phased, Does, Line, Acts, InOrder, last_cut, lines_of, IsAnswered}
+use Rattle.name_context.specs.declared.entry.NameEntry.{NameEntry}
+use Rattle.name_context.specs.History.{NamesSeen}
+use Rattle.run_defs.specs.Log.{Histories, items_from, items, Item, NameItem, entered, noted, who, by_caller, name_items, names_by, log_at, IsFull}
+use Rattle.client_objects.specs.declared.state.ClientState.{ClientState}
+use Rattle.run_defs.specs.Plan.{Plan, ends, calls, asks_names, unknown, Request, Ask, NamesAsk, NamesTold, Made, at_file, with_names, Makes, Asks, AsksNames, told_names, Goes, Refuses, plan}
+use Rattle.run_defs.specs.Fits.{made_on, made_with_names, SyncsFrom, SyncsInOrder, GoesOn, NamesGoOn, AllGoOn, Did, Gone, Went, Worked, Phased, Does, Line, Acts, InOrder, last_cut, lines_of, IsAnswered}
 use Rattle.run_defs.proofs.Logs.{length-trail_of-append}
 
 pub goes_on_same : (h k : List Logged) → k ≡ h → GoesOn h k
@@ -35,13 +37,45 @@ place_later a b g =
     let e : length (trail_of b) ≡ length (trail_of a) + length (trail_of g.more) = ap (λ (l : List Logged). length (trail_of l)) g.log ∙ length-trail_of-append a g.more in
     omega arith
 
-pub full_later : (old new : List (List Logged)) → ((file : ℕ) → GoesOn (log_at old file) (log_at new file)) → (file : ℕ) → IsFull old file → IsFull new file
-full_later old new g file full = let e = place_later (log_at old file) (log_at new file) (g file) in omega arith
+pub names_go_on_same : (m n : NamesSeen) → n ≡ m → NamesGoOn m n
+names_go_on_same m n e = record {
+  more = [];
+  began = ap (λ (s : NamesSeen). s.began) e;
+  history = ap (λ (s : NamesSeen). s.history) e ∙ sym (append-nil m.history);
+}
+
+pub names_go_on_then : (a b c : NamesSeen) → NamesGoOn a b → NamesGoOn b c → NamesGoOn a c
+names_go_on_then a b c f g = record {
+  more = f.more ++ g.more;
+  began = g.began ∙ f.began;
+  history = g.history ∙ (ap (λ (l : List NameEntry). l ++ g.more) f.history ∙ append_assoc a.history f.more g.more);
+}
+
+pub all_go_on_same : (old new : Histories) → new ≡ old → AllGoOn old new
+all_go_on_same old new e = record {
+  logs = λ file. goes_on_same (log_at old file) (log_at new file) (ap (λ (h : Histories). log_at h file) e);
+  names = names_go_on_same old.names new.names (ap (λ (h : Histories). h.names) e);
+}
+
+pub all_go_on_then : (a b c : Histories) → AllGoOn a b → AllGoOn b c → AllGoOn a c
+all_go_on_then a b c f g = record {
+  logs = λ file. goes_on_then (log_at a file) (log_at b file) (log_at c file) (f.logs file) (g.logs file);
+  names = names_go_on_then a.names b.names c.names f.names g.names;
+}
+
+pub full_later : (old new : Histories) → AllGoOn old new → (file : ℕ) → IsFull old file → IsFull new file
+full_later old new g file full = let e = place_later (log_at old file) (log_at new file) (g.logs file) in omega arith
 
 pub made_on-append : (file : ℕ) (xs ys : List Made) → made_on file (xs ++ ys) ≡ made_on file xs ++ made_on file ys
 made_on-append file [] ys = refl
-made_on-append file (x ∷ xs) ys = let here : List Item = cond (x.file == file) (x.item ∷ []) [] in
+made_on-append file (at_file at item ∷ xs) ys = let here : List Item = cond (at == file) (item ∷ []) [] in
     ap (λ (is : List Item). here ++ is) (made_on-append file xs ys) ∙ sym (append_assoc here (made_on file xs) (made_on file ys))
+made_on-append file (with_names item ∷ xs) ys = made_on-append file xs ys
+
+pub made_with_names-append : (xs ys : List Made) → made_with_names (xs ++ ys) ≡ made_with_names xs ++ made_with_names ys
+made_with_names-append [] ys = refl
+made_with_names-append (at_file at item ∷ xs) ys = made_with_names-append xs ys
+made_with_names-append (with_names item ∷ xs) ys = ap (λ (is : List NameItem). item ∷ is) (made_with_names-append xs ys)
 
 -- each entry stands before this place
 abbrev Before : ℕ → List Item → Type 0
@@ -70,7 +104,7 @@ before_right n (entered e ∷ xs) ys h = before_right n xs ys h.1
 before_right n (noted caller disk count ∷ xs) ys h = before_right n xs ys h
 
 -- what was made stands before the end of the history
-made_before : (c : ℕ) (old new : List (List Logged)) (made : List Made) → Did c old new made → (file : ℕ) → Before (place_of (log_at new file)) (made_on file made)
+made_before : (c : ℕ) (old new : Histories) (made : List Made) → Did c old new made → (file : ℕ) → Before (place_of (log_at new file)) (made_on file made)
 made_before c old new made did file =
     let h : List Logged = log_at new file in
     let all : Before (place_of h) (by_caller c (items h)) = before_by (place_of h) c (items h) (before_items 0 (place_of h) h (omega arith)) in
@@ -91,24 +125,27 @@ syncs_then least mid (entered e ∷ xs) ys le b h k = (h.0, syncs_then (suc e.pl
 syncs_then least mid (noted caller disk count ∷ xs) ys le b h k = syncs_then least mid xs ys le b h k
 
 -- one thing after another
-pub did_then : (c : ℕ) (old mid new : List (List Logged)) (xs ys : List Made) → Did c old mid xs → Did c mid new ys → Did c old new (xs ++ ys)
+pub did_then : (c : ℕ) (old mid new : Histories) (xs ys : List Made) → Did c old mid xs → Did c mid new ys → Did c old new (xs ++ ys)
 did_then c old mid new xs ys f g = record {
-  later = λ file. goes_on_then (log_at old file) (log_at mid file) (log_at new file) (f.later file) (g.later file);
+  later = all_go_on_then old mid new f.later g.later;
   part = λ file. g.part file ∙ (ap (λ (is : List Item). is ++ made_on file ys) (f.part file)
       ∙ (append_assoc (by_caller c (items (log_at old file))) (made_on file xs) (made_on file ys) ∙ ap (λ (is : List Item). by_caller c (items (log_at old file)) ++ is) (sym (made_on-append file xs ys))));
   syncs = λ file. subst (SyncsInOrder (place_of (log_at old file))) (sym (made_on-append file xs ys))
-      (syncs_then (place_of (log_at old file)) (place_of (log_at mid file)) (made_on file xs) (made_on file ys) (place_later (log_at old file) (log_at mid file) (f.later file)) (made_before c old mid xs f file) (f.syncs file) (g.syncs file));
+      (syncs_then (place_of (log_at old file)) (place_of (log_at mid file)) (made_on file xs) (made_on file ys) (place_later (log_at old file) (log_at mid file) (f.later.logs file)) (made_before c old mid xs f file) (f.syncs file) (g.syncs file));
+  names = g.names ∙ (ap (λ (is : List NameItem). is ++ made_with_names ys) f.names
+      ∙ (append_assoc (names_by c (name_items old.names)) (made_with_names xs) (made_with_names ys) ∙ ap (λ (is : List NameItem). names_by c (name_items old.names) ++ is) (sym (made_with_names-append xs ys))));
 }
 
-pub did_nothing : (c : ℕ) (old new : List (List Logged)) → new ≡ old → Did c old new []
+pub did_nothing : (c : ℕ) (old new : Histories) → new ≡ old → Did c old new []
 did_nothing c old new e = record {
-  later = λ file. goes_on_same (log_at old file) (log_at new file) (ap (λ (hs : List (List Logged)). log_at hs file) e);
-  part = λ file. ap (λ (hs : List (List Logged)). by_caller c (items (log_at hs file))) e ∙ sym (append-nil (by_caller c (items (log_at old file))));
+  later = all_go_on_same old new e;
+  part = λ file. ap (λ (h : Histories). by_caller c (items (log_at h file))) e ∙ sym (append-nil (by_caller c (items (log_at old file))));
   syncs = λ file. tt;
+  names = ap (λ (h : Histories). names_by c (name_items h.names)) e ∙ sym (append-nil (names_by c (name_items old.names)));
 }
 
 -- what a caller did, and then nothing
-pub did_after : (c : ℕ) (old mid new : List (List Logged)) (made : List Made) → Did c old mid made → Did c mid new [] → Did c old new made
+pub did_after : (c : ℕ) (old mid new : Histories) (made : List Made) → Did c old mid made → Did c mid new [] → Did c old new made
 did_after c old mid new made f g = subst (Did c old new) (append-nil made) (did_then c old mid new made [] f g)
 
 refuses_later : (A B : Type 0) (said : Reply) → (A → B) → Refuses A said → Refuses B said
@@ -124,8 +161,13 @@ pub goes_later : (F G : ℕ → Type 0) → ((file : ℕ) → F file → G file)
 goes_later F G f c (ends reply state) [] said left h = h
 goes_later F G f c (ends reply state) (m ∷ made) said left h = h
 goes_later F G f c (calls request state go_on) [] said left h = (refuses_later (F request.file) (G request.file) said (f request.file) h.0, h.1)
-goes_later F G f c (calls request state go_on) (m ∷ made) said left h =
-    (h.0, makes_later c request.ask m.item _ _ _ (λ t k. goes_later F G f c (go_on t) made said left k) h.1)
+goes_later F G f c (calls request state go_on) (at_file at item ∷ made) said left h =
+    (h.0, makes_later c request.ask item _ _ _ (λ t k. goes_later F G f c (go_on t) made said left k) h.1)
+goes_later F G f c (calls request state go_on) (with_names item ∷ made) said left h = h
+goes_later F G f c (asks_names ask state go_on) [] said left h = h
+goes_later F G f c (asks_names ask state go_on) (at_file at item ∷ made) said left h = h
+goes_later F G f c (asks_names ask state go_on) (with_names item ∷ made) said left h =
+    (h.0, goes_later F G f c (go_on (told_names item)) made said left h.1)
 goes_later F G f c unknown made said left h = h
 
 line_later : (F G : ℕ → Type 0) → ((file : ℕ) → F file → G file) → (c : ℕ) (kept : ClientState) (p : Plan) (made : List Made) (said : Reply) (left : ClientState) → Line F c kept p made said left → Line G c kept p made said left
@@ -137,48 +179,74 @@ does_later mount F G f c state (line ∷ lines) made [] left h = h
 does_later mount F G f c state (line ∷ lines) made (s ∷ said) left h =
     (h.0, h.1, h.2, h.3, h.4, line_later F G f c state (plan mount state line.call) h.0 s.reply h.2 h.5, does_later mount F G f c h.2 lines h.1 said left h.6)
 
+-- a line follows its plan
+pub went_of : (c : ℕ) (kept : ClientState) (p : Plan) (old new : Histories) (said : Reply) (left : ClientState) → Gone c p old new said left → Went c kept p old new said left
+went_of c kept p old new said left gone = record { made = gone.made; did = gone.did; goes = inl gone.goes }
+
+-- the same plan, written otherwise
+pub gone_as : (c : ℕ) (p q : Plan) (old new : Histories) (said : Reply) (left : ClientState) → q ≡ p → Gone c p old new said left → Gone c q old new said left
+gone_as c p q old new said left is gone = subst (λ (x : Plan). Gone c x old new said left) (sym is) gone
+
 -- a plan that makes no call
-pub went_none : (c : ℕ) (kept : ClientState) (p : Plan) (old : List (List Logged)) (reply : Reply) (left : ClientState) → p ≡ ends reply left → Went c kept p old old reply left
-went_none c kept p old reply left is = record {
+pub gone_none : (c : ℕ) (p : Plan) (old : Histories) (reply : Reply) (left : ClientState) → p ≡ ends reply left → Gone c p old old reply left
+gone_none c p old reply left is = record {
   made = [];
   did = did_nothing c old old refl;
-  goes = inl (subst (λ (q : Plan). Goes (IsFull old) c q [] reply left) (sym is) (refl, refl));
+  goes = subst (λ (q : Plan). Goes (IsFull old) c q [] reply left) (sym is) (refl, refl);
 }
 
 -- a line for which memory lacked
-pub went_lacks : (c : ℕ) (kept : ClientState) (p : Plan) (old : List (List Logged)) → Went c kept p old old replies.Memory kept
+pub went_lacks : (c : ℕ) (kept : ClientState) (p : Plan) (old : Histories) → Went c kept p old old replies.Memory kept
 went_lacks c kept p old = record { made = []; did = did_nothing c old old refl; goes = inr (record { nothing = refl; memory = refl; same = refl }) }
 
 -- a call that was answered, and what the plan does then
-pub went_call : (c : ℕ) (kept : ClientState) (p : Plan) (request : Request) (state : ClientState) (go_on : Told → Plan) (old mid new : List (List Logged)) (e : Entry) (told : Told) (rest : List Made) (reply : Reply) (left : ClientState)
-    → p ≡ calls request state go_on → Did c old mid (record { file = request.file; item = entered e } ∷ []) → Asks c request.ask e.event → e.told ≡ Some told
-    → Did c mid new rest → Goes (IsFull new) c (go_on told) rest reply left → Went c kept p old new reply left
-went_call c kept p request state go_on old mid new e told rest reply left is did asks answered more goes = record {
-  made = record { file = request.file; item = entered e } ∷ rest;
-  did = did_then c old mid new (record { file = request.file; item = entered e } ∷ []) rest did more;
-  goes = inl (subst (λ (q : Plan). Goes (IsFull new) c q (record { file = request.file; item = entered e } ∷ rest) reply left) (sym is) (refl, (asks, (told, answered, goes))));
+pub gone_call : (c : ℕ) (p : Plan) (request : Request) (state : ClientState) (go_on : Told → Plan) (old mid new : Histories) (e : Entry) (told : Told) (rest : List Made) (reply : Reply) (left : ClientState)
+    → p ≡ calls request state go_on → Did c old mid (at_file request.file (entered e) ∷ []) → Asks c request.ask e.event → e.told ≡ Some told
+    → Did c mid new rest → Goes (IsFull new) c (go_on told) rest reply left → Gone c p old new reply left
+gone_call c p request state go_on old mid new e told rest reply left is did asks answered more goes = record {
+  made = at_file request.file (entered e) ∷ rest;
+  did = did_then c old mid new (at_file request.file (entered e) ∷ []) rest did more;
+  goes = subst (λ (q : Plan). Goes (IsFull new) c q (at_file request.file (entered e) ∷ rest) reply left) (sym is) (refl, (asks, (told, answered, goes)));
 }
 
 -- a call whose store failed
-pub went_fault : (c : ℕ) (kept : ClientState) (p : Plan) (request : Request) (state : ClientState) (go_on : Told → Plan) (old new : List (List Logged)) (disk count : ℕ)
-    → p ≡ calls request state go_on → Did c old new (record { file = request.file; item = noted c disk count } ∷ []) → Went c kept p old new (replies.Store disk count) state
-went_fault c kept p request state go_on old new disk count is did = record {
-  made = record { file = request.file; item = noted c disk count } ∷ [];
+pub gone_fault : (c : ℕ) (p : Plan) (request : Request) (state : ClientState) (go_on : Told → Plan) (old new : Histories) (disk count : ℕ)
+    → p ≡ calls request state go_on → Did c old new (at_file request.file (noted c disk count) ∷ []) → Gone c p old new (replies.Store disk count) state
+gone_fault c p request state go_on old new disk count is did = record {
+  made = at_file request.file (noted c disk count) ∷ [];
   did = did;
-  goes = inl (subst (λ (q : Plan). Goes (IsFull new) c q (record { file = request.file; item = noted c disk count } ∷ []) (replies.Store disk count) state) (sym is) (refl, (refl, (refl, refl, refl))));
+  goes = subst (λ (q : Plan). Goes (IsFull new) c q (at_file request.file (noted c disk count) ∷ []) (replies.Store disk count) state) (sym is) (refl, (refl, (refl, refl, refl)));
 }
 
 -- a call that did nothing
-pub went_refused : (c : ℕ) (kept : ClientState) (p : Plan) (request : Request) (state : ClientState) (go_on : Told → Plan) (old new : List (List Logged)) (reply : Reply)
-    → p ≡ calls request state go_on → Did c old new [] → Refuses (IsFull new request.file) reply → Went c kept p old new reply state
-went_refused c kept p request state go_on old new reply is did refused = record {
+pub gone_refused : (c : ℕ) (p : Plan) (request : Request) (state : ClientState) (go_on : Told → Plan) (old new : Histories) (reply : Reply)
+    → p ≡ calls request state go_on → Did c old new [] → Refuses (IsFull new request.file) reply → Gone c p old new reply state
+gone_refused c p request state go_on old new reply is did refused = record {
   made = [];
   did = did;
-  goes = inl (subst (λ (q : Plan). Goes (IsFull new) c q [] reply state) (sym is) (refused, refl));
+  goes = subst (λ (q : Plan). Goes (IsFull new) c q [] reply state) (sym is) (refused, refl);
+}
+
+-- a call on the names that was made, and what the plan does then
+pub gone_named : (c : ℕ) (p : Plan) (ask : NamesAsk) (state : ClientState) (go_on : NamesTold → Plan) (old mid new : Histories) (item : NameItem) (reply : Reply) (left : ClientState)
+    → p ≡ asks_names ask state go_on → Did c old mid (with_names item ∷ []) → AsksNames c ask item.entry → Gone c (go_on (told_names item)) mid new reply left → Gone c p old new reply left
+gone_named c p ask state go_on old mid new item reply left is did asks onward = record {
+  made = with_names item ∷ onward.made;
+  did = did_then c old mid new (with_names item ∷ []) onward.made did onward.did;
+  goes = subst (λ (q : Plan). Goes (IsFull new) c q (with_names item ∷ onward.made) reply left) (sym is) (asks, onward.goes);
+}
+
+-- a call on the names for which memory lacked
+pub gone_unnamed : (c : ℕ) (p : Plan) (ask : NamesAsk) (state : ClientState) (go_on : NamesTold → Plan) (old new : Histories)
+    → p ≡ asks_names ask state go_on → Did c old new [] → Gone c p old new replies.Memory state
+gone_unnamed c p ask state go_on old new is did = record {
+  made = [];
+  did = did;
+  goes = subst (λ (q : Plan). Goes (IsFull new) c q [] replies.Memory state) (sym is) (refl, refl);
 }
 
 -- no line yet
-pub worked_none : (mount : Mount) (c : ℕ) (state : ClientState) (old : List (List Logged)) → Worked mount c state [] old old [] state
+pub worked_none : (mount : Mount) (c : ℕ) (state : ClientState) (old : Histories) → Worked mount c state [] old old [] state
 worked_none mount c state old = record { made = []; did = did_nothing c old old refl; does = (refl, refl, refl) }
 
 -- lines done, and one more
@@ -191,7 +259,7 @@ does_more mount F c state (l ∷ lines) made [] mid line next reply left does go
 does_more mount F c state (l ∷ lines) made (s ∷ said) mid line next reply left does goes =
     (does.0, does.1 ++ next, does.2, ap (λ (ms : List Made). ms ++ next) does.3 ∙ append_assoc does.0 does.1 next, does.4, does.5, does_more mount F c does.2 lines does.1 said mid line next reply left does.6 goes)
 
-pub worked_more : (mount : Mount) (c : ℕ) (state : ClientState) (lines : List CallLine) (old mid new : List (List Logged)) (said : List Said) (kept : ClientState) (line : CallLine) (reply : Reply) (left : ClientState)
+pub worked_more : (mount : Mount) (c : ℕ) (state : ClientState) (lines : List CallLine) (old mid new : Histories) (said : List Said) (kept : ClientState) (line : CallLine) (reply : Reply) (left : ClientState)
     → Worked mount c state lines old mid said kept → Went c kept (plan mount kept line.call) mid new reply left
     → Worked mount c state (lines ++ line ∷ []) old new (said ++ record { line = line.line; reply = reply } ∷ []) left
 worked_more mount c state lines old mid new said kept line reply left worked went = record {
@@ -210,7 +278,7 @@ does_append mount F c state (l ∷ xs) ys made made' (s ∷ said) said' mid left
     (f.0, f.1 ++ made', f.2, ap (λ (ms : List Made). ms ++ made') f.3 ∙ append_assoc f.0 f.1 made', f.4, f.5, does_append mount F c f.2 xs ys f.1 made' said said' mid left f.6 g)
 
 -- lines done, and then more lines
-pub worked_append : (mount : Mount) (c : ℕ) (state : ClientState) (xs ys : List CallLine) (old mid new : List (List Logged)) (said said' : List Said) (kept left : ClientState)
+pub worked_append : (mount : Mount) (c : ℕ) (state : ClientState) (xs ys : List CallLine) (old mid new : Histories) (said said' : List Said) (kept left : ClientState)
     → Worked mount c state xs old mid said kept → Worked mount c kept ys mid new said' left → Worked mount c state (xs ++ ys) old new (said ++ said') left
 worked_append mount c state xs ys old mid new said said' kept left f g = record {
   made = f.made ++ g.made;
@@ -220,7 +288,7 @@ worked_append mount c state xs ys old mid new said said' kept left f g = record 
 }
 
 -- nothing, and then lines done
-pub worked_before : (mount : Mount) (c : ℕ) (state : ClientState) (lines : List CallLine) (old mid new : List (List Logged)) (said : List Said) (left : ClientState)
+pub worked_before : (mount : Mount) (c : ℕ) (state : ClientState) (lines : List CallLine) (old mid new : Histories) (said : List Said) (left : ClientState)
     → Did c old mid [] → Worked mount c state lines mid new said left → Worked mount c state lines old new said left
 worked_before mount c state lines old mid new said left did worked = record {
   made = worked.made;
@@ -229,7 +297,7 @@ worked_before mount c state lines old mid new said left did worked = record {
 }
 
 -- lines done, and nothing more
-pub worked_then : (mount : Mount) (c : ℕ) (state : ClientState) (lines : List CallLine) (old mid new : List (List Logged)) (said : List Said) (left : ClientState)
+pub worked_then : (mount : Mount) (c : ℕ) (state : ClientState) (lines : List CallLine) (old mid new : Histories) (said : List Said) (left : ClientState)
     → Worked mount c state lines old mid said left → Did c mid new [] → Worked mount c state lines old new said left
 worked_then mount c state lines old mid new said left worked did = record {
   made = worked.made;
@@ -238,19 +306,19 @@ worked_then mount c state lines old mid new said left worked did = record {
 }
 
 -- a phase, and nothing more
-pub phased_then : (mount : Mount) (c : ℕ) (kept : ClientState) (lines : List CallLine) (old mid new : List (List Logged)) (said : List Said) (left : ClientState)
+pub phased_then : (mount : Mount) (c : ℕ) (kept : ClientState) (lines : List CallLine) (old mid new : Histories) (said : List Said) (left : ClientState)
     → Phased mount c kept lines old mid said left → Did c mid new [] → Phased mount c kept lines old new said left
 phased_then mount c kept lines old mid new said left phased did =
     ⊎_elim (λ worked. inl (worked_then mount c kept lines old mid new said left worked did))
     (λ idled. inr (record { nothing = did_after c old mid new [] idled.nothing did; silent = idled.silent; same = idled.same })) phased
 
 -- phases done, and one more
-pub acts_more : (mount : Mount) (c : ℕ) (kept : ClientState) (phases : List (List CallLine)) (start : List (List Logged)) (cuts : List (List (List Logged))) (said : List Said) (mid : ClientState)
-    (phase : List CallLine) (last cut : List (List Logged)) (one : List Said) (left : ClientState)
+pub acts_more : (mount : Mount) (c : ℕ) (kept : ClientState) (phases : List (List CallLine)) (start : Histories) (cuts : List Histories) (said : List Said) (mid : ClientState)
+    (phase : List CallLine) (last cut : Histories) (one : List Said) (left : ClientState)
     → Acts mount c kept phases start cuts said mid → last ≡ last_cut start cuts → Phased mount c mid (lines_of c phase) last cut one left
     → Acts mount c kept (phases ++ phase ∷ []) start (cuts ++ cut ∷ []) (said ++ one) left
 acts_more mount c kept [] start [] said mid phase last cut one left acts is phased =
-    rw acts.0 (one, [], left, sym (append-nil one), subst (λ (st : ClientState). Phased mount c st (lines_of c phase) start cut one left) acts.1 (subst (λ (hs : List (List Logged)). Phased mount c mid (lines_of c phase) hs cut one left) is phased), (refl, refl))
+    rw acts.0 (one, [], left, sym (append-nil one), subst (λ (st : ClientState). Phased mount c st (lines_of c phase) start cut one left) acts.1 (subst (λ (hs : Histories). Phased mount c mid (lines_of c phase) hs cut one left) is phased), (refl, refl))
 acts_more mount c kept [] start (k ∷ cuts) said mid phase last cut one left acts is phased = absurd acts
 acts_more mount c kept (p ∷ phases) start [] said mid phase last cut one left acts is phased = absurd acts
 acts_more mount c kept (p ∷ phases) start (k ∷ cuts) said mid phase last cut one left acts is phased =
@@ -267,7 +335,7 @@ does-lines mount F c kept (l ∷ lines) made (s ∷ said) left does =
     cc
 
 -- phases answered, and one more whose lines were done
-pub answered_more : (mount : Mount) (c : ℕ) (phases : List (List CallLine)) (said : List Said) (phase : List CallLine) (kept : ClientState) (old new : List (List Logged)) (one : List Said) (left : ClientState)
+pub answered_more : (mount : Mount) (c : ℕ) (phases : List (List CallLine)) (said : List Said) (phase : List CallLine) (kept : ClientState) (old new : Histories) (one : List Said) (left : ClientState)
     → IsAnswered phases c said → Worked mount c kept (lines_of c phase) old new one left → IsAnswered (phases ++ phase ∷ []) c (said ++ one)
 answered_more mount c phases said phase kept old new one left answered worked =
     let number = λ (l : CallLine). l.line in
@@ -277,11 +345,11 @@ answered_more mount c phases said phase kept old new one left answered worked =
     ∙ (sym (map-append number (flat_map (lines_of c) phases) (lines_of c phase))
     ∙ ap (map number) (sym (flat_map-append (lines_of c) phases (phase ∷ []) ∙ ap (λ (ls : List CallLine). flat_map (lines_of c) phases ++ ls) (append-nil (lines_of c phase)))))))
 
-pub in_order_more : (start : List (List Logged)) (cuts : List (List (List Logged))) (last cut : List (List Logged)) → InOrder start cuts → last ≡ last_cut start cuts
-    → ((file : ℕ) → GoesOn (log_at last file) (log_at cut file)) → InOrder start (cuts ++ cut ∷ [])
-in_order_more start [] last cut h is g = (subst (λ (hs : List (List Logged)). (file : ℕ) → GoesOn (log_at hs file) (log_at cut file)) is g, tt)
+pub in_order_more : (start : Histories) (cuts : List Histories) (last cut : Histories) → InOrder start cuts → last ≡ last_cut start cuts
+    → AllGoOn last cut → InOrder start (cuts ++ cut ∷ [])
+in_order_more start [] last cut h is g = (subst (λ (hs : Histories). AllGoOn hs cut) is g, tt)
 in_order_more start (k ∷ cuts) last cut h is g = (h.0, in_order_more k cuts last cut h.1 is g)
 
-pub last_cut-more : (start : List (List Logged)) (cuts : List (List (List Logged))) (cut : List (List Logged)) → cut ≡ last_cut start (cuts ++ cut ∷ [])
+pub last_cut-more : (start : Histories) (cuts : List Histories) (cut : Histories) → cut ≡ last_cut start (cuts ++ cut ∷ [])
 last_cut-more start [] cut = refl
 last_cut-more start (k ∷ cuts) cut = last_cut-more k cuts cut

@@ -1,4 +1,4 @@
--- Which logs and answers a script may have.
+-- Which histories and answers a script may have.
 use Rattle.std.specs.Prelude.{◌≡◌, ◌⊎◌, ℕ, suc, ◌≤◌, ◌==◌, List, [], ◌∷◌, ◌++◌, length, map, filter, if◌then◌else◌, IfSome}
 use Rattle.std.specs.List.{AllByRecursion, flat_map}
 use Rattle.hist_plain.specs.declared.event.Event.{Event}
@@ -15,9 +15,11 @@ use Rattle.stack_accept.specs.declared.entries.FileEntry.{FileEntry}
 use Rattle.stack_accept.specs.Mount.{Mount}
 use Rattle.tower_log.specs.declared.logged.Logged.{Logged}
 use Rattle.tower_log.specs.Log.{place_of, trail_of}
-use Rattle.run_defs.specs.declared.client.ClientState.{ClientState}
-use Rattle.run_defs.specs.Log.{Item, entered, noted, items, by_caller, who, log_at, IsFull}
-use Rattle.run_defs.specs.Plan.{Plan, Made, plan, plan_call, start_state, asking, sync, Goes}
+use Rattle.name_context.specs.declared.entry.NameEntry.{NameEntry}
+use Rattle.name_context.specs.History.{NamesSeen, IsStory}
+use Rattle.run_defs.specs.Log.{Histories, Item, NameItem, entered, noted, items, name_items, names_by, by_caller, who, log_at, IsFull}
+use Rattle.client_objects.specs.declared.state.ClientState.{ClientState}
+use Rattle.run_defs.specs.Plan.{Plan, Made, at_file, with_names, plan, plan_call, start_state, asking, sync, Goes}
 
 -- a line for which memory lacked before it did anything
 pub record Lacks (kept : ClientState) (made : List Made) (said : Reply) (left : ClientState) : Type 0 where
@@ -40,7 +42,14 @@ Does mount Full caller state (line ∷ lines) made (said ∷ more) left =
 -- what was made at a file
 abbrev pub made_on : ℕ → List Made → List Item
 made_on file [] = []
-made_on file (made ∷ more) = (if made.file == file then made.item ∷ [] else []) ++ made_on file more
+made_on file (at_file at item ∷ more) = (if at == file then item ∷ [] else []) ++ made_on file more
+made_on file (with_names item ∷ more) = made_on file more
+
+-- what was made with the names
+abbrev pub made_with_names : List Made → List NameItem
+made_with_names [] = []
+made_with_names (at_file at item ∷ more) = made_with_names more
+made_with_names (with_names item ∷ more) = item ∷ made_with_names more
 
 -- a Synced is from this place or a later one
 abbrev pub SyncsFrom : ℕ → Event → Type 0
@@ -58,32 +67,50 @@ pub record GoesOn (old new : List Logged) : Type 0 where
   pub more : List Logged
   pub log : new ≡ old ++ more
 
--- between two states of the logs a caller did just these things
-pub record Did (caller : ℕ) (old new : List (List Logged)) (made : List Made) : Type 0 where
-  pub later : (file : ℕ) → GoesOn (log_at old file) (log_at new file)
+-- names whose history goes on from another's
+pub record NamesGoOn (old new : NamesSeen) : Type 0 where
+  pub more : List NameEntry
+  pub began : new.began ≡ old.began
+  pub history : new.history ≡ old.history ++ more
+
+-- each log and the names' history go on
+pub record AllGoOn (old new : Histories) : Type 0 where
+  pub logs : (file : ℕ) → GoesOn (log_at old file) (log_at new file)
+  pub names : NamesGoOn old.names new.names
+
+-- between two states of the histories a caller did just these things
+pub record Did (caller : ℕ) (old new : Histories) (made : List Made) : Type 0 where
+  pub later : AllGoOn old new
   pub part : (file : ℕ) → by_caller caller (items (log_at new file)) ≡ by_caller caller (items (log_at old file)) ++ made_on file made
   pub syncs : (file : ℕ) → SyncsInOrder (place_of (log_at old file)) (made_on file made)
+  pub names : names_by caller (name_items new.names) ≡ names_by caller (name_items old.names) ++ made_with_names made
 
--- between two states of the logs a caller did a line, in this state and with this plan
-pub record Went (caller : ℕ) (kept : ClientState) (p : Plan) (old new : List (List Logged)) (said : Reply) (left : ClientState) : Type 0 where
+-- between two states of the histories a caller followed this plan to its end
+pub record Gone (caller : ℕ) (p : Plan) (old new : Histories) (said : Reply) (left : ClientState) : Type 0 where
+  pub made : List Made
+  pub did : Did caller old new made
+  pub goes : Goes (IsFull new) caller p made said left
+
+-- between two states of the histories a caller did a line, in this state and with this plan
+pub record Went (caller : ℕ) (kept : ClientState) (p : Plan) (old new : Histories) (said : Reply) (left : ClientState) : Type 0 where
   pub made : List Made
   pub did : Did caller old new made
   pub goes : Line (IsFull new) caller kept p made said left
 
--- between two states of the logs a caller did its lines
-pub record Worked (mount : Mount) (caller : ℕ) (kept : ClientState) (lines : List CallLine) (old new : List (List Logged)) (said : List Said) (left : ClientState) : Type 0 where
+-- between two states of the histories a caller did its lines
+pub record Worked (mount : Mount) (caller : ℕ) (kept : ClientState) (lines : List CallLine) (old new : Histories) (said : List Said) (left : ClientState) : Type 0 where
   pub made : List Made
   pub did : Did caller old new made
   pub does : Does mount (IsFull new) caller kept lines made said left
 
--- between two states of the logs a caller did nothing, answered nothing and kept its state
-pub record Idled (mount : Mount) (caller : ℕ) (kept : ClientState) (old new : List (List Logged)) (said : List Said) (left : ClientState) : Type 0 where
+-- between two states of the histories a caller did nothing, answered nothing and kept its state
+pub record Idled (mount : Mount) (caller : ℕ) (kept : ClientState) (old new : Histories) (said : List Said) (left : ClientState) : Type 0 where
   pub nothing : Did caller old new []
   pub silent : said ≡ []
   pub same : left ≡ kept
 
 -- a caller's part of a phase: it did its lines of the phase, or nothing at all
-abbrev pub Phased : Mount → ℕ → ClientState → List CallLine → List (List Logged) → List (List Logged) → List Said → ClientState → Type 0
+abbrev pub Phased : Mount → ℕ → ClientState → List CallLine → Histories → Histories → List Said → ClientState → Type 0
 Phased mount caller kept lines old new said left =
     Worked mount caller kept lines old new said left ⊎ Idled mount caller kept old new said left
 
@@ -92,7 +119,7 @@ abbrev pub lines_of : ℕ → List CallLine → List CallLine
 lines_of client lines = filter (λ l. l.client == client) lines
 
 -- a client's phases, one after another. Each begins where the one before was cut
-abbrev pub Acts : Mount → ℕ → ClientState → List (List CallLine) → List (List Logged) → List (List (List Logged)) → List Said → ClientState → Type 0
+abbrev pub Acts : Mount → ℕ → ClientState → List (List CallLine) → Histories → List Histories → List Said → ClientState → Type 0
 Acts mount caller kept [] start [] said left = (said ≡ []) × (left ≡ kept)
 Acts mount caller kept [] start (cut ∷ cuts) said left = ⊥
 Acts mount caller kept (phase ∷ phases) start [] said left = ⊥
@@ -100,24 +127,24 @@ Acts mount caller kept (phase ∷ phases) start (cut ∷ cuts) said left =
     (one : List Said) × (rest : List Said) × (mid : ClientState) × (said ≡ one ++ rest)
     × Phased mount caller kept (lines_of caller phase) start cut one mid × Acts mount caller mid phases cut cuts rest left
 
--- each log goes on from what it was at the cut before
-abbrev pub InOrder : List (List Logged) → List (List (List Logged)) → Type 0
+-- each history goes on from what it was at the cut before
+abbrev pub InOrder : Histories → List Histories → Type 0
 InOrder start [] = Unit {0}
-InOrder start (cut ∷ cuts) = ((file : ℕ) → GoesOn (log_at start file) (log_at cut file)) × InOrder cut cuts
+InOrder start (cut ∷ cuts) = AllGoOn start cut × InOrder cut cuts
 
 -- the state at the last cut
-abbrev pub last_cut : List (List Logged) → List (List (List Logged)) → List (List Logged)
+abbrev pub last_cut : Histories → List Histories → Histories
 last_cut start [] = start
 last_cut start (cut ∷ cuts) = last_cut cut cuts
 
--- a client's part in the logs: its phases up to the last cut, from the start on its machine, and nothing after that
-pub record ClientFits (mount : Mount) (phases : List (List CallLine)) (start : List (List Logged)) (cuts : List (List (List Logged))) (final : List (List Logged)) (client : ℕ) (line : ClientLine) (said : List Said) : Type 0 where
+-- a client's part in the histories: its phases up to the last cut, from the start on its machine, and nothing after that
+pub record ClientFits (mount : Mount) (phases : List (List CallLine)) (start : Histories) (cuts : List Histories) (final : Histories) (client : ℕ) (line : ClientLine) (said : List Said) : Type 0 where
   pub left : ClientState
   pub acts : Acts mount client (start_state mount line) phases start cuts said left
   pub after : Did client (last_cut start cuts) final []
 
 -- the part of each client from this one on, with its answers
-abbrev pub ClientsFit : Mount → List (List CallLine) → List (List Logged) → List (List (List Logged)) → List (List Logged) → ℕ → List ClientLine → List (List Said) → Type 0
+abbrev pub ClientsFit : Mount → List (List CallLine) → Histories → List Histories → Histories → ℕ → List ClientLine → List (List Said) → Type 0
 ClientsFit mount phases start cuts final client [] [] = Unit {0}
 ClientsFit mount phases start cuts final client [] (said ∷ more) = ⊥
 ClientsFit mount phases start cuts final client (line ∷ lines) [] = ⊥
@@ -156,7 +183,7 @@ Closes Full mount file (entry ∷ entries) made (reply ∷ replies) =
     × Goes Full mount (plan_closing file) first reply left × Closes Full mount (suc file) entries rest replies
 
 -- the part of the caller `mount`: nothing up to the last cut, and then the closing syncs
-pub record MountFits (mount : Mount) (caller : ℕ) (start : List (List Logged)) (cuts : List (List (List Logged))) (final : List (List Logged)) (replies : List Reply) : Type 0 where
+pub record MountFits (mount : Mount) (caller : ℕ) (start : Histories) (cuts : List Histories) (final : Histories) (replies : List Reply) : Type 0 where
   pub before : Did caller start (last_cut start cuts) []
   pub made : List Made
   pub did : Did caller (last_cut start cuts) final made
@@ -166,13 +193,20 @@ pub record MountFits (mount : Mount) (caller : ℕ) (start : List (List Logged))
 abbrev pub IsUpTo : ℕ → Item → Type 0
 IsUpTo last item = IfSome (who item) (λ caller. caller ≤ last)
 
--- The logs, the answers and the closing answers fit the script: each client did its lines phase by phase, or nothing in a
--- phase, and then `mount` the closing syncs; nobody else did anything, and each caller's events are numbered from 0.
-pub record FitsScript (mount : Mount) (script : Script) (start final : List (List Logged)) (said : List (List Said)) (closing : List Reply) : Type 0 where
-  pub cuts : List (List (List Logged))
+-- an entry of the names' history is of a caller up to this one
+abbrev pub IsEntryUpTo : ℕ → NameEntry → Type 0
+IsEntryUpTo last entry = entry.caller ≤ last
+
+-- The histories, the answers and the closing answers fit the script: each client did its lines phase by phase, or nothing in a
+-- phase, and then `mount` the closing syncs; nobody else did anything, each caller's events are numbered from 0, and the names' history
+-- explains itself.
+pub record FitsScript (mount : Mount) (script : Script) (start final : Histories) (said : List (List Said)) (closing : List Reply) : Type 0 where
+  pub cuts : List Histories
   pub cut_each : length cuts ≡ length script.phases
   pub in_order : InOrder start cuts
   pub clients : ClientsFit mount script.phases start cuts final 0 script.clients said
   pub closings : MountFits mount (length script.clients) start cuts final closing
-  pub numbered : AllByRecursion (λ log. IsNumbered (trail_of log)) final
-  pub callers : AllByRecursion (λ log. AllByRecursion (IsUpTo (length script.clients)) (items log)) final
+  pub numbered : AllByRecursion (λ log. IsNumbered (trail_of log)) final.logs
+  pub callers : AllByRecursion (λ log. AllByRecursion (IsUpTo (length script.clients)) (items log)) final.logs
+  pub story : IsStory final.names.began final.names.history
+  pub name_callers : AllByRecursion (IsEntryUpTo (length script.clients)) final.names.history

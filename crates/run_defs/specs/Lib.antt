@@ -1,5 +1,4 @@
 pub mod Stack
-pub mod Names
 pub mod Log
 pub mod Plan
 pub mod Fits

@@ -2,13 +2,9 @@
 //! line of a script does, and which logs and answers a script may have.
 #![tactic(auto)]
 
-mod client;
-mod found;
 mod names;
 mod store;
 
-pub use client::{ClientState, OpenObject};
-pub use found::Found;
 pub use names::{disk_name, file_name, file_named, pages_of, view_of};
 pub use store::StoreKey;
 

@@ -10,19 +10,23 @@ use Rattle.script_text.specs.declared.script.Said.{Said}
 use Rattle.script_text.specs.declared.script.Reply.{Reply}
 use Rattle.script_text.specs.declared.script.Reply.TheVariants.{Done}
 use Rattle.stack_accept.specs.Mount.{Mount}
-use Rattle.run_defs.specs.declared.client.OpenObject.{OpenObject}
-use Rattle.run_defs.specs.declared.client.ClientState.{ClientState}
+use Rattle.stack_accept.specs.Sound.{IsMount}
+use Rattle.client_objects.specs.declared.state.ClientState.{ClientState}
+use Rattle.name_context.specs.History.{NamesSeen, IsStory}
+use Rattle.stack_names.specs.Views.{names_at_start}
+use Rattle.run_defs.specs.Log.{Histories}
+use Rattle.spr_client.specs.Calls.{histories}
 use Rattle.tower_log.specs.declared.logged.Logged.{Logged}
 use Rattle.run_defs.specs.Fits.{Did, Acts, ClientFits, ClientsFit, AreAnswered, IsAnswered, FitsScript, last_cut}
 use Rattle.stack_engine.specs.Engine.{log_in}
 use Rattle.stack_engine.specs.Tower.{TowerSeen}
-use Rattle.spr_volume.specs.Passes.{AreBack, Files, Knows, known, logs, with_logs}
-use Rattle.spr_client.specs.Lines.{IsObject}
+use Rattle.spr_volume.specs.Passes.{AreBack, AreNamesBack, Knows, as_known, known, logs}
+use Rattle.spr_client.specs.Lines.{IsOnMachine}
 use Rattle.run_phases.specs.declared.worker.Worker.{Worker}
 use Rattle.run_phases.specs.Workers.{IsStarted, AreStarted, AreReady, IsSilent}
 use Rattle.run_phases.specs.Phases.{ClientDone, ClientsDone, PhasesDone}
 use Rattle.run_phases.specs.Closing.{EndsQuietly, FilesClosed}
-use Rattle.run_files.specs.Play.{IsUnwritten, IsPlayed, ArePlayed}
+use Rattle.run_files.specs.Play.{IsUnwritten, IsPlayed, ArePlayed, unnamed}
 use Rattle.run_files.proofs.TowerLaws.{known-tower, made-at, made-up-to}
 use Rattle.run_files.proofs.ClosedLaws.{closed-now}
 
@@ -32,14 +36,14 @@ length-started mount caller [] (w ∷ ws) h = absurd h
 length-started mount caller (l ∷ ls) [] h = absurd h
 length-started mount caller (l ∷ ls) (w ∷ ws) h = ap suc (length-started mount (suc caller) ls ws h.1)
 
-pub length-done : (mount : Mount) (phases : List (List CallLine)) (start : List (List Logged)) (cuts : List (List (List Logged))) (ws ns : List Worker) → ClientsDone mount phases start cuts ws ns → length ns ≡ length ws
+pub length-done : (mount : Mount) (phases : List (List CallLine)) (start : Histories) (cuts : List Histories) (ws ns : List Worker) → ClientsDone mount phases start cuts ws ns → length ns ≡ length ws
 length-done mount phases start cuts [] [] h = refl
 length-done mount phases start cuts [] (n ∷ ns) h = absurd h
 length-done mount phases start cuts (w ∷ ws) [] h = absurd h
 length-done mount phases start cuts (w ∷ ws) (n ∷ ns) h = ap suc (length-done mount phases start cuts ws ns h.1)
 
 -- the part of a client
-client-fits : (mount : Mount) (phases : List (List CallLine)) (start : List (List Logged)) (cuts : List (List (List Logged))) (final : List (List Logged)) (k : ℕ) (line : ClientLine) (w n : Worker) → IsStarted mount k line w
+client-fits : (mount : Mount) (phases : List (List CallLine)) (start : Histories) (cuts : List Histories) (final : Histories) (k : ℕ) (line : ClientLine) (w n : Worker) → IsStarted mount k line w
     → ClientDone mount phases start cuts w n → Did k (last_cut start cuts) final [] → ClientFits mount phases start cuts final k line n.said.items
 client-fits mount phases start cuts final k line w n begun done after = record {
   left = n.client.state;
@@ -49,7 +53,7 @@ client-fits mount phases start cuts final k line w n begun done after = record {
 }
 
 -- the parts of the clients from this one on
-clients-fit : (mount : Mount) (phases : List (List CallLine)) (start : List (List Logged)) (cuts : List (List (List Logged))) (final : List (List Logged)) (first : ℕ) (lines : List ClientLine) (ws ns : List Worker)
+clients-fit : (mount : Mount) (phases : List (List CallLine)) (start : Histories) (cuts : List Histories) (final : Histories) (first : ℕ) (lines : List ClientLine) (ws ns : List Worker)
     → AreStarted mount first lines ws → ClientsDone mount phases start cuts ws ns → ((k : ℕ) → first ≤ k → k < first + length lines → Did k (last_cut start cuts) final [])
     → ClientsFit mount phases start cuts final first lines (map (λ w. w.said.items) ns)
 clients-fit mount phases start cuts final first [] [] [] begun done after = tt
@@ -63,7 +67,7 @@ clients-fit mount phases start cuts final first (l ∷ ls) (w ∷ ws) (n ∷ ns)
 )
 
 -- each client has answered its lines
-clients-answered : (mount : Mount) (phases : List (List CallLine)) (start : List (List Logged)) (cuts : List (List (List Logged))) (first : ℕ) (lines : List ClientLine) (ws ns : List Worker) → AreStarted mount first lines ws
+clients-answered : (mount : Mount) (phases : List (List CallLine)) (start : Histories) (cuts : List Histories) (first : ℕ) (lines : List ClientLine) (ws ns : List Worker) → AreStarted mount first lines ws
     → ClientsDone mount phases start cuts ws ns → AreAnswered phases first lines (map (λ w. w.said.items) ns)
 clients-answered mount phases start cuts first [] [] [] begun done = tt
 clients-answered mount phases start cuts first [] [] (n ∷ ns) begun done = absurd done
@@ -79,18 +83,18 @@ pub played : (stack : Mount) (script : Script) (begun workers : List Worker) (p 
     → IsPlayed stack script p q said closing
 played stack script begun workers p m q said closing first end started phases closed said_is closings =
     let closer : ℕ = length script.clients in
-    let start : List (List Logged) = p.logs in
-    let final : List (List Logged) = q.logs in
+    let start : Histories = histories stack p in
+    let final : Histories = histories stack q in
     let first_m : m.first ≡ p.first = ap (λ (x : Knows). x.first) phases.pass in
     let end_m : m.end ≡ p.end = ap (λ (x : Knows). x.end) phases.pass in
     let many : length begun ≡ closer = length-started stack 0 script.clients begun started in
     let len : length workers ≡ closer = length-done stack script.phases start phases.cuts begun workers phases.each ∙ many in
     let after : (k : ℕ) → k < closer → Did k (last_cut start phases.cuts) final [] =
-    λ k high. subst (λ (ls : List (List Logged)). Did k ls final []) phases.last (closed.others k (λ e. absurd (omega (arith, e, high))) (omega (arith, first, first_m)) (omega (arith, end, end_m, high))) in
+    λ k high. subst (λ (ls : Histories). Did k ls final []) phases.last (closed.others k (λ e. absurd (omega (arith, e, high))) (omega (arith, first, first_m)) (omega (arith, end, end_m, high))) in
     let before : Did closer start (last_cut start phases.cuts) [] =
-    subst (λ (ls : List (List Logged)). Did closer start ls []) phases.last (phases.others closer (omega (arith, first)) (omega (arith, end)) (inr (omega (arith, many)))) in
+    subst (λ (ls : Histories). Did closer start ls []) phases.last (phases.others closer (omega (arith, first)) (omega (arith, end)) (inr (omega (arith, many)))) in
     record {
-      pass = closed.pass ∙ ap (λ (x : Knows). with_logs x q.logs) phases.pass;
+      pass = closed.pass ∙ ap (λ (x : Knows). as_known x q) phases.pass;
       fits = λ up_to. record {
         cuts = phases.cuts;
         cut_each = phases.cut_each;
@@ -100,11 +104,13 @@ played stack script begun workers p m q said closing first end started phases cl
         closings = record {
           before = before;
           made = closed.made;
-          did = subst (λ (ls : List (List Logged)). Did closer ls final closed.made) phases.last closed.did;
+          did = subst (λ (ls : Histories). Did closer ls final closed.made) phases.last closed.did;
           closes = closed.closes;
         };
         numbered = up_to.numbered;
         callers = up_to.callers;
+        story = up_to.story;
+        name_callers = up_to.name_callers;
       };
       answered = subst (λ (ss : List (List Said)). AreAnswered script.phases 0 script.clients ss) (sym said_is) (clients-answered stack script.phases start phases.cuts 0 script.clients begun workers started phases.each);
       closed = λ file done.
@@ -113,15 +119,27 @@ played stack script begun workers p m q said closing first end started phases cl
       closing_each = closings;
     }
 
--- so do the towers that came back
-pub played-back : (stack : Mount) (script : Script) (before after : List TowerSeen) (p q : Knows) (said : List (List Said)) (closing : List Reply) → p.first ≡ 0 → p.end ≡ suc (length script.clients) → p.logs ≡ logs before
-    → AllByRecursion IsUnwritten before → IsPlayed stack script p q said closing → AreBack (suc (length script.clients)) before after → logs after ≡ q.logs → ArePlayed stack script before after said closing
-played-back stack script before after p q said closing first end start unwritten run back final =
+-- what was known of the stack at the start
+start_is : (stack : Mount) (p : Knows) (ls : List (List Logged)) → p.logs ≡ ls → p.history ≡ [] → histories stack p ≡ record { logs = ls; names = unnamed stack }
+start_is stack p ls start blank = rw (start, blank) refl
+
+-- what was known at the end
+final_is : (stack : Mount) (q : Knows) (ls : List (List Logged)) (names : NamesSeen) → ls ≡ q.logs → names.began ≡ names_at_start stack → names.history ≡ q.history → histories stack q ≡ record { logs = ls; names = names }
+final_is stack q ls names final began history = rw (final, ← began, ← history) refl
+
+-- so do the towers and the names that came back
+pub played-back : (stack : Mount) (script : Script) (before after : List TowerSeen) (names : NamesSeen) (p q : Knows) (said : List (List Said)) (closing : List Reply) → p.first ≡ 0 → p.end ≡ suc (length script.clients) → p.logs ≡ logs before → p.history ≡ []
+    → AllByRecursion IsUnwritten before → IsPlayed stack script p q said closing → AreBack (suc (length script.clients)) before after → logs after ≡ q.logs
+    → AreNamesBack (suc (length script.clients)) (unnamed stack) names → names.history ≡ q.history → IsStory names.began names.history → ArePlayed stack script before after names said closing
+played-back stack script before after names p q said closing first end start blank unwritten run back final named names_final story =
     let closer : ℕ = length script.clients in
     record {
       fits = λ numbered.
-          subst (λ (ls : List (List Logged)). FitsScript stack script (logs before) ls said closing) (sym final)
-          (subst (λ (ls : List (List Logged)). FitsScript stack script ls q.logs said closing) start (run.fits (made-up-to closer before after q.logs back unwritten final numbered)));
+          let last : histories stack q ≡ record { logs = logs after; names = names } = final_is stack q (logs after) names final named.began names_final in
+          let begin : histories stack p ≡ record { logs = logs before; names = unnamed stack } = start_is stack p (logs before) start blank in
+          subst (λ (h : Histories). FitsScript stack script (record { logs = logs before; names = unnamed stack }) h said closing) last
+          (subst (λ (h : Histories). FitsScript stack script h (histories stack q) said closing) begin
+          (run.fits (subst (AreMadeUpTo closer) (sym last) (made-up-to closer before after names back unwritten numbered story (entries-up-to closer (unnamed stack) names refl named)))));
       answered = run.answered;
       closed = λ file t done there.
           closed-now (suc closer) closer t
@@ -133,12 +151,24 @@ played-back stack script before after p q said closing first end start unwritten
       closing_each = run.closing_each;
     }
 
+-- a name has a number below that of the names, if there is a name
+number-below : (names : List (List ℕ)) (name : List ℕ) → 0 < length names → number_in names name < length names
+number-below names name some = below_or (position (λ own. bytes_eq own name) names) refl
+  where
+  below_or : (o : Option ℕ) → position (λ own. bytes_eq own name) names ≡ o → number_in names name < length names
+  below_or None is = subst (λ (x : Option ℕ). unwrap_or x 0 < length names) (sym is) some
+  below_or (Some n) is = subst (λ (x : Option ℕ). unwrap_or x 0 < length names) (sym is) (position-lt names name n is)
+
+-- a stack has a machine
+pub some-machine : (stack : Mount) → IsMount stack → 0 < length stack.machines
+some-machine stack sound = let m = (sound.ground_node (record { name = []; kind = kinds.Disk; machine = 0; below = 0; frames = 0 })).machine in omega arith
+
 -- clients that were started are ready
-pub ready : (stack : Mount) (first : ℕ) (lines : List ClientLine) (workers : List Worker) → AreStarted stack first lines workers → AreReady stack first workers
-ready stack first lines [] h = tt
-ready stack first [] (w ∷ ws) h = absurd h
-ready stack first (l ∷ ls) (w ∷ ws) h =
-    (h.0.caller_is, subst (λ (s : ClientState). AllByRecursion (IsObject stack) s.objects) (sym h.0.state_is) tt, ready stack (suc first) ls ws h.1)
+pub ready : (stack : Mount) (first : ℕ) (lines : List ClientLine) (workers : List Worker) → 0 < length stack.machines → AreStarted stack first lines workers → AreReady stack first workers
+ready stack first lines [] some h = tt
+ready stack first [] (w ∷ ws) some h = absurd h
+ready stack first (l ∷ ls) (w ∷ ws) some h =
+    (h.0.caller_is, subst (λ (s : ClientState). IsOnMachine stack s) (sym h.0.state_is) (record { machine = number-below stack.machines l.machine some; objects = tt }), ready stack (suc first) ls ws some h.1)
 
 -- they have said nothing
 pub silent : (stack : Mount) (first : ℕ) (lines : List ClientLine) (workers : List Worker) → AreStarted stack first lines workers → AllByRecursion IsSilent workers

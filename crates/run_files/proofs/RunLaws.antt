@@ -12,7 +12,8 @@ use Rattle.stack_accept.specs.Mount.{Mount}
 use Rattle.stack_accept.specs.declared.entries.FileEntry.{FileEntry}
 use Rattle.run_defs.specs.declared.store.StoreKey.{StoreKey}
 use Rattle.run_defs.specs.Stack.{pages_of}
-use Rattle.run_defs.specs.Log.{log_at, EndsSynced}
+use Rattle.name_context.specs.History.{NamesSeen}
+use Rattle.run_defs.specs.Log.{Histories, log_of, EndsSynced}
 use Rattle.run_defs.specs.Fits.{FitsScript}
 use Rattle.spr_io.specs.Content.{Content, IsShaped}
 use Rattle.spr_io.specs.Berth.{Berth, BaySeen, taken}
@@ -177,7 +178,7 @@ file-left mount closer after closing k s n f fit closed =
     let over = f.opens.over in
     let run : EngineRun mount s.key d0 d1 e0 e1 = engine-run mount after k s n f in
     let file : s.key.file ≡ k = ap (λ (x : StoreKey). x.file) f.key in
-    let log : log_in e1 ≡ log_at (logs after) s.key.file = sym (log_at-tower after k f.t1 f.there1) ∙ ap (λ m. log_at (logs after) m) (sym file) in
+    let log : log_in e1 ≡ log_of (logs after) s.key.file = sym (log_at-tower after k f.t1 f.there1) ∙ ap (λ m. log_of (logs after) m) (sym file) in
     let rises : Rises s.state.faults n.state.faults (counts_of s.key.disk (log_in e1)) =
     rises-is d0.opened s.state.faults d1.faults n.state.faults d0.disk s.key.disk (log_in e1) (over.opened ∙ over.calm) (sym f.shut.faults) over.disk (rises-of mount s.key d0 d1 e0 e1 run) in
     let fits : IsShaped mount.page_size (blocks_of (image_shape mount s.key)) d0.content = subst (λ (o : Option Content). IsShaped mount.page_size (blocks_of (image_shape mount s.key)) o) (sym over.content) fit.told in
@@ -230,7 +231,7 @@ are-back mount closer before mid after towers towers_after olds news keys lost c
     }
 
 -- the log of a file
-of-file-at : (mount : Mount) (after : List TowerSeen) (k : ℕ) (s n : StoreSeen) → length mount.disks ≡ 1 → FileRun mount after k s n → IsOfFile mount k (log_at (logs after) k)
+of-file-at : (mount : Mount) (after : List TowerSeen) (k : ℕ) (s n : StoreSeen) → length mount.disks ≡ 1 → FileRun mount after k s n → IsOfFile mount k (log_of (logs after) k)
 of-file-at mount after k s n one f =
     let d0 : Disk = f.opens.disk in
     let d1 : Disk = f.shut.disk in
@@ -293,32 +294,32 @@ starts-are end (t ∷ ts) (u ∷ us) back none =
     ap (λ (l : List Logged). l ∷ logs ts) none.0 ∙ ap (λ (ls : List (List Logged)). start_of (log_in u.engine) ∷ ls) (starts-are end ts us back.1 none.1)
 
 -- the run of the files
-played-over : (mount : Mount) (script : Script) (before mid after : BaySeen) (towers towers_after : List TowerSeen) (olds news : List StoreSeen) (keys lost : List StoreKey) (said : List (List Said)) (closing : List Reply)
-    → IsTaken mount before mid keys olds → IsRunOver mount towers towers_after olds news → ArePlayed mount script towers towers_after said closing → AreGiven mount mid after news lost
-    → Played mount script before after (logs towers_after) said closing lost
-played-over mount script before mid after towers towers_after olds news keys lost said closing taken run played given =
+played-over : (mount : Mount) (script : Script) (before mid after : BaySeen) (towers towers_after : List TowerSeen) (names : NamesSeen) (olds news : List StoreSeen) (keys lost : List StoreKey) (said : List (List Said)) (closing : List Reply)
+    → IsTaken mount before mid keys olds → IsRunOver mount towers towers_after olds news → ArePlayed mount script towers towers_after names said closing → AreGiven mount mid after news lost
+    → Played mount script before after (record { logs = logs towers_after; names = names }) said closing lost
+played-over mount script before mid after towers towers_after names olds news keys lost said closing taken run played given =
     let unwritten = unwritten-opened mount olds towers run.opened in
     record {
       stores = subst (λ (ks : List StoreKey). AreBack mount before after ks lost (LeavesEach mount closing (logs towers_after))) run.keys
           (are-back mount (length script.clients) before mid after towers towers_after olds news keys lost closing taken run played.closed given);
       files = of-files mount (length script.clients) towers towers_after olds news closing run played.closing_each played.closed;
-      fits = subst (λ (ls : List (List Logged)). FitsScript mount script ls (logs towers_after) said closing) (starts-are run.end towers towers_after run.back unwritten) (played.fits (shut-numbered (keys_of olds) towers_after news run.shut));
+      fits = subst (λ (ls : List (List Logged)). FitsScript mount script (record { logs = ls; names = unnamed mount }) (record { logs = logs towers_after; names = names }) said closing) (starts-are run.end towers towers_after run.back unwritten) (played.fits (shut-numbered (keys_of olds) towers_after news run.shut));
       answered = played.answered;
     }
 
 -- the run, by what was written of it
-pub run-over : (mount : Mount) (script : Script) (traced : Option Ops) (before mid after : BaySeen) (towers towers_after : List TowerSeen) (olds news : List StoreSeen) (keys lost : List StoreKey) (said : List (List Said)) (closing : List Reply)
-    (ls : List (List Logged)) (old new : SinkSeen) (status result : Status) → IsTaken mount before mid keys olds → IsRunOver mount towers towers_after olds news → ArePlayed mount script towers towers_after said closing
-    → AreGiven mount mid after news lost → ls ≡ logs towers_after → status ≡ status_of said closing lost → Tells mount script traced ls said closing lost status old new result → Written (SaysRun mount script traced before after) old new result
-run-over mount script traced before mid after towers towers_after olds news keys lost said closing ls old new status result taken run played given is how tells =
-    let p = played-over mount script before mid after towers towers_after olds news keys lost said closing taken run played given in
+pub run-over : (mount : Mount) (script : Script) (traced : Option Ops) (before mid after : BaySeen) (towers towers_after : List TowerSeen) (names : NamesSeen) (olds news : List StoreSeen) (keys lost : List StoreKey) (said : List (List Said)) (closing : List Reply)
+    (ls : List (List Logged)) (old new : SinkSeen) (status result : Status) → IsTaken mount before mid keys olds → IsRunOver mount towers towers_after olds news → ArePlayed mount script towers towers_after names said closing
+    → AreGiven mount mid after news lost → ls ≡ logs towers_after → status ≡ status_of said closing lost → Tells mount script traced (record { logs = ls; names = names }) said closing lost status old new result → Written (SaysRun mount script traced before after) old new result
+run-over mount script traced before mid after towers towers_after names olds news keys lost said closing ls old new status result taken run played given is how tells =
+    let p = played-over mount script before mid after towers towers_after names olds news keys lost said closing taken run played given in
     ⊎_elim
     (λ done.
     record {
-      text = report mount script traced ls said closing lost;
+      text = report mount script traced ls names.history said closing lost;
       status = status;
-      says = reported (logs towers_after) said closing lost p (ap (λ (l : List (List Logged)). report mount script traced l said closing lost) is) how;
+      says = reported (record { logs = logs towers_after; names = names }) said closing lost p (ap (λ (l : List (List Logged)). report mount script traced l names.history said closing lost) is) how;
       ends = done;
     })
-    (λ lacked. record { text = lost_text mount lost; status = statuses.Memory; says = ran_out (logs towers_after) said closing lost p refl refl; ends = lacked })
+    (λ lacked. record { text = lost_text mount lost; status = statuses.Memory; says = ran_out (record { logs = logs towers_after; names = names }) said closing lost p refl refl; ends = lacked })
     tells

@@ -15,25 +15,27 @@ use Rattle.stack_accept.specs.declared.entries.FileEntry.{FileEntry}
 use Rattle.tower_log.specs.declared.logged.Logged.{Logged}
 use Rattle.tower_log.specs.declared.logged.Logged.TheVariants.{Entered, Noted}
 use Rattle.tower_log.specs.Log.{trail_of}
-use Rattle.run_defs.specs.Log.{items, items_from, log_at}
+use Rattle.name_context.specs.declared.entry.NameEntry.{NameEntry}
+use Rattle.name_context.specs.History.{NamesSeen, IsStory}
+use Rattle.run_defs.specs.Log.{Histories, items, items_from, log_of}
 use Rattle.run_defs.specs.Fits.{IsUpTo}
 use Rattle.stack_engine.specs.Engine.{log_in}
 use Rattle.stack_engine.specs.Tower.{TowerSeen}
 use Rattle.shared_tower.specs.Later.{IsLater}
 use Rattle.shared_tower.specs.Shared.{by}
-use Rattle.spr_volume.specs.Passes.{AreBack, IsBack, Knows, known, logs}
+use Rattle.spr_volume.specs.Passes.{AreBack, AreNamesBack, IsBack, Knows, known, logs}
 use Rattle.spr_client.specs.Calls.{AreFrames, AreOfStack, Frame, frame_of, frames}
 use Rattle.file_stores.proofs.Lists.{some-is, no-item}
 use Rattle.run_files.specs.Play.{AreMadeUpTo, IsUnwritten}
 
 -- the log of a tower
-pub log_at-tower : (ts : List TowerSeen) (k : ℕ) (t : TowerSeen) → slice_get ts k ≡ Some t → log_at (logs ts) k ≡ log_in t.engine
+pub log_at-tower : (ts : List TowerSeen) (k : ℕ) (t : TowerSeen) → slice_get ts k ≡ Some t → log_of (logs ts) k ≡ log_in t.engine
 log_at-tower ts k t there =
     ap (λ (o : Option (List Logged)). unwrap_or o []) (slice_get-map (λ (x : TowerSeen). log_in x.engine) ts k ∙ ap (λ (o : Option TowerSeen). option_map (λ (x : TowerSeen). log_in x.engine) o) there)
 
 -- what the pass of all callers knew of a tower at its end
 pub known-tower : (ts : List TowerSeen) (q : Knows) (k : ℕ) (t : TowerSeen) → logs ts ≡ q.logs → slice_get ts k ≡ Some t → known q k ≡ log_in t.engine
-known-tower ts q k t final there = ap (λ (ls : List (List Logged)). log_at ls k) (sym final) ∙ log_at-tower ts k t there
+known-tower ts q k t final there = ap (λ (ls : List (List Logged)). log_of ls k) (sym final) ∙ log_at-tower ts k t there
 
 pub same-number : (end : ℕ) (before after : List TowerSeen) → AreBack end before after → length after ≡ length before
 same-number end [] [] back = refl
@@ -107,6 +109,16 @@ logs-up-to last (t ∷ ts) [] back none = absurd back
 logs-up-to last (t ∷ ts) (u ∷ us) back none = (items-up-to last 0 (log_in u.engine) (made-of (suc last) t u none.0 back.0), logs-up-to last ts us back.1 none.1)
 
 -- all was done by callers up to the last
-pub made-up-to : (last : ℕ) (before after : List TowerSeen) (ls : List (List Logged)) → AreBack (suc last) before after → AllByRecursion IsUnwritten before → logs after ≡ ls
-    → AllByRecursion (λ log. IsNumbered (trail_of log)) (logs after) → AreMadeUpTo last ls
-made-up-to last before after ls back none final numbered = subst (AreMadeUpTo last) final (record { numbered = numbered; callers = logs-up-to last before after back none })
+pub made-up-to : (last : ℕ) (before after : List TowerSeen) (names : NamesSeen) → AreBack (suc last) before after → AllByRecursion IsUnwritten before
+    → AllByRecursion (λ log. IsNumbered (trail_of log)) (logs after) → IsStory names.began names.history → AllByRecursion (IsEntryUpTo last) names.history → AreMadeUpTo last (record { logs = logs after; names = names })
+made-up-to last before after names back none numbered story callers =
+    record { numbered = numbered; callers = logs-up-to last before after back none; story = story; name_callers = callers }
+
+entries-below : (last : ℕ) (entries : List NameEntry) → Each (λ (e : NameEntry). may_add 0 (suc last) (Some e.caller)) entries → AllByRecursion (IsEntryUpTo last) entries
+entries-below last [] h = tt
+entries-below last (e ∷ es) h = (within last (Some e.caller) h.0, entries-below last es h.1)
+
+-- the names that came back have entries of these callers alone, if they had none
+pub entries-up-to : (last : ℕ) (old new : NamesSeen) → old.history ≡ [] → AreNamesBack (suc last) old new → AllByRecursion (IsEntryUpTo last) new.history
+entries-up-to last old new none back =
+    subst (AllByRecursion (IsEntryUpTo last)) (sym (back.callers.whole ∙ ap (λ (h : List NameEntry). h ++ back.callers.more) none)) (entries-below last back.callers.more back.callers.callers)

@@ -13,30 +13,39 @@ use Rattle.tower_core.specs.Legal.{file_after}
 use Rattle.tower_log.specs.declared.logged.Logged.{Logged}
 use Rattle.tower_log.specs.Log.{trail_of}
 use Rattle.tower_shows.specs.Began.{ArePagesOf}
-use Rattle.run_defs.specs.Log.{EndsSynced, items}
-use Rattle.run_defs.specs.Fits.{FitsScript, EachAnswered, IsUpTo}
+use Rattle.name_context.specs.History.{NamesSeen, IsStory}
+use Rattle.stack_names.specs.Views.{names_at_start}
+use Rattle.run_defs.specs.Log.{EndsSynced, Histories, items}
+use Rattle.run_defs.specs.Fits.{FitsScript, EachAnswered, IsEntryUpTo, IsUpTo}
 use Rattle.stack_engine.specs.Engine.{EngineSeen, events_in, file_in, log_in, tree_in}
 use Rattle.stack_engine.specs.Opened.{IsOf}
 use Rattle.stack_engine.specs.Tower.{TowerSeen}
 use Rattle.shared_tower.specs.Later.{IsOnDisk}
-use Rattle.spr_volume.specs.Passes.{AreBack, Knows, known, logs, with_logs}
+use Rattle.spr_volume.specs.Passes.{AreBack, Knows, as_known, known, logs}
+use Rattle.spr_client.specs.Calls.{histories}
 use Rattle.run_phases.specs.Closing.{EndsQuietly}
 
 -- nothing was logged yet
 abbrev pub IsUnwritten : TowerSeen → Type 0
 IsUnwritten t = log_in t.engine ≡ []
 
--- each log was made by callers up to this one, and numbers their events
-pub record AreMadeUpTo (last : ℕ) (logs : List (List Logged)) : Type 0 where
-  pub numbered : AllByRecursion (λ log. IsNumbered (trail_of log)) logs
-  pub callers : AllByRecursion (λ log. AllByRecursion (IsUpTo last) (items log)) logs
+-- each log and the names' history was made by callers up to this one, and numbers what they did
+pub record AreMadeUpTo (last : ℕ) (h : Histories) : Type 0 where
+  pub numbered : AllByRecursion (λ log. IsNumbered (trail_of log)) h.logs
+  pub callers : AllByRecursion (λ log. AllByRecursion (IsUpTo last) (items log)) h.logs
+  pub story : IsStory h.names.began h.names.history
+  pub name_callers : AllByRecursion (IsEntryUpTo last) h.names.history
+
+-- the names of a stack before any call
+abbrev pub unnamed : Mount → NamesSeen
+unnamed mount = record { began = names_at_start mount; history = [] }
 
 -- THE PHASES AND THE CLOSING SYNCS, by what the pass of all callers knew before them and knows after them: what it knows fits the
 -- script, if nobody else did anything; each line has its answer; and a file whose closing sync is done has nothing of the callers
 -- behind the place that the sync is from
 pub record IsPlayed (mount : Mount) (script : Script) (p q : Knows) (said : List (List Said)) (closing : List Reply) : Type 0 where
-  pub pass : q ≡ with_logs p q.logs
-  pub fits : AreMadeUpTo (length script.clients) q.logs → FitsScript mount script p.logs q.logs said closing
+  pub pass : q ≡ as_known p q
+  pub fits : AreMadeUpTo (length script.clients) (histories mount q) → FitsScript mount script (histories mount p) (histories mount q) said closing
   pub answered : EachAnswered script said
   pub closed : (file : ℕ) → slice_get closing file ≡ Some Done → EndsQuietly p.first p.end (length script.clients) (known q file)
   pub said_each : length said ≡ length script.clients
@@ -54,8 +63,8 @@ pub record IsClosed (caller : ℕ) (t : TowerSeen) : Type 0 where
   pub now : KeepsNow t.engine
 
 -- the logs and the answers fit the script, each line has its answer, and a file whose closing sync is done is closed
-pub record ArePlayed (mount : Mount) (script : Script) (before after : List TowerSeen) (said : List (List Said)) (closing : List Reply) : Type 0 where
-  pub fits : AllByRecursion (λ log. IsNumbered (trail_of log)) (logs after) → FitsScript mount script (logs before) (logs after) said closing
+pub record ArePlayed (mount : Mount) (script : Script) (before after : List TowerSeen) (names : NamesSeen) (said : List (List Said)) (closing : List Reply) : Type 0 where
+  pub fits : AllByRecursion (λ log. IsNumbered (trail_of log)) (logs after) → FitsScript mount script (record { logs = logs before; names = unnamed mount }) (record { logs = logs after; names = names }) said closing
   pub answered : EachAnswered script said
   pub closed : (file : ℕ) (t : TowerSeen) → slice_get closing file ≡ Some Done → slice_get after file ≡ Some t → IsClosed (length script.clients) t
   pub later : AreBack (suc (length script.clients)) before after

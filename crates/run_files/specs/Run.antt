@@ -20,7 +20,8 @@ use Rattle.tower_shows.specs.Since.{AreSince}
 use Rattle.stack_engine.specs.Opened.{AreAnswers, last_from}
 use Rattle.run_defs.specs.declared.store.StoreKey.{StoreKey}
 use Rattle.run_defs.specs.Stack.{pages_of}
-use Rattle.run_defs.specs.Log.{log_at, EndsSynced}
+use Rattle.stack_names.specs.Views.{names_at_start}
+use Rattle.run_defs.specs.Log.{Histories, log_of, EndsSynced}
 use Rattle.run_defs.specs.Fits.{FitsScript, EachAnswered}
 use Rattle.spr_io.specs.Content.{Content}
 use Rattle.spr_io.specs.Berth.{BaySeen, taken}
@@ -56,8 +57,8 @@ pub record IsOfFile (mount : Mount) (file : ℕ) (log : List Logged) : Type 0 wh
 -- the files' logs, one for each; one whose closing sync is done ends with it
 pub record AreOfFiles (mount : Mount) (closer : ℕ) (closing : List Reply) (logs : List (List Logged)) : Type 0 where
   pub number : length logs ≡ length mount.files
-  pub each : (file : ℕ) → file < length mount.files → IsOfFile mount file (log_at logs file)
-  pub ended : (file : ℕ) → slice_get closing file ≡ Some replies.Done → EndsSynced closer (trail_of (log_at logs file))
+  pub each : (file : ℕ) → file < length mount.files → IsOfFile mount file (log_of logs file)
+  pub ended : (file : ℕ) → slice_get closing file ≡ Some replies.Done → EndsSynced closer (trail_of (log_of logs file))
 
 -- blocks are an image of this shape, of whose pages this holds
 abbrev pub StandFor : ImageShape → (List (List ℕ) → Type 0) → List (List ℕ) → Type 0
@@ -110,7 +111,7 @@ pub record Leaves (mount : Mount) (closing : List Reply) (log : List Logged) (ke
 
 -- what became of each store, by the log of its file
 abbrev pub LeavesEach : Mount → List Reply → List (List Logged) → StoreKey → StoreState → StoreState → Type 0
-LeavesEach mount closing logs key old new = Leaves mount closing (log_at logs key.file) key old new
+LeavesEach mount closing logs key old new = Leaves mount closing (log_of logs key.file) key old new
 
 -- A store was taken, with what became of it, and came back, or is lost. Its count of faults never falls.
 pub record CameBack (mount : Mount) (before after : BaySeen) (key : StoreKey) (gone : Bool) (Becomes : StoreState → StoreState → Type 0) : Type 0 where
@@ -133,12 +134,16 @@ pub record AreBack (mount : Mount) (before after : BaySeen) (keys gone : List St
 abbrev pub start_of : List Logged → List Logged
 start_of log = []
 
--- The script was run over the files: these are their logs, the clients' answers and those of the closing syncs; and these stores
--- were lost.
-pub record Played (mount : Mount) (script : Script) (before after : BaySeen) (logs : List (List Logged)) (said : List (List Said)) (closing : List Reply) (lost : List StoreKey) : Type 0 where
-  pub stores : AreBack mount before after (stores_of mount) lost (LeavesEach mount closing logs)
-  pub files : AreOfFiles mount (length script.clients) closing logs
-  pub fits : FitsScript mount script (map start_of logs) logs said closing
+-- what a run had done before its first phase: nothing, and the names are those of the stack
+abbrev pub before_all : Mount → Histories → Histories
+before_all mount h = record { logs = map start_of h.logs; names = record { began = names_at_start mount; history = [] } }
+
+-- The script was run over the files: these are their logs and the history of the names, the clients' answers and those of the closing
+-- syncs; and these stores were lost.
+pub record Played (mount : Mount) (script : Script) (before after : BaySeen) (h : Histories) (said : List (List Said)) (closing : List Reply) (lost : List StoreKey) : Type 0 where
+  pub stores : AreBack mount before after (stores_of mount) lost (LeavesEach mount closing h.logs)
+  pub files : AreOfFiles mount (length script.clients) closing h.logs
+  pub fits : FitsScript mount script (before_all mount h) h said closing
   pub answered : EachAnswered script said
 
 -- The ways in which a run ends over the files, each with its text and status: the stores could not be taken or opened; the
@@ -147,7 +152,7 @@ pub record Played (mount : Mount) (script : Script) (before after : BaySeen) (lo
 pub data SaysRun (mount : Mount) (script : Script) (traced : Option Ops) (before after : BaySeen) (text : List ℕ) (status : Status) : Type 0 where
   stopped : (stop : Stop) (lost : List StoreKey) → Stops mount before after (stores_of mount) lost stop
       → text ≡ stop_text mount stop lost → status ≡ stop_status stop → SaysRun mount script traced before after text status
-  reported : (logs : List (List Logged)) (said : List (List Said)) (closing : List Reply) (lost : List StoreKey) → Played mount script before after logs said closing lost
-      → text ≡ report mount script traced logs said closing lost → status ≡ status_of said closing lost → SaysRun mount script traced before after text status
-  ran_out : (logs : List (List Logged)) (said : List (List Said)) (closing : List Reply) (lost : List StoreKey) → Played mount script before after logs said closing lost
+  reported : (h : Histories) (said : List (List Said)) (closing : List Reply) (lost : List StoreKey) → Played mount script before after h said closing lost
+      → text ≡ report mount script traced h.logs h.names.history said closing lost → status ≡ status_of said closing lost → SaysRun mount script traced before after text status
+  ran_out : (h : Histories) (said : List (List Said)) (closing : List Reply) (lost : List StoreKey) → Played mount script before after h said closing lost
       → text ≡ lost_text mount lost → status ≡ statuses.Memory → SaysRun mount script traced before after text status

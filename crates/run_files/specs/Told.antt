@@ -6,7 +6,7 @@ use Rattle.script_text.specs.declared.script.Reply.{Reply}
 use Rattle.stack_accept.specs.Mount.{Mount}
 use Rattle.run_defs.specs.declared.store.StoreKey.{StoreKey}
 use Rattle.pager_channel.specs.declared.numbers.Ops.{Ops}
-use Rattle.tower_log.specs.declared.logged.Logged.{Logged}
+use Rattle.run_defs.specs.Log.{Histories}
 use Rattle.spr_report.specs.Report.{report}
 use Rattle.spr_io.specs.Berth.{BaySeen}
 use Rattle.spr_io.specs.Texts.{SinkSeen}
@@ -18,9 +18,9 @@ use Rattle.file_stores.specs.Stop.{lost_text, stop_text, stop_status}
 use Rattle.file_stores.specs.Stops.{Stops}
 
 -- the report and the status were written, or, if memory ran out for the report, a line for each store that is lost
-abbrev pub Tells : Mount → Script → Option Ops → List (List Logged) → List (List Said) → List Reply → List StoreKey → Status → SinkSeen → SinkSeen → Status → Type 0
-Tells mount script traced logs said closing lost status before after result =
-    Finishes before after (report mount script traced logs said closing lost) status result
+abbrev pub Tells : Mount → Script → Option Ops → Histories → List (List Said) → List Reply → List StoreKey → Status → SinkSeen → SinkSeen → Status → Type 0
+Tells mount script traced h said closing lost status before after result =
+    Finishes before after (report mount script traced h.logs h.names.history said closing lost) status result
     ⊎ Finishes before after (lost_text mount lost) statuses.Memory result
 
 -- the stores could not all be taken or opened, and this is the text and the status

@@ -5,13 +5,15 @@ ghost use Rattle.std.specs.List.{AllByRecursion};
 ghost use Rattle.script_text.specs.Grammar.{IsScript};
 ghost use Rattle.file_stores.specs.Held.{IsRoom};
 ghost use Rattle.spr_volume.specs.Passes.{IsOf};
-ghost use Rattle.spr_client.specs.Calls.{AreOfStack};
+ghost use Rattle.spr_client.specs.Calls.{AreOfStack, IsOfStack};
 ghost use Rattle.spr_client.specs.Lines.{AreCalls};
 ghost use Rattle.run_files.specs.Play.{IsPlayed, IsUnwritten, ArePlayed};
 ghost use Rattle.run_files.specs.Room.{HasAnswerRoom};
 
 use crate::room::Asked;
 use disk_layer::Ground;
+use name_context::Names;
+use pager_channel::Ops;
 use run_phases::{Worker, close_files, run_phases};
 use script_text::{Reply, Said, Script};
 use spr_client::Common;
@@ -19,6 +21,7 @@ use spr_io::Gate;
 use spr_volume::{Pass, Volume};
 use stack_accept::Mounted;
 use stack_engine::Tower;
+use stack_names::start_names;
 use std::alloc::Global;
 use std::sync::Wait;
 use std::thread::Threads;
@@ -53,8 +56,8 @@ fn play_over<R: Threads + Wait + Sync, G: Ground + Send, T: Gate>(
     asked: Asked,
 ) -> (Pass<G>, Answers)
     requires script { IsScript script.now }
-    requires calls { AllByRecursion AreCalls script.now.phases }
-    requires towers { AreOfStack common.now.mount.now common.now.volume.now.towers }
+    requires calls { AllByRecursion (AreCalls common.now.mount.now) script.now.phases }
+    requires stack { IsOfStack common.now.mount.now common.now.volume.now }
     requires pass { IsOf common.now.volume.now pass }
     requires all { (pass.first ≡ 0) × (pass.end ≡ suc (length script.now.clients)) }
     requires room { HasAnswerRoom common.now.mount.now script.now asked }
@@ -65,6 +68,8 @@ fn play_over<R: Threads + Wait + Sync, G: Ground + Send, T: Gate>(
         mut said,
         mut closing,
     } = asked;
+    // The proof reads here that the stack has a machine.
+    let _nodes = common.mount.nodes();
     let closer = script.clients.as_slice().len() as u32;
     let (mut pass, clients) = run_phases(
         rt,
@@ -79,32 +84,43 @@ fn play_over<R: Threads + Wait + Sync, G: Ground + Send, T: Gate>(
     (pass, Answers { said, closing })
 }
 
-/// Runs a script over the files: its clients phase by phase, each on a thread of its own, and then the closing syncs. The room for the
-/// answers is there. For want of memory all towers are handed back, and nothing was run.
+/// Runs a script over the files and the names of a stack: its clients phase by phase, each on a thread of its own, and then the closing
+/// syncs. The room for the answers is there. For want of memory all towers are handed back, and nothing was run.
 pub(crate) fn play<R: Threads + Wait + Sync, G: Ground + Send, T: Gate>(
     rt: &R,
     alloc: Global,
     mount: &Mounted,
     script: &Script,
+    ops: &Ops,
     towers: Vec<Tower<G>>,
     asked: Asked,
     gate: &T,
-) -> Result<(Vec<Tower<G>>, Answers), Vec<Tower<G>>>
+) -> Result<(Vec<Tower<G>>, Names, Answers), Vec<Tower<G>>>
     requires script { IsScript script.now }
-    requires calls { AllByRecursion AreCalls script.now.phases }
+    requires calls { AllByRecursion (AreCalls mount.now) script.now.phases }
     requires towers { AreOfStack mount.now towers.items }
     requires unwritten { AllByRecursion IsUnwritten towers.items }
     requires room { HasAnswerRoom mount.now script.now asked }
-    ensures played { IfOk result (λ r. ArePlayed mount.now script.now towers.items r.0.items (map (λ v. v.items) r.1.said.items) r.1.closing.items) }
+    ensures played { IfOk result (λ r. ArePlayed mount.now script.now towers.items r.0.items r.1 (map (λ v. v.items) r.2.said.items) r.2.closing.items) }
     ensures back { IfErr result (λ back. back.items ≡ towers.items) }
 {
     let callers = script.clients.as_slice().len() as u32 + 1;
-    let (volume, pass) = Volume::mount(alloc, towers, callers)?;
+    let Ok(names) = start_names(alloc, mount) else {
+        return Err(towers);
+    };
+    let (volume, pass) = match Volume::mount(alloc, towers, names, callers) {
+        Ok(mounted) => mounted,
+        Err((towers, _names)) => return Err(towers),
+    };
     let common = Common {
         volume: &volume,
         mount,
+        ops,
         gate,
     };
     let (pass, answers) = play_over(rt, alloc, &common, pass, script, asked);
-    Ok((volume.unmount(pass), answers))
+    let (towers, names) = volume.unmount(pass);
+    // The proof reads here that the names' history explains itself.
+    names.sound();
+    Ok((towers, names, answers))
 }

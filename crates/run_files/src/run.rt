@@ -23,6 +23,7 @@ use crate::held::{close_towers, open_files};
 use crate::play::{Answers, play};
 use crate::room::{Asked, Files, Shelves, room_for_answers, room_for_stores};
 use file_stores::{Stop, finish_lost, give_back, put_behind, stopped, take_stores};
+use name_context::Names;
 use pager_channel::Ops;
 use script_text::Script;
 use spr_io::{Bay, Gate, Sink};
@@ -57,7 +58,7 @@ fn tell<K: Sink>(alloc: Global, run: &Run<'_>, status: Status, sink: &mut K) -> 
     requires logs { AreReported run.now.mount.now run.now.mount.now.files (map (λ t. t.log) run.now.logs.now) }
     requires said { length run.now.said.now ≡ length run.now.script.now.clients }
     requires closing { length run.now.closing.now ≡ length run.now.mount.now.files }
-    ensures { Tells run.now.mount.now run.now.script.now run.now.traced (map (λ t. t.log) run.now.logs.now) (map (λ v. v.items) run.now.said.now) run.now.closing.now run.now.lost.now status (K.told sink.old) (K.told sink.new) result }
+    ensures { Tells run.now.mount.now run.now.script.now run.now.traced (record { logs = map (λ t. t.log) run.now.logs.now; names = run.now.names.now }) (map (λ v. v.items) run.now.said.now) run.now.closing.now run.now.lost.now status (K.told sink.old) (K.told sink.new) result }
 {
     match report(alloc, run) {
         Ok(text) => finish(sink, &[&text], status),
@@ -72,6 +73,7 @@ fn end_run<B: Bay, K: Sink>(
     bay: &mut B,
     sink: &mut K,
     files: Files<B::Store>,
+    names: Names,
     answers: Answers,
 ) -> Status
     requires built { IsBuilt given.now.mount.now }
@@ -84,7 +86,7 @@ fn end_run<B: Bay, K: Sink>(
     requires trails { IsRoom (length files.keys.items) files.trails }
     requires lost { IsRoom (length files.keys.items) files.lost }
     ensures ended { (before : BaySeen) (stores : List StoreSeen) (begun : List TowerSeen) → IsTaken given.now.mount.now before (B.told bay.old) files.keys.items stores → OpensEach given.now.mount.now stores begun
-        → ArePlayed given.now.mount.now given.now.script.now begun files.towers.items (map (λ v. v.items) answers.said.items) answers.closing.items
+        → ArePlayed given.now.mount.now given.now.script.now begun files.towers.items names (map (λ v. v.items) answers.said.items) answers.closing.items
         → Written (SaysRun given.now.mount.now given.now.script.now (traced_by given.now.ops.now given.now.trace) before (B.told bay.new)) (K.told sink.old) (K.told sink.new) result }
 {
     let Files {
@@ -101,6 +103,7 @@ fn end_run<B: Bay, K: Sink>(
         mount: given.mount,
         script: given.script,
         logs: &trails,
+        names: &names,
         traced: traced_by(given.ops, given.trace),
         said: &answers.said,
         closing: &answers.closing,
@@ -155,7 +158,7 @@ fn run_open<R: Threads + Wait + Sync, B: Bay, K: Sink, T: Gate>(
 ) -> Status
     requires built { IsBuilt given.now.mount.now }
     requires script { IsScript given.now.script.now }
-    requires calls { AllByRecursion AreCalls given.now.script.now.phases }
+    requires calls { AllByRecursion (AreCalls given.now.mount.now) given.now.script.now.phases }
     requires answers { HasAnswerRoom given.now.mount.now given.now.script.now asked }
     requires keys { files.keys.items ≡ stores_of given.now.mount.now }
     requires stores { AreStores given.now.mount.now files.keys.items }
@@ -176,8 +179,17 @@ fn run_open<R: Threads + Wait + Sync, B: Bay, K: Sink, T: Gate>(
         trails,
         lost,
     } = files;
-    match play(rt, alloc, given.mount, given.script, towers, asked, gate) {
-        Ok((towers, answers)) => {
+    match play(
+        rt,
+        alloc,
+        given.mount,
+        given.script,
+        given.ops,
+        towers,
+        asked,
+        gate,
+    ) {
+        Ok((towers, names, answers)) => {
             let files = Files {
                 keys,
                 towers,
@@ -186,7 +198,7 @@ fn run_open<R: Threads + Wait + Sync, B: Bay, K: Sink, T: Gate>(
                 trails,
                 lost,
             };
-            end_run(alloc, given, bay, sink, files, answers)
+            end_run(alloc, given, bay, sink, files, names, answers)
         }
         Err(towers) => {
             let files = Files {
@@ -215,7 +227,7 @@ fn run_taken<R: Threads + Wait + Sync, B: Bay, K: Sink, T: Gate>(
 ) -> Status
     requires built { IsBuilt given.now.mount.now }
     requires script { IsScript given.now.script.now }
-    requires calls { AllByRecursion AreCalls given.now.script.now.phases }
+    requires calls { AllByRecursion (AreCalls given.now.mount.now) given.now.script.now.phases }
     requires answers { HasAnswerRoom given.now.mount.now given.now.script.now asked }
     requires keys { shelves.files.keys.items ≡ stores_of given.now.mount.now }
     requires stores { AreStores given.now.mount.now shelves.files.keys.items }
@@ -255,7 +267,7 @@ fn run_all<R: Threads + Wait + Sync, B: Bay, K: Sink, T: Gate>(
 ) -> Status
     requires built { IsBuilt given.now.mount.now }
     requires script { IsScript given.now.script.now }
-    requires calls { AllByRecursion AreCalls given.now.script.now.phases }
+    requires calls { AllByRecursion (AreCalls given.now.mount.now) given.now.script.now.phases }
     requires answers { HasAnswerRoom given.now.mount.now given.now.script.now asked }
     requires keys { shelves.files.keys.items ≡ stores_of given.now.mount.now }
     requires stores { AreStores given.now.mount.now shelves.files.keys.items }
@@ -296,7 +308,7 @@ pub fn run_files<R: Threads + Wait + Sync, B: Bay, K: Sink, T: Gate>(
 ) -> Status
     requires built { IsBuilt mount.now }
     requires script { IsScript script.now }
-    requires calls { AllByRecursion AreCalls script.now.phases }
+    requires calls { AllByRecursion (AreCalls mount.now) script.now.phases }
     ensures says { Written (SaysRun mount.now script.now (traced_by ops.now trace) (B.told bay.old) (B.told bay.new)) (K.told sink.old) (K.told sink.new) result }
 {
     let Ok(asked) = room_for_answers(alloc, mount, script) else {

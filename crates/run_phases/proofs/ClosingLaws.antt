@@ -9,7 +9,6 @@ use Rattle.hist_plain.specs.declared.event.Event.{Event}
 use Rattle.hist_plain.specs.declared.event.Keep.{Keep}
 use Rattle.script_text.specs.declared.script.Reply.{Reply}
 use Rattle.script_text.specs.declared.script.Reply.TheVariants as replies
-use Rattle.tower_log.specs.declared.logged.Logged.{Logged}
 use Rattle.tower_log.specs.Log.{trail_of}
 use Rattle.tower_core.specs.TreeShape.{TreeShape}
 use Rattle.stack_engine.specs.declared.refusal.StepErr.{StepErr}
@@ -17,15 +16,16 @@ use Rattle.stack_engine.specs.declared.refusal.StepErr.TheVariants.{StoreFault, 
 use Rattle.stack_accept.specs.Mount.{Mount}
 use Rattle.stack_accept.specs.Sound.{IsMount}
 use Rattle.stack_accept.specs.declared.entries.FileEntry.{FileEntry}
-use Rattle.run_defs.specs.declared.client.ClientState.{ClientState}
+use Rattle.tower_log.specs.declared.logged.Logged.{Logged}
+use Rattle.client_objects.specs.declared.state.ClientState.{ClientState}
 use Rattle.run_defs.specs.Log.{IsFull}
 use Rattle.run_defs.specs.Plan.{Made, Goes, asking, sync}
 use Rattle.run_defs.specs.Fits.{Line, Closes, no_client, plan_closing}
 use Rattle.run_defs.proofs.Logs.{trail_of-append}
 use Rattle.run_defs.proofs.Parts.{did_nothing, did_then, full_later, goes_later}
-use Rattle.spr_volume.specs.declared.answered.Answered.{Answered}
-use Rattle.spr_volume.specs.Passes.{Files, Knows, known, with_logs}
-use Rattle.spr_client.specs.Calls.{CallDone, MayCall, refusal_of}
+use Rattle.shared_files.specs.declared.answered.Answered.{Answered}
+use Rattle.spr_volume.specs.Passes.{VolumeSeen, Knows, known, as_known}
+use Rattle.spr_client.specs.Calls.{CallDone, MayCall, histories, refusal_of}
 use Rattle.spr_client.specs.Lines.{LineDone}
 use Rattle.run_phases.specs.Closing.{EndsQuietly, FilesClosed}
 
@@ -101,9 +101,9 @@ pub closed-none : (mount : Mount) (closer : ℕ) (p : Knows) → FilesClosed mou
 closed-none mount closer p = record {
   pass = refl;
   made = [];
-  did = did_nothing closer p.logs p.logs refl;
+  did = did_nothing closer (histories mount p) (histories mount p) refl;
   closes = (refl, refl);
-  others = λ other ne low high. did_nothing other p.logs p.logs refl;
+  others = λ other ne low high. did_nothing other (histories mount p) (histories mount p) refl;
   closed = λ file none. absurd (no-reply file none);
 }
 
@@ -114,13 +114,13 @@ closed-next : (mount : Mount) (closer i : ℕ) (files : List FileEntry) (entry :
     → FilesClosed mount closer (files ++ entry ∷ []) (said ++ reply ∷ []) old new
 closed-next mount closer i files entry said reply old mid new len_files len_said so done closed stays =
     record {
-      pass = done.pass ∙ ap (λ (p : Knows). with_logs p new.logs) so.pass;
+      pass = done.pass ∙ ap (λ (p : Knows). as_known p new) so.pass;
       made = so.made ++ done.went.made;
-      did = did_then closer old.logs mid.logs new.logs so.made done.went.made so.did done.went.did;
-      closes = closes-more (IsFull new.logs) closer 0 files entry so.made done.went.made said reply no_client
-          (closes-later (IsFull mid.logs) (IsFull new.logs) (full_later mid.logs new.logs done.went.did.later) closer 0 files so.made said so.closes)
-          (subst (λ n. Goes (IsFull new.logs) closer (plan_closing n) done.went.made reply no_client) (omega arith) (goes-closing (IsFull new.logs) closer i done.went.made reply no_client done.went.goes));
-      others = λ other ne low high. did_then other old.logs mid.logs new.logs [] [] (so.others other ne low high)
+      did = did_then closer (histories mount old) (histories mount mid) (histories mount new) so.made done.went.made so.did done.went.did;
+      closes = closes-more (IsFull (histories mount new)) closer 0 files entry so.made done.went.made said reply no_client
+          (closes-later (IsFull (histories mount mid)) (IsFull (histories mount new)) (full_later (histories mount mid) (histories mount new) done.went.did.later) closer 0 files so.made said so.closes)
+          (subst (λ n. Goes (IsFull (histories mount new)) closer (plan_closing n) done.went.made reply no_client) (omega arith) (goes-closing (IsFull (histories mount new)) closer i done.went.made reply no_client done.went.goes));
+      others = λ other ne low high. did_then other (histories mount old) (histories mount mid) (histories mount new) [] [] (so.others other ne low high)
           (done.others other ne (subst (λ (p : Knows). p.first ≤ other) (sym so.pass) low) (subst (λ (p : Knows). other < p.end) (sym so.pass) high));
       closed = λ file is. dite (ℕ_discrete file i)
           (λ same.
@@ -152,8 +152,8 @@ pub replies-len : (said said' : List Reply) (reply : Reply) (i : ℕ) → length
 replies-len said said' reply i len pushed = ap length pushed ∙ (length-append said (reply ∷ []) ∙ ap (λ n. n + 1) len)
 
 -- the caller of a pass may call still
-pub may-still : (mount : Mount) (v : Files) (closer : ℕ) (old new : Knows) → new ≡ with_logs old new.logs → MayCall mount v old closer → MayCall mount v new closer
-may-still mount v closer old new is may = subst (λ (p : Knows). MayCall mount v p closer) (sym is) (record { towers = may.towers; of = may.of; first = may.first; last = may.last })
+pub may-still : (mount : Mount) (v : VolumeSeen) (closer : ℕ) (old new : Knows) → new ≡ as_known old new → MayCall mount v old closer → MayCall mount v new closer
+may-still mount v closer old new is may = subst (λ (p : Knows). MayCall mount v p closer) (sym is) (record { stack = may.stack; of = may.of; first = may.first; last = may.last })
 
 -- there is a layer that stands on the ground
 pub layer-above : (mount : Mount) → IsMount mount → 1 < length mount.tree.parents

@@ -5,11 +5,11 @@ use Rattle.std.specs.List.{AllByRecursion, flat_map}
 use Rattle.script_text.specs.declared.script.CallLine.{CallLine}
 use Rattle.script_text.specs.declared.script.Said.{Said}
 use Rattle.stack_accept.specs.Mount.{Mount}
-use Rattle.tower_log.specs.declared.logged.Logged.{Logged}
-use Rattle.run_defs.specs.Log.{log_at}
-use Rattle.run_defs.specs.Fits.{Acts, GoesOn, IsAnswered, Worked, last_cut, lines_of}
+use Rattle.run_defs.specs.Log.{Histories}
+use Rattle.spr_client.specs.Calls.{histories}
+use Rattle.run_defs.specs.Fits.{Acts, AllGoOn, IsAnswered, Worked, last_cut, lines_of}
 use Rattle.run_defs.proofs.Parts.{acts_more, answered_more, did_nothing, did_then, in_order_more, last_cut-more}
-use Rattle.spr_volume.specs.Passes.{Files, Knows, with_logs}
+use Rattle.spr_volume.specs.Passes.{VolumeSeen, Knows, as_known}
 use Rattle.spr_client.specs.Lines.{AreCalls}
 use Rattle.run_phases.specs.declared.parts.Part.{Part}
 use Rattle.run_phases.specs.declared.worker.Worker.{Worker}
@@ -18,14 +18,14 @@ use Rattle.run_phases.specs.Parts.{MayRun, PartDone}
 use Rattle.run_phases.specs.Phases.{ClientDone, ClientsDone, EachDone, IsReady, PhaseDone, PhasesDone}
 use Rattle.run_phases.proofs.PartLaws.{each-len}
 
-clients-none : (mount : Mount) (start : List (List Logged)) (ws : List Worker) → AllByRecursion IsSilent ws → ClientsDone mount [] start [] ws ws
+clients-none : (mount : Mount) (start : Histories) (ws : List Worker) → AllByRecursion IsSilent ws → ClientsDone mount [] start [] ws ws
 clients-none mount start [] silent = tt
 clients-none mount start (w ∷ ws) silent = (
   record { caller_same = refl; room_same = refl; acts = (silent.0, refl); answered = ap (map (λ (s : Said). s.line)) silent.0 },
   clients-none mount start ws silent.1,
 )
 
-clients-len : (mount : Mount) (phases : List (List CallLine)) (start : List (List Logged)) (cuts : List (List (List Logged))) (ws ns : List Worker) → ClientsDone mount phases start cuts ws ns → length ns ≡ length ws
+clients-len : (mount : Mount) (phases : List (List CallLine)) (start : Histories) (cuts : List Histories) (ws ns : List Worker) → ClientsDone mount phases start cuts ws ns → length ns ≡ length ws
 clients-len mount phases start cuts [] [] done = refl
 clients-len mount phases start cuts [] (n ∷ ns) done = absurd done
 clients-len mount phases start cuts (w ∷ ws) [] done = absurd done
@@ -39,11 +39,11 @@ phases-none mount first ws p silent = record {
   cut_each = refl;
   in_order = tt;
   last = refl;
-  each = clients-none mount p.logs ws silent;
-  others = λ other low high out. did_nothing other p.logs p.logs refl;
+  each = clients-none mount (histories mount p) ws silent;
+  others = λ other low high out. did_nothing other (histories mount p) (histories mount p) refl;
 }
 
-module _ (mount : Mount) (phases : List (List CallLine)) (phase : List CallLine) (start : List (List Logged)) (cuts : List (List (List Logged))) (before after : List (List Logged)) (last : before ≡ last_cut start cuts) where
+module _ (mount : Mount) (phases : List (List CallLine)) (phase : List CallLine) (start : Histories) (cuts : List Histories) (before after : Histories) (last : before ≡ last_cut start cuts) where
   clients-next : (ws ns us : List Worker) → ClientsDone mount phases start cuts ws ns → EachDone mount phase before after ns us → ClientsDone mount (phases ++ phase ∷ []) start (cuts ++ after ∷ []) ws us
   clients-next [] [] [] done each = tt
   clients-next [] [] (u ∷ us) done each = absurd each
@@ -72,16 +72,16 @@ pub phases-next : (mount : Mount) (phases : List (List CallLine)) (phase : List 
 phases-next mount phases phase first ws ns us p q r so one =
     let first_is : q.first ≡ p.first = ap (λ (k : Knows). k.first) so.pass in
     let end_is : q.end ≡ p.end = ap (λ (k : Knows). k.end) so.pass in
-    let len = clients-len mount phases p.logs so.cuts ws ns so.each in
+    let len = clients-len mount phases (histories mount p) so.cuts ws ns so.each in
     record {
-      pass = one.pass ∙ ap (λ (k : Knows). with_logs k r.logs) so.pass;
-      cuts = so.cuts ++ r.logs ∷ [];
-      cut_each = length-append so.cuts (r.logs ∷ []) ∙ (ap (λ n. n + 1) so.cut_each ∙ sym (length-append phases (phase ∷ [])));
-      in_order = in_order_more p.logs so.cuts (last_cut p.logs so.cuts) r.logs so.in_order refl
-          (λ file. subst (λ (hs : List (List Logged)). GoesOn (log_at hs file) (log_at r.logs file)) so.last (one.later file));
-      last = last_cut-more p.logs so.cuts r.logs;
-      each = clients-next mount phases phase p.logs so.cuts q.logs r.logs so.last ws ns us so.each one.each;
-      others = λ other low high out. did_then other p.logs q.logs r.logs [] [] (so.others other low high out)
+      pass = one.pass ∙ ap (λ (k : Knows). as_known k r) so.pass;
+      cuts = so.cuts ++ (histories mount r) ∷ [];
+      cut_each = length-append so.cuts ((histories mount r) ∷ []) ∙ (ap (λ n. n + 1) so.cut_each ∙ sym (length-append phases (phase ∷ [])));
+      in_order = in_order_more (histories mount p) so.cuts (last_cut (histories mount p) so.cuts) (histories mount r) so.in_order refl
+          (subst (λ (hs : Histories). AllGoOn hs (histories mount r)) so.last one.later);
+      last = last_cut-more (histories mount p) so.cuts (histories mount r);
+      each = clients-next mount phases phase (histories mount p) so.cuts (histories mount q) (histories mount r) so.last ws ns us so.each one.each;
+      others = λ other low high out. did_then other (histories mount p) (histories mount q) (histories mount r) [] [] (so.others other low high out)
           (one.others other (omega arith) (omega arith) (⊎_elim (λ below. inl below) (λ above. inr (omega arith)) out));
     }
 
@@ -106,7 +106,7 @@ phase-of (p ∷ phases) (suc i) k d lt =
     omega (arith, rest, e, f)
 
 -- between phases there is room for the answers to the lines of the next
-pub room-next : (mount : Mount) (phases : List (List CallLine)) (i : ℕ) (phase : List CallLine) (start : List (List Logged)) (cuts : List (List (List Logged))) (ws ns : List Worker) → phase ≡ get_or phases i phase → i < length phases
+pub room-next : (mount : Mount) (phases : List (List CallLine)) (i : ℕ) (phase : List CallLine) (start : Histories) (cuts : List Histories) (ws ns : List Worker) → phase ≡ get_or phases i phase → i < length phases
     → AllByRecursion IsSilent ws → HaveRoom phases ws → ClientsDone mount (take i phases) start cuts ws ns → HaveRoom (phase ∷ []) ns
 room-next mount phases i phase start cuts [] [] is lt silent room done = tt
 room-next mount phases i phase start cuts [] (n ∷ ns) is lt silent room done = absurd done
@@ -131,26 +131,26 @@ phases-step mount phases i phase first ws ns us p q r is lt so one =
     (phases-next mount (take i phases) phase first ws ns us p q r so one)
 
 pub phases-len : (mount : Mount) (phases : List (List CallLine)) (first : ℕ) (ws ns : List Worker) (p q : Knows) → PhasesDone mount phases first ws ns p q → length ns ≡ length ws
-phases-len mount phases first ws ns p q so = clients-len mount phases p.logs so.cuts ws ns so.each
+phases-len mount phases first ws ns p q so = clients-len mount phases (histories mount p) so.cuts ws ns so.each
 
 -- the clients so far may run the next phase
-pub may-next : {G : Type 0} (mount : Mount) (v : Files) (phases : List (List CallLine)) (phase lines : List CallLine) (i : ℕ) (ws : List Worker) (p : Knows) (part : Part G) → lines ≡ phase → phase ≡ get_or phases i phase → i < length phases
-    → IsReady mount v p 0 ws → AllByRecursion AreCalls phases → AllByRecursion IsSilent ws → HaveRoom phases ws → part.first ≡ 0 → PhasesDone mount (take i phases) 0 ws part.workers.items p part.pass → AreReady mount 0 part.workers.items → MayRun mount v lines part
+pub may-next : {G : Type 0} (mount : Mount) (v : VolumeSeen) (phases : List (List CallLine)) (phase lines : List CallLine) (i : ℕ) (ws : List Worker) (p : Knows) (part : Part G) → lines ≡ phase → phase ≡ get_or phases i phase → i < length phases
+    → IsReady mount v p 0 ws → AllByRecursion (AreCalls mount) phases → AllByRecursion IsSilent ws → HaveRoom phases ws → part.first ≡ 0 → PhasesDone mount (take i phases) 0 ws part.workers.items p part.pass → AreReady mount 0 part.workers.items → MayRun mount v lines part
 may-next mount v phases phase lines i ws p part same is lt start calls silent room first so ready =
     let len = phases-len mount (take i phases) 0 ws part.workers.items p part.pass so in
     let first_is = ap (λ (k : Knows). k.first) so.pass in
     let end_is = ap (λ (k : Knows). k.end) so.pass in
     subst (λ (ls : List CallLine). MayRun mount v ls part) (sym same) (record {
       ready = record {
-        towers = start.towers;
+        stack = start.stack;
         of = ap (λ (k : Knows). k.owners) so.pass ∙ start.of;
         clients = subst (λ (k : ℕ). AreReady mount k part.workers.items) (sym first) ready;
         first_is = omega (arith, start.first_is);
         last_is = omega (arith, start.last_is);
         small = omega (arith, start.small);
       };
-      calls = subst AreCalls (sym is) (all-get_or AreCalls phases i phase lt calls);
-      room = room-next mount phases i phase p.logs so.cuts ws part.workers.items is lt silent room so.each;
+      calls = subst (AreCalls mount) (sym is) (all-get_or (AreCalls mount) phases i phase lt calls);
+      room = room-next mount phases i phase (histories mount p) so.cuts ws part.workers.items is lt silent room so.each;
     })
 
 -- one more phase was run

@@ -2,7 +2,7 @@
 use Rattle.std.specs.Prelude.{◌≡◌, ℕ, ◌+◌, ◌<◌, ◌≤◌, List, [], ◌∷◌, ◌++◌, length, Option, Some, None, vec_capacity}
 use Rattle.script_text.specs.declared.script.CallLine.{CallLine}
 use Rattle.stack_accept.specs.Mount.{Mount}
-use Rattle.spr_volume.specs.Passes.{Files, with_range}
+use Rattle.spr_volume.specs.Passes.{VolumeSeen, with_range}
 use Rattle.spr_client.specs.Lines.{AreCalls}
 use Rattle.run_phases.specs.declared.parts.Part.{Part}
 use Rattle.run_phases.specs.Workers.{AreReady, HaveRoom}
@@ -10,9 +10,9 @@ use Rattle.run_phases.specs.Phases.{IsReady, PhaseDone}
 
 module _ {G : Type 0} where
   -- the clients may do the lines of a phase, and have room for the answers
-  pub record MayRun (mount : Mount) (v : Files) (lines : List CallLine) (part : Part G) : Type 0 where
+  pub record MayRun (mount : Mount) (v : VolumeSeen) (lines : List CallLine) (part : Part G) : Type 0 where
     pub ready : IsReady mount v part.pass part.first part.workers.items
-    pub calls : AreCalls lines
+    pub calls : AreCalls mount lines
     pub room : HaveRoom (lines ∷ []) part.workers.items
 
   -- the clients did the lines of a phase
@@ -39,7 +39,7 @@ module _ {G : Type 0} where
   slot_len (Some part) = length part.workers.items
 
   -- a slot has a part that may run, of so many clients at most
-  abbrev pub HasPart : Mount → Files → List CallLine → ℕ → Option (Part G) → Type 0
+  abbrev pub HasPart : Mount → VolumeSeen → List CallLine → ℕ → Option (Part G) → Type 0
   HasPart mount v lines most None = ⊥
   HasPart mount v lines most (Some part) = MayRun mount v lines part × (length part.workers.items ≤ most)
 

@@ -6,7 +6,7 @@ use Rattle.script_text.specs.declared.script.ClientLine.{ClientLine}
 use Rattle.stack_accept.specs.Mount.{Mount}
 use Rattle.run_defs.specs.Plan.{start_state}
 use Rattle.run_defs.specs.Fits.{lines_of}
-use Rattle.spr_client.specs.Lines.{IsObject}
+use Rattle.spr_client.specs.Lines.{IsOnMachine}
 use Rattle.run_phases.specs.declared.worker.Worker.{Worker}
 
 -- a client on its machine, with no object open, that has answered nothing
@@ -26,7 +26,7 @@ AreStarted mount caller (line ∷ lines) (worker ∷ workers) = IsStarted mount 
 abbrev pub AreReady : Mount → ℕ → List Worker → Type 0
 AreReady mount first [] = Unit {0}
 AreReady mount first (worker ∷ workers) =
-    (worker.client.caller ≡ first) × AllByRecursion (IsObject mount) worker.client.state.objects × AreReady mount (suc first) workers
+    (worker.client.caller ≡ first) × IsOnMachine mount worker.client.state × AreReady mount (suc first) workers
 
 -- each client has room for the answers to its lines of these phases
 abbrev pub HaveRoom : List (List CallLine) → List Worker → Type 0

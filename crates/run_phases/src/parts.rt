@@ -3,7 +3,7 @@
 ghost use Rattle.std.specs.Prelude.{◌≡◌, ◌+◌, ◌≤◌, ◌∷◌, ◌++◌, [], IfErr, IfOk, Some, length, max, vec_capacity};
 ghost use Rattle.std.specs.Thread.{IsSync};
 ghost use Rattle.spr_client.specs.Lines.{AreCalls};
-ghost use Rattle.spr_volume.specs.Passes.{AllQuietly, IsOf, with_logs};
+ghost use Rattle.spr_volume.specs.Passes.{AllQuietly, IsOf, as_known};
 ghost use Rattle.run_phases.specs.Parts.{AreHalves, HasPart, MayRun, PartDone, SlotDone};
 ghost use Rattle.run_phases.specs.Phases.{IsReady, PhaseDone};
 ghost use Rattle.run_phases.specs.Workers.{AreReady, HaveRoom};
@@ -36,7 +36,7 @@ fn run_worker<R: Wait, G: Ground, T: Gate>(
     lines: &[CallLine],
 )
     requires ready { IsReady common.now.mount.now common.now.volume.now pass.old worker.old.client.caller (worker.old ∷ []) }
-    requires calls { AreCalls lines.now }
+    requires calls { AreCalls common.now.mount.now lines.now }
     requires room { HaveRoom (lines.now ∷ []) (worker.old ∷ []) }
     ensures done { PhaseDone common.now.mount.now lines.now worker.old.client.caller (worker.old ∷ []) (worker.new ∷ []) pass.old pass.new }
     ensures ready { AreReady common.now.mount.now worker.old.client.caller (worker.new ∷ []) }
@@ -64,7 +64,7 @@ fn run_in_turn<R: Wait, G: Ground, T: Gate>(
     lines: &[CallLine],
 )
     requires ready { IsReady common.now.mount.now common.now.volume.now pass.old first workers.old }
-    requires calls { AreCalls lines.now }
+    requires calls { AreCalls common.now.mount.now lines.now }
     requires room { HaveRoom (lines.now ∷ []) workers.old }
     ensures done { PhaseDone common.now.mount.now lines.now first workers.old workers.new pass.old pass.new }
     ensures ready { AreReady common.now.mount.now first workers.new }
@@ -139,7 +139,7 @@ fn rejoin<G: Ground>(volume: &Volume<G>, low: Part<G>, high: Part<G>) -> Part<G>
     requires high { IsOf volume.now high.pass }
     requires neighbours { low.pass.end ≡ high.pass.first }
     requires room { length low.workers.items + length high.workers.items ≤ vec_capacity low.workers }
-    ensures pass { result.pass ≡ record (with_logs low.pass result.pass.logs) { end = high.pass.end } }
+    ensures pass { result.pass ≡ record (as_known low.pass result.pass) { end = high.pass.end } }
     ensures low { AllQuietly low.pass.first low.pass.end low.pass result.pass }
     ensures high { AllQuietly high.pass.first high.pass.end high.pass result.pass }
     ensures first { result.first ≡ low.first }

@@ -30,7 +30,7 @@ pub fn run_phases<R: Threads + Wait + Sync, G: Ground + Send, T: Gate>(
 ) -> (Pass<G>, Vec<Worker>)
     requires ready { IsReady common.now.mount.now common.now.volume.now pass 0 workers.items }
     requires silent { AllByRecursion IsSilent workers.items }
-    requires calls { AllByRecursion AreCalls phases.now }
+    requires calls { AllByRecursion (AreCalls common.now.mount.now) phases.now }
     requires room { HaveRoom phases.now workers.items }
     ensures done { PhasesDone common.now.mount.now phases.now 0 workers.items result.1.items pass result.0 }
 {

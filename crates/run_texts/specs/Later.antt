@@ -4,7 +4,9 @@ use Rattle.std.specs.Option.{option_map, option_or}
 use Rattle.stack_text.specs.declared.stack.StackLine.{StackLine}
 use Rattle.stack_text.specs.declared.stack.StackLine.TheVariants.{Page, File, Disk, Mirror, Coherency, Dfs, Vmm}
 use Rattle.script_text.specs.declared.script.Call.{Call}
-use Rattle.script_text.specs.declared.script.Call.TheVariants.{Open, Read, Write, Clear, Sync}
+use Rattle.script_text.specs.declared.script.Call.TheVariants.{Context, Bind, Unbind, List as ListNames, Open, Copy, Drop, Read, Write, Clear, Sync}
+use Rattle.script_text.specs.declared.script.Sub.{Sub}
+use Rattle.script_text.specs.declared.script.Sub.TheVariants.{Singleton, Cluster}
 use Rattle.script_text.specs.declared.script.CallLine.{CallLine}
 
 -- a mirror, a distributed layer or a memory manager
@@ -21,13 +23,21 @@ is_later (Vmm name machine below frames) = true
 abbrev pub later_line : List StackLine → Option ℕ
 later_line lines = option_map (λ place. place + 1) (position (λ line. is_later line) lines)
 
-abbrev pub has_part : List (List ℕ) → Bool
-has_part [] = false
-has_part (part ∷ parts) = true
+-- a subcontract whose objects the program makes
+abbrev pub is_made : Sub → Bool
+is_made Singleton = true
+is_made Cluster = true
+is_made sub = false
 
 -- a call that the program makes
 abbrev pub is_built : Call → Bool
-is_built (Open name path) = has_part path
+is_built (Context path) = true
+is_built (Bind path sub view file) = is_made sub
+is_built (Unbind path) = true
+is_built (ListNames path) = true
+is_built (Open name path) = true
+is_built (Copy name other) = true
+is_built (Drop name) = true
 is_built (Read name page off len) = true
 is_built (Write name page off bytes) = true
 is_built (Clear name page) = true

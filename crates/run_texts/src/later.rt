@@ -2,9 +2,9 @@
 
 ghost use Rattle.std.specs.Prelude.{◌≡◌, ◌≤◌, ◌<◌, length, position, IfSome};
 ghost use Rattle.std.specs.Option.{option_map, option_copied};
-ghost use Rattle.run_texts.specs.Later.{is_later, later_line, is_built, later_in, later_call};
+ghost use Rattle.run_texts.specs.Later.{is_later, later_line, is_made, is_built, later_in, later_call};
 
-use script_text::{Call, CallLine};
+use script_text::{Call, CallLine, Sub};
 use seen_values::Items;
 use stack_text::{MAX_LINES, StackLine, StackText};
 
@@ -38,12 +38,21 @@ pub fn later_line(stack: &StackText) -> Option<u32>
     }
 }
 
-/// Whether the program makes a call. A path has a part.
+/// Whether the program makes objects of a subcontract.
+fn is_made(sub: &Sub) -> bool
+    ensures { result ≡ is_made sub.now }
+{
+    matches!(sub, Sub::Singleton | Sub::Cluster)
+}
+
+/// Whether the program makes a call.
 fn is_built(call: &Call) -> bool
     ensures { result ≡ is_built call.now }
 {
     match call {
-        Call::Open { path, .. } => !path.as_slice().is_empty(),
+        Call::Bind { sub, .. } => is_made(sub),
+        Call::Context { .. } | Call::Unbind { .. } | Call::List { .. } => true,
+        Call::Open { .. } | Call::Copy { .. } | Call::Drop { .. } => true,
         Call::Read { .. } | Call::Write { .. } | Call::Clear { .. } | Call::Sync { .. } => true,
         _ => false,
     }

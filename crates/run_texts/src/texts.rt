@@ -156,7 +156,7 @@ pub fn read_run<H: Shelf>(
 ) -> Result<(Mounted, Script, Ops), Refusal>
     ensures ok { IfOk result (λ found. IsPrepared (H.told shelf.old) (record { idl = idl.now; stack = stack.now; script = name.now }) found.0 found.1 found.2) }
     ensures built { IfOk result (λ found. IsBuilt found.0) }
-    ensures script { IfOk result (λ found. IsScript found.1 × (later_call found.1.phases ≡ None)) }
+    ensures script { IfOk result (λ found. IsScript found.1 × (later_call found.1.phases ≡ None) × (unknown_line found.0 found.1 ≡ None)) }
     ensures err { IfErr result (IsCause (H.told shelf.old) (H.told shelf.new) (record { idl = idl.now; stack = stack.now; script = name.now })) }
     ensures calm { OnOk result ((H.told shelf.new).faults ≡ (H.told shelf.old).faults) }
 {

@@ -20,15 +20,19 @@ use Rattle.tower_log.specs.Log.{bytes_with, place_of, told_by, trail_of}
 use Rattle.hist_lock.specs.Ranges.{Quiet, in_range}
 use Rattle.stack_engine.specs.declared.refusal.StepErr.{StepErr}
 use Rattle.stack_engine.specs.declared.refusal.StepErr.TheVariants.{StoreFault, TrailFull, Memory}
-use Rattle.run_defs.specs.declared.client.ClientState.{ClientState}
-use Rattle.run_defs.specs.Log.{Item, entered, noted, items, items_from, by_caller, log_at, IsFull}
-use Rattle.run_defs.specs.Plan.{Plan, ends, calls, Request, Ask, access, sync, Asks, Made, Goes}
-use Rattle.run_defs.specs.Fits.{made_on, SyncsFrom, SyncsInOrder, GoesOn, Did, Went}
+use Rattle.stack_accept.specs.Mount.{Mount}
+use Rattle.client_objects.specs.declared.state.ClientState.{ClientState}
+use Rattle.run_defs.specs.Log.{Histories, Item, entered, noted, items, items_from, by_caller, name_items, names_by, log_at, IsFull}
+use Rattle.name_context.specs.History.{NamesSeen}
+use Rattle.run_defs.specs.Plan.{Plan, ends, calls, Request, Ask, access, sync, Asks, Made, at_file, Goes}
+use Rattle.run_defs.specs.Fits.{made_on, made_with_names, SyncsFrom, SyncsInOrder, GoesOn, Did, Gone}
 use Rattle.run_defs.proofs.Logs.{by_caller-more}
-use Rattle.run_defs.proofs.Parts.{goes_on_same, goes_on_then, did_nothing, went_call, went_fault, went_refused}
-use Rattle.spr_volume.specs.declared.answered.Answered.{Answered}
-use Rattle.spr_volume.specs.Passes.{Knows, is_own, Quietly}
-use Rattle.spr_client.specs.Calls.{CallDone, IsAsked, refusal_of}
+use Rattle.run_defs.proofs.Parts.{goes_on_same, goes_on_then, names_go_on_same, did_nothing, gone_call, gone_fault, gone_refused}
+use Rattle.shared_files.specs.declared.answered.Answered.{Answered}
+use Rattle.shared_files.specs.Passes.{is_own, Quietly}
+use Rattle.stack_names.specs.Views.{names_at_start}
+use Rattle.spr_volume.specs.Passes.{Knows}
+use Rattle.spr_client.specs.Calls.{CallDone, IsAsked, histories, refusal_of}
 
 same : (c : ℕ) → (c == c) ≡ true
 same c = grind (arith, nat_tests)
@@ -54,41 +58,50 @@ quiet_by first end c old new low high q =
     ∙ (by_caller-more c old q.rest ∙ (ap (λ (is : List Item). by_caller c (items old) ++ is) (quiet_items first end c low high (place_of old) q.rest q.quiet) ∙ append-nil (by_caller c (items old))))
 
 -- these things, at one file
-abbrev at_file : ℕ → List Item → List Made
-at_file k is = map (λ i. record { file = k; item = i }) is
+abbrev at_one : ℕ → List Item → List Made
+at_one k is = map (at_file k) is
 
-made_same : (k : ℕ) (is : List Item) → made_on k (at_file k is) ≡ is
+made_same : (k : ℕ) (is : List Item) → made_on k (at_one k is) ≡ is
 made_same k [] = refl
 made_same k (i ∷ is) = rw (same k) (ap (λ (l : List Item). i ∷ l) (made_same k is))
 
-made_other : (k file : ℕ) (is : List Item) → file ≢ k → made_on file (at_file k is) ≡ []
+made_other : (k file : ℕ) (is : List Item) → file ≢ k → made_on file (at_one k is) ≡ []
 made_other k file [] n = refl
 made_other k file (i ∷ is) n = rw (differ k file n) (made_other k file is n)
 
--- what a caller did at one file, where the others stay as they were
-did_at : (c k : ℕ) (old new : List (List Logged)) (is : List Item) → ((file : ℕ) → file ≢ k → log_at new file ≡ log_at old file)
+made_unnamed : (k : ℕ) (is : List Item) → made_with_names (at_one k is) ≡ []
+made_unnamed k [] = refl
+made_unnamed k (i ∷ is) = made_unnamed k is
+
+-- what a caller did at one file, where the others and the names stay as they were
+did_at : (c k : ℕ) (old new : Histories) (is : List Item) → new.names ≡ old.names → ((file : ℕ) → file ≢ k → log_at new file ≡ log_at old file)
     → GoesOn (log_at old k) (log_at new k) → by_caller c (items (log_at new k)) ≡ by_caller c (items (log_at old k)) ++ is → SyncsInOrder (place_of (log_at old k)) is
-    → Did c old new (at_file k is)
-did_at c k old new is others goes part syncs = record {
-  later = λ file. dite (ℕ_discrete file k) (λ e. subst (λ (f : ℕ). GoesOn (log_at old f) (log_at new f)) (sym e) goes) (λ n. goes_on_same (log_at old file) (log_at new file) (others file n));
+    → Did c old new (at_one k is)
+did_at c k old new is names others goes part syncs = record {
+  later = record {
+    logs = λ file. dite (ℕ_discrete file k) (λ e. subst (λ (f : ℕ). GoesOn (log_at old f) (log_at new f)) (sym e) goes) (λ n. goes_on_same (log_at old file) (log_at new file) (others file n));
+    names = names_go_on_same old.names new.names names;
+  };
   part = λ file. dite (ℕ_discrete file k)
-      (λ e. subst (λ (f : ℕ). by_caller c (items (log_at new f)) ≡ by_caller c (items (log_at old f)) ++ made_on f (at_file k is)) (sym e) (part ∙ ap (λ (l : List Item). by_caller c (items (log_at old k)) ++ l) (sym (made_same k is))))
+      (λ e. subst (λ (f : ℕ). by_caller c (items (log_at new f)) ≡ by_caller c (items (log_at old f)) ++ made_on f (at_one k is)) (sym e) (part ∙ ap (λ (l : List Item). by_caller c (items (log_at old k)) ++ l) (sym (made_same k is))))
       (λ n. ap (λ (h : List Logged). by_caller c (items h)) (others file n) ∙ (sym (append-nil (by_caller c (items (log_at old file)))) ∙ ap (λ (l : List Item). by_caller c (items (log_at old file)) ++ l) (sym (made_other k file is n))));
   syncs = λ file. dite (ℕ_discrete file k)
-      (λ e. subst (λ (f : ℕ). SyncsInOrder (place_of (log_at old f)) (made_on f (at_file k is))) (sym e) (subst (SyncsInOrder (place_of (log_at old k))) (sym (made_same k is)) syncs))
+      (λ e. subst (λ (f : ℕ). SyncsInOrder (place_of (log_at old f)) (made_on f (at_one k is))) (sym e) (subst (SyncsInOrder (place_of (log_at old k))) (sym (made_same k is)) syncs))
       (λ n. subst (SyncsInOrder (place_of (log_at old file))) (sym (made_other k file is n)) tt);
+  names = ap (λ (s : NamesSeen). names_by c (name_items s)) names ∙ (sym (append-nil (names_by c (name_items old.names))) ∙ ap (λ l. names_by c (name_items old.names) ++ l) (sym (made_unnamed k is)));
 }
 
 -- what a call's end says of a caller of the pass is what the call says of it
-called_by : (m c : ℕ) (request : Request) (old new : Knows) (out : List ℕ) (r : Result Answered StepErr) (is : List Item) → old.first ≤ c → c < old.end → (called : CallDone m request old new out r)
-    → by_caller c (items_from (place_of called.here.before) called.here.last) ≡ is → SyncsInOrder (place_of (log_at old.logs request.file)) is
-    → Did c old.logs new.logs (at_file request.file is)
-called_by m c request old new out r is low high called last syncs =
+called_by : (mount : Mount) (m c : ℕ) (request : Request) (old new : Knows) (out : List ℕ) (r : Result Answered StepErr) (is : List Item) → old.first ≤ c → c < old.end → (called : CallDone m request old new out r)
+    → by_caller c (items_from (place_of called.here.before) called.here.last) ≡ is → SyncsInOrder (place_of (log_at (histories mount old) request.file)) is
+    → Did c (histories mount old) (histories mount new) (at_one request.file is)
+called_by mount m c request old new out r is low high called last syncs =
     let k : ℕ = request.file in
-    let h : List Logged = log_at old.logs k in
+    let h : List Logged = log_at (histories mount old) k in
     let b : List Logged = called.here.before in
-    did_at c k old.logs new.logs is called.others
-    (goes_on_then h b (log_at new.logs k) (record { more = called.here.quietly.rest; log = called.here.quietly.whole }) (record { more = called.here.last; log = called.here.log }))
+    did_at c k (histories mount old) (histories mount new) is
+    (ap (λ l. record { began = names_at_start mount; history = l }) called.names) called.others
+    (goes_on_then h b (log_at (histories mount new) k) (record { more = called.here.quietly.rest; log = called.here.quietly.whole }) (record { more = called.here.last; log = called.here.log }))
     (ap (λ (x : List Logged). by_caller c (items x)) called.here.log ∙ (by_caller-more c b called.here.last
     ∙ (ap (λ (l : List Item). l ++ by_caller c (items_from (place_of b) called.here.last)) (quiet_by old.first old.end c h b low high called.here.quietly) ∙ ap (λ (l : List Item). by_caller c (items h) ++ l) last)))
     syncs
@@ -133,51 +146,53 @@ pub told_bytes : (entry : LogEntry) (answer : Answer) (out : List ℕ) → (answ
 told_bytes entry answer out bytes read = ap (λ (a : Answer). bytes_with a entry.bytes) read ∙ bytes read
 
 -- a call that was answered, and ended the line
-pub line_end : (c : ℕ) (kept : ClientState) (p : Plan) (request : Request) (state : ClientState) (go_on : Told → Plan) (old new : Knows) (out : List ℕ) (a : Answered) (said : Reply) (left : ClientState)
-    → p ≡ calls request state go_on → old.first ≤ c → c < old.end → (called : CallDone c request old new out (Ok a)) → go_on (told_of called.here.ends.0 a.answer) ≡ ends said left → Went c kept p old.logs new.logs said left
-line_end c kept p request state go_on old new out a said left is low high called end =
+pub line_end : (mount : Mount) (c : ℕ) (p : Plan) (request : Request) (state : ClientState) (go_on : Told → Plan) (old new : Knows) (out : List ℕ) (a : Answered) (said : Reply) (left : ClientState)
+    → p ≡ calls request state go_on → old.first ≤ c → c < old.end → (called : CallDone c request old new out (Ok a)) → go_on (told_of called.here.ends.0 a.answer) ≡ ends said left → Gone c p (histories mount old) (histories mount new) said left
+line_end mount c p request state go_on old new out a said left is low high called end =
     let entry : LogEntry = called.here.ends.0 in
     let asked = called.here.ends.2 in
     let answered = called.here.ends.3 in
     let b : List Logged = called.here.before in
-    let least : ℕ = place_of (log_at old.logs request.file) in
+    let h = histories mount new in
+    let least : ℕ = place_of (log_at (histories mount old) request.file) in
     let e : Entry = record { place = place_of b; event = entry.event; told = told_by entry } in
-    let did : Did c old.logs new.logs (record { file = request.file; item = entered e } ∷ []) =
-    called_by c c request old new out (Ok a) (entered e ∷ []) low high called
+    let did : Did c (histories mount old) h (at_file request.file (entered e) ∷ []) =
+    called_by mount c c request old new out (Ok a) (entered e ∷ []) low high called
     (entered_item c (place_of b) entry called.here.last called.here.ends.1 (event_by c least request.ask (trail_of b) entry.event asked))
     (event_from c least request.ask (trail_of b) entry.event asked, tt) in
-    went_call c kept p request state go_on old.logs new.logs new.logs e (told_of entry a.answer) [] said left is did
-    (asks_event c least request.ask (trail_of b) entry.event asked) (tells entry a.answer answered.answer_is) (did_nothing c new.logs new.logs refl)
-    (subst (λ (q : Plan). Goes (IsFull new.logs) c q [] said left) (sym end) (refl, refl))
+    gone_call c p request state go_on (histories mount old) h h e (told_of entry a.answer) [] said left is did
+    (asks_event c least request.ask (trail_of b) entry.event asked) (tells entry a.answer answered.answer_is) (did_nothing c h h refl)
+    (subst (λ (q : Plan). Goes (IsFull h) c q [] said left) (sym end) (refl, refl))
 
 -- a call that was refused ends the line
-pub line_err : (c : ℕ) (kept : ClientState) (p : Plan) (request : Request) (state : ClientState) (go_on : Told → Plan) (old new : Knows) (out : List ℕ) (err : StepErr)
-    → p ≡ calls request state go_on → old.first ≤ c → c < old.end → CallDone c request old new out (Err err) → Went c kept p old.logs new.logs (refusal_of err) state
-line_err c kept p request state go_on old new out (StoreFault disk count) is low high called =
-    went_fault c kept p request state go_on old.logs new.logs disk count is
-    (called_by c c request old new out (Err (StoreFault disk count)) (noted c disk count ∷ []) low high called
+pub line_err : (mount : Mount) (c : ℕ) (p : Plan) (request : Request) (state : ClientState) (go_on : Told → Plan) (old new : Knows) (out : List ℕ) (err : StepErr)
+    → p ≡ calls request state go_on → old.first ≤ c → c < old.end → CallDone c request old new out (Err err) → Gone c p (histories mount old) (histories mount new) (refusal_of err) state
+line_err mount c p request state go_on old new out (StoreFault disk count) is low high called =
+    gone_fault c p request state go_on (histories mount old) (histories mount new) disk count is
+    (called_by mount c c request old new out (Err (StoreFault disk count)) (noted c disk count ∷ []) low high called
     (noted_item c c disk count (place_of called.here.before) called.here.last called.here.ends ∙ rw (same c) refl) tt)
-line_err c kept p request state go_on old new out TrailFull is low high called =
+line_err mount c p request state go_on old new out TrailFull is low high called =
     let b : List Logged = called.here.before in
-    let whole : log_at new.logs request.file ≡ b = called.here.log ∙ (ap (λ (l : List Logged). b ++ l) called.here.ends.0 ∙ append-nil b) in
-    let full : IsFull new.logs request.file = subst (λ (l : List Logged). MAX_EVENTS ≤ place_of l) (sym whole) called.here.ends.1 in
-    went_refused c kept p request state go_on old.logs new.logs (refusal_of TrailFull) is
-    (called_by c c request old new out (Err TrailFull) [] low high called (no_item c (place_of b) called.here.last called.here.ends.0) tt) full
-line_err c kept p request state go_on old new out Memory is low high called =
-    went_refused c kept p request state go_on old.logs new.logs (refusal_of Memory) is
-    (called_by c c request old new out (Err Memory) [] low high called (no_item c (place_of called.here.before) called.here.last called.here.ends.0) tt) tt
+    let h = histories mount new in
+    let whole : log_at h request.file ≡ b = called.here.log ∙ (ap (λ (l : List Logged). b ++ l) called.here.ends.0 ∙ append-nil b) in
+    let full : IsFull h request.file = subst (λ (l : List Logged). MAX_EVENTS ≤ place_of l) (sym whole) called.here.ends.1 in
+    gone_refused c p request state go_on (histories mount old) h (refusal_of TrailFull) is
+    (called_by mount c c request old new out (Err TrailFull) [] low high called (no_item c (place_of b) called.here.last called.here.ends.0) tt) full
+line_err mount c p request state go_on old new out Memory is low high called =
+    gone_refused c p request state go_on (histories mount old) (histories mount new) (refusal_of Memory) is
+    (called_by mount c c request old new out (Err Memory) [] low high called (no_item c (place_of called.here.before) called.here.last called.here.ends.0) tt) tt
 
 -- a call of one caller is nothing for another of its pass
-pub called_other : (m c : ℕ) (request : Request) (old new : Knows) (out : List ℕ) (r : Result Answered StepErr) → c ≢ m → old.first ≤ c → c < old.end → CallDone m request old new out r → Did c old.logs new.logs []
-called_other m c request old new out (Ok a) n low high called =
+pub called_other : (mount : Mount) (m c : ℕ) (request : Request) (old new : Knows) (out : List ℕ) (r : Result Answered StepErr) → c ≢ m → old.first ≤ c → c < old.end → CallDone m request old new out r → Did c (histories mount old) (histories mount new) []
+called_other mount m c request old new out (Ok a) n low high called =
     let entry : LogEntry = called.here.ends.0 in
     let b : List Logged = called.here.before in
-    called_by m c request old new out (Ok a) [] low high called
-    (other_entered m c (place_of b) entry called.here.last n called.here.ends.1 (event_by m (place_of (log_at old.logs request.file)) request.ask (trail_of b) entry.event called.here.ends.2)) tt
-called_other m c request old new out (Err (StoreFault disk count)) n low high called =
-    called_by m c request old new out (Err (StoreFault disk count)) [] low high called
+    called_by mount m c request old new out (Ok a) [] low high called
+    (other_entered m c (place_of b) entry called.here.last n called.here.ends.1 (event_by m (place_of (log_at (histories mount old) request.file)) request.ask (trail_of b) entry.event called.here.ends.2)) tt
+called_other mount m c request old new out (Err (StoreFault disk count)) n low high called =
+    called_by mount m c request old new out (Err (StoreFault disk count)) [] low high called
     (noted_item m c disk count (place_of called.here.before) called.here.last called.here.ends ∙ rw (differ m c n) refl) tt
-called_other m c request old new out (Err TrailFull) n low high called =
-    called_by m c request old new out (Err TrailFull) [] low high called (no_item c (place_of called.here.before) called.here.last called.here.ends.0) tt
-called_other m c request old new out (Err Memory) n low high called =
-    called_by m c request old new out (Err Memory) [] low high called (no_item c (place_of called.here.before) called.here.last called.here.ends.0) tt
+called_other mount m c request old new out (Err TrailFull) n low high called =
+    called_by mount m c request old new out (Err TrailFull) [] low high called (no_item c (place_of called.here.before) called.here.last called.here.ends.0) tt
+called_other mount m c request old new out (Err Memory) n low high called =
+    called_by mount m c request old new out (Err Memory) [] low high called (no_item c (place_of called.here.before) called.here.last called.here.ends.0) tt

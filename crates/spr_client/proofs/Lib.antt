@@ -1,6 +1,7 @@
-pub mod Frames
 pub mod CallLaws
-pub mod Lists
+pub mod NamesLaws
 pub mod LineLaws
 pub mod LinesLaws
-pub mod TestLaws
+pub mod Frames
+pub mod Lists
+pub mod Targets

@@ -1,12 +1,11 @@
 -- How a line is done.
-use Rattle.std.proofs.Common.{◌≡◌, ℕ, List, [], ◌∷◌, ◌++◌, length, Bool, true, false, cond, Bor, Option, Some, None, Ok, Err, refl, sym, ap, subst, ◌∙◌, arith}
-use Rattle.std.specs.Prelude.{find}
-use Rattle.std.specs.Option.{option_copied}
-use Rattle.std.specs.List.{AllByRecursion, AllZip}
+use Rattle.std.proofs.Common.{◌≡◌, ◌≢◌, ℕ, ◌<◌, ◌≤◌, List, [], ◌∷◌, ◌++◌, length, Bool, true, false, Option, Some, None, IsSome, Ok, Err, refl, sym, ap, subst, ◌∙◌, arith, inl, inr}
+use Rattle.std.specs.Prelude.{◌⊎◌}
+use Rattle.std.specs.List.{AllZip}
 use Rattle.std.proofs.lemmas.Slice.Zip.{AllZip-map}
 use Rattle.std.proofs.lemmas.List.{map-id}
 use Rattle.hist_plain.specs.declared.event.Op.{Op}
-use Rattle.hist_plain.specs.declared.event.Answer.{Answer}
+use Rattle.hist_plain.specs.declared.event.Op.TheVariants as ops
 use Rattle.hist_plain.specs.declared.event.Answer.TheVariants as answers
 use Rattle.hist_plain.specs.Event.{fits_page}
 use Rattle.hist_plain.specs.Plain.{Told}
@@ -14,93 +13,168 @@ use Rattle.script_text.specs.declared.script.Reply.{Reply}
 use Rattle.script_text.specs.declared.script.Reply.TheVariants as replies
 use Rattle.stack_engine.specs.declared.refusal.StepErr.{StepErr}
 use Rattle.stack_accept.specs.Mount.{Mount}
-use Rattle.run_defs.specs.declared.client.OpenObject.{OpenObject}
-use Rattle.run_defs.specs.declared.client.ClientState.{ClientState}
+use Rattle.marshal_buf.specs.Held.{Held}
+use Rattle.name_context.specs.declared.entry.NameCall.TheVariants as calls_of
+use Rattle.name_context.specs.declared.entry.NameErr.{NameErr}
+use Rattle.name_context.specs.declared.entry.NameErr.TheVariants as errs
+use Rattle.name_context.specs.Names.{Name, kept_at}
+use Rattle.client_objects.specs.declared.state.ClientState.{ClientState}
+use Rattle.client_objects.specs.declared.target.Target.{Target}
+use Rattle.client_objects.specs.Objects.{with_object}
+use Rattle.client_objects.specs.Stored.{received}
 use Rattle.run_defs.specs.Stack.{pages_of}
-use Rattle.run_defs.specs.Names.{found_at}
-use Rattle.run_defs.specs.Plan.{Plan, ends, calls, Request, plan_call, plan_named, plan_access, plan_open, plan_found, object_of, opened, life_in, reply_of, with_object}
-use Rattle.run_defs.specs.Fits.{Went}
-use Rattle.run_defs.proofs.Parts.{did_nothing, went_none, went_lacks}
-use Rattle.spr_volume.specs.declared.answered.Answered.{Answered}
-use Rattle.spr_volume.specs.Passes.{Files, Knows}
-use Rattle.spr_client.specs.Calls.{CallDone, MayCall, refusal_of}
-use Rattle.spr_client.specs.Lines.{LineDone, OthersIdle, state_with}
+use Rattle.run_defs.specs.Plan.{Plan, ends, calls, Request, NamesAsk, NamesTold, told_names, unless_refused, refused_as, plan_call, plan_named, plan_names, plan_access, plan_open, plan_found, access, asking, asking_names, holding, opened, reply_of}
+use Rattle.run_defs.specs.Fits.{Gone, Went}
+use Rattle.run_defs.proofs.Parts.{did_nothing, did_then, went_of, went_lacks, gone_as, gone_none, gone_named, gone_unnamed, gone_refused}
+use Rattle.shared_files.specs.declared.answered.Answered.{Answered}
+use Rattle.spr_volume.specs.Passes.{VolumeSeen, Knows, as_known}
+use Rattle.spr_client.specs.Calls.{CallDone, MayCall, NamesDone, histories, refusal_of}
+use Rattle.spr_client.specs.Lines.{LineDone, OthersIdle, PlanDone}
 use Rattle.spr_client.proofs.CallLaws.{line_end, line_err, called_other, told_of, told_bytes}
+use Rattle.spr_client.proofs.NamesLaws.{entered, unnamed, memory_or, some_same}
 
 -- nobody did anything
-pub idle-same : (caller : ℕ) (p : Knows) → OthersIdle caller p p
-idle-same caller p = λ other ne low high. did_nothing other p.logs p.logs refl
+pub idle-same : (mount : Mount) (caller : ℕ) (p : Knows) → OthersIdle mount caller p p
+idle-same mount caller p = λ other ne low high. did_nothing other (histories mount p) (histories mount p) refl
+
+-- a line follows its plan
+pub line_of : (mount : Mount) (caller : ℕ) (kept : ClientState) (p : Plan) (old new : Knows) (said : Reply) (left : ClientState) → PlanDone mount caller p old new said left → LineDone mount caller kept p old new said left
+line_of mount caller kept p old new said left done = record {
+  pass = done.pass;
+  went = went_of caller kept p (histories mount old) (histories mount new) said left done.gone;
+  others = done.others;
+}
+
+-- a plan that makes no call
+pub plan-none : (mount : Mount) (caller : ℕ) (p : Plan) (pass : Knows) (reply : Reply) (left : ClientState) → p ≡ ends reply left → PlanDone mount caller p pass pass reply left
+plan-none mount caller p pass reply left is = record { pass = refl; gone = gone_none caller p (histories mount pass) reply left is; others = idle-same mount caller pass }
 
 -- a line that makes no call
 pub done-none : (mount : Mount) (caller : ℕ) (kept : ClientState) (p : Plan) (pass : Knows) (reply : Reply) (left : ClientState) → p ≡ ends reply left → LineDone mount caller kept p pass pass reply left
-done-none mount caller kept p pass reply left is = record { pass = refl; went = went_none caller kept p pass.logs reply left is; others = idle-same caller pass }
+done-none mount caller kept p pass reply left is = line_of mount caller kept p pass pass reply left (plan-none mount caller p pass reply left is)
 
 -- a line for which memory lacked
 pub done-lacks : (mount : Mount) (caller : ℕ) (kept : ClientState) (p : Plan) (pass : Knows) → LineDone mount caller kept p pass pass replies.Memory kept
-done-lacks mount caller kept p pass = record { pass = refl; went = went_lacks caller kept p pass.logs; others = idle-same caller pass }
+done-lacks mount caller kept p pass = record { pass = refl; went = went_lacks caller kept p (histories mount pass); others = idle-same mount caller pass }
 
--- a line of one call that was answered
-pub done-ok : (mount : Mount) (v : Files) (caller : ℕ) (kept : ClientState) (p : Plan) (request : Request) (state : ClientState) (go_on : Told → Plan) (old new : Knows) (out : List ℕ) (a : Answered) (said : Reply) (left : ClientState)
+-- a plan of a call at a file for which memory lacked
+pub plan-lacks : (mount : Mount) (caller : ℕ) (p : Plan) (request : Request) (state : ClientState) (go_on : Told → Plan) (pass : Knows) → p ≡ calls request state go_on → PlanDone mount caller p pass pass replies.Memory state
+plan-lacks mount caller p request state go_on pass is = record {
+  pass = refl;
+  gone = gone_refused caller p request state go_on (histories mount pass) (histories mount pass) replies.Memory is (did_nothing caller (histories mount pass) (histories mount pass) refl) tt;
+  others = idle-same mount caller pass;
+}
+
+-- a plan of one call that was answered
+pub plan-ok : (mount : Mount) (v : VolumeSeen) (caller : ℕ) (p : Plan) (request : Request) (state : ClientState) (go_on : Told → Plan) (old new : Knows) (out : List ℕ) (a : Answered) (said : Reply) (left : ClientState)
     → MayCall mount v old caller → p ≡ calls request state go_on → (called : CallDone caller request old new out (Ok a))
-    → ((t : Told) → t.answer ≡ a.answer → (a.answer ≡ answers.Bytes → t.bytes ≡ out) → go_on t ≡ ends said left) → LineDone mount caller kept p old new said left
-done-ok mount v caller kept p request state go_on old new out a said left may is called end = record {
+    → ((t : Told) → t.answer ≡ a.answer → (a.answer ≡ answers.Bytes → t.bytes ≡ out) → go_on t ≡ ends said left) → PlanDone mount caller p old new said left
+plan-ok mount v caller p request state go_on old new out a said left may is called end = record {
   pass = called.pass;
-  went = line_end caller kept p request state go_on old new out a said left is may.first may.last called
+  gone = line_end mount caller p request state go_on old new out a said left is may.first may.last called
       (end (told_of called.here.ends.0 a.answer) refl (told_bytes called.here.ends.0 a.answer out called.here.ends.3.bytes));
-  others = λ other ne low high. called_other caller other request old new out (Ok a) ne low high called;
+  others = λ other ne low high. called_other mount caller other request old new out (Ok a) ne low high called;
 }
 
--- a line of one call that was refused, whatever it would have done then
-pub done-refused : (mount : Mount) (v : Files) (caller : ℕ) (kept : ClientState) (p : Plan) (request : Request) (state : ClientState) (go_on : Told → Plan) (old new : Knows) (out : List ℕ) (err : StepErr) (said : Reply)
-    → MayCall mount v old caller → p ≡ calls request state go_on → CallDone caller request old new out (Err err) → said ≡ refusal_of err → LineDone mount caller kept p old new said state
-done-refused mount v caller kept p request state go_on old new out err said may is called same = record {
+-- a plan of one call that was refused, whatever it would have done then
+pub plan-refused : (mount : Mount) (v : VolumeSeen) (caller : ℕ) (p : Plan) (request : Request) (state : ClientState) (go_on : Told → Plan) (old new : Knows) (out : List ℕ) (err : StepErr) (said : Reply)
+    → MayCall mount v old caller → p ≡ calls request state go_on → CallDone caller request old new out (Err err) → said ≡ refusal_of err → PlanDone mount caller p old new said state
+plan-refused mount v caller p request state go_on old new out err said may is called same = record {
   pass = called.pass;
-  went = subst (λ (r : Reply). Went caller kept p old.logs new.logs r state) (sym same) (line_err caller kept p request state go_on old new out err is may.first may.last called);
-  others = λ other ne low high. called_other caller other request old new out (Err err) ne low high called;
+  gone = subst (λ (r : Reply). Gone caller p (histories mount old) (histories mount new) r state) (sym same) (line_err mount caller p request state go_on old new out err is may.first may.last called);
+  others = λ other ne low high. called_other mount caller other request old new out (Err err) ne low high called;
 }
+
+-- a line of one call that was refused
+pub done-refused : (mount : Mount) (v : VolumeSeen) (caller : ℕ) (kept : ClientState) (p : Plan) (request : Request) (state : ClientState) (go_on : Told → Plan) (old new : Knows) (out : List ℕ) (err : StepErr) (said : Reply)
+    → MayCall mount v old caller → p ≡ calls request state go_on → CallDone caller request old new out (Err err) → said ≡ refusal_of err → LineDone mount caller kept p old new said state
+done-refused mount v caller kept p request state go_on old new out err said may is called same =
+    line_of mount caller kept p old new said state (plan-refused mount v caller p request state go_on old new out err said may is called same)
 
 -- a line of one call whose answer is the line's
-pub done-answered : (mount : Mount) (v : Files) (caller : ℕ) (kept : ClientState) (request : Request) (state : ClientState) (old new : Knows) (out : List ℕ) (a : Answered) (said : Reply)
+pub done-answered : (mount : Mount) (v : VolumeSeen) (caller : ℕ) (kept : ClientState) (request : Request) (state : ClientState) (old new : Knows) (out : List ℕ) (a : Answered) (said : Reply)
     → MayCall mount v old caller → CallDone caller request old new out (Ok a) → ((t : Told) → t.answer ≡ a.answer → (a.answer ≡ answers.Bytes → t.bytes ≡ out) → said ≡ reply_of t)
     → LineDone mount caller kept (plan_call state request) old new said state
 done-answered mount v caller kept request state old new out a said may called is =
-    done-ok mount v caller kept (plan_call state request) request state (λ (t : Told). ends (reply_of t) state) old new out a said state may refl
-    called (λ t answer bytes. ap (λ (r : Reply). ends r state) (sym (is t answer bytes)))
+    line_of mount caller kept (plan_call state request) old new said state
+    (plan-ok mount v caller (plan_call state request) request state (λ (t : Told). ends (reply_of t) state) old new out a said state may refl
+    called (λ t answer bytes. ap (λ (r : Reply). ends r state) (sym (is t answer bytes))))
 
--- what a look-up found
-pub found-none : (name : List ℕ) (slice objects : List OpenObject) (r : Option (Bor OpenObject)) → slice ≡ objects → option_copied r ≡ object_of name slice → r ≡ None → object_of name objects ≡ None
-found-none name slice objects r same found none =
-    ap (λ (os : List OpenObject). object_of name os) (sym same) ∙ (sym found ∙ ap (λ (o : Option (Bor OpenObject)). option_copied o) none)
+-- a call on the names that was refused ends the line
+pub names-refused : (mount : Mount) (v : VolumeSeen) (caller : ℕ) (kept : ClientState) (p : Plan) (ask : NamesAsk) (go_on : List Name → Plan) (stored : Option Held) (Tells : List Name → Type 0) (old new : Knows) (err : NameErr) (said : Reply)
+    → MayCall mount v old caller → p ≡ plan_names kept ask go_on → NamesDone v caller ask stored Tells old new (Some err) → said ≡ refused_as ask.path err → LineDone mount caller kept p old new said kept
+names-refused mount v caller kept p ask go_on stored Tells old new err said may is done same =
+    line_of mount caller kept p old new said kept (by_memory (memory_or err))
+  where
+  by_memory : (err ≢ errs.Memory) ⊎ (err ≡ errs.Memory) → PlanDone mount caller p old new said kept
+  by_memory (inl n) =
+      let made = entered mount v caller ask stored Tells old new (Some err) may.stack.names done (λ e. n (some_same err errs.Memory e)) in
+      let told : told_names made.item ≡ record { refused = Some err; names = made.item.names } = ap (λ (r : Option NameErr). record { refused = r; names = made.item.names }) made.refused_is in
+      let end : unless_refused kept ask.path made.item.entry.refused (go_on made.item.names) ≡ ends said kept =
+      ap (λ (r : Option NameErr). unless_refused kept ask.path r (go_on made.item.names)) made.refused_is ∙ ap (λ (r : Reply). ends r kept) (sym same) in
+      record {
+        pass = done.1.pass;
+        gone = gone_named caller p ask kept (λ t. unless_refused kept ask.path t.refused (go_on t.names)) (histories mount old) (histories mount new) (histories mount new) made.item said kept is
+            (made.own may.first may.last) made.asks (gone_none caller (unless_refused kept ask.path made.item.entry.refused (go_on made.item.names)) (histories mount new) said kept end);
+        others = λ other ne low high. made.others other ne low high;
+      }
+  by_memory (inr m) =
+      let lacked = subst (λ (e : NameErr). NamesDone v caller ask stored Tells old new (Some e)) m done in
+      record {
+        pass = done.1.pass;
+        gone = subst (λ (r : Reply). Gone caller p (histories mount old) (histories mount new) r kept) (sym (same ∙ ap (refused_as ask.path) m))
+            (gone_unnamed caller p ask kept (λ t. unless_refused kept ask.path t.refused (go_on t.names)) (histories mount old) (histories mount new) is
+            (unnamed mount v caller ask stored Tells old new may.stack.names lacked caller may.first may.last));
+        others = λ other ne low high. unnamed mount v caller ask stored Tells old new may.stack.names lacked other low high;
+      }
 
-pub found-some : (name : List ℕ) (slice objects : List OpenObject) (r : Option (Bor OpenObject)) (b : Bor OpenObject) → slice ≡ objects → option_copied r ≡ object_of name slice → r ≡ Some b → object_of name objects ≡ Some b.now
-found-some name slice objects r b same found some =
-    ap (λ (os : List OpenObject). object_of name os) (sym same) ∙ (sym found ∙ ap (λ (o : Option (Bor OpenObject)). option_copied o) some)
+pass_then : (a b c : Knows) → b ≡ as_known a b → c ≡ as_known b c → c ≡ as_known a c
+pass_then a b c f g = g ∙ ap (λ (p : Knows). as_known p c) f
 
-found_in : (P : OpenObject → Type 0) (p : OpenObject → Bool) (b : Bool) (x y : OpenObject) (xs : List OpenObject) → P x → (find p xs ≡ Some y → P y) → cond b (Some x) (find p xs) ≡ Some y → P y
-found_in P p true x y xs here there is = let eq : x ≡ y = cc in subst P eq here
-found_in P p false x y xs here there is = there is
+-- a call on the names that was not refused, and what the line does then
+pub names-then : (mount : Mount) (v : VolumeSeen) (caller : ℕ) (kept : ClientState) (p : Plan) (ask : NamesAsk) (go_on : List Name → Plan) (stored : Option Held) (Tells : List Name → Type 0) (old mid new : Knows) (said : Reply) (left : ClientState)
+    → MayCall mount v old caller → p ≡ plan_names kept ask go_on → NamesDone v caller ask stored Tells old mid None
+    → ((names : List Name) → Tells names → PlanDone mount caller (go_on names) mid new said left) → LineDone mount caller kept p old new said left
+names-then mount v caller kept p ask go_on stored Tells old mid new said left may is done onward =
+    let made = entered mount v caller ask stored Tells old mid None may.stack.names done (λ e. absurd cc) in
+    let names = made.item.names in
+    let rest = onward names made.tells in
+    let go : unless_refused kept ask.path made.item.entry.refused (go_on names) ≡ go_on names = ap (λ (r : Option NameErr). unless_refused kept ask.path r (go_on names)) made.refused_is in
+    let first_is : mid.first ≡ old.first = ap (λ (k : Knows). k.first) done.1.pass in
+    let end_is : mid.end ≡ old.end = ap (λ (k : Knows). k.end) done.1.pass in
+    line_of mount caller kept p old new said left (record {
+      pass = pass_then old mid new done.1.pass rest.pass;
+      gone = gone_named caller p ask kept (λ t. unless_refused kept ask.path t.refused (go_on t.names)) (histories mount old) (histories mount mid) (histories mount new) made.item said left is
+          (made.own may.first may.last) made.asks (gone_as caller (go_on names) (unless_refused kept ask.path made.item.entry.refused (go_on names)) (histories mount mid) (histories mount new) said left go rest.gone);
+      others = λ other ne low high. did_then other (histories mount old) (histories mount mid) (histories mount new) [] [] (made.others other ne low high)
+          (rest.others other ne (subst (λ (n : ℕ). n ≤ other) (sym first_is) low) (subst (λ (n : ℕ). other < n) (sym end_is) high));
+    })
 
--- what holds of each object holds of the one that is found
-pub found_has : (P : OpenObject → Type 0) (p : OpenObject → Bool) (y : OpenObject) (xs : List OpenObject) → AllByRecursion P xs → find p xs ≡ Some y → P y
-found_has P p y [] all is = absurd cc
-found_has P p y (x ∷ xs) all is = found_in P p (p x) x y xs all.0 (λ there. found_has P p y xs all.1 there) is
+-- a call on the names that was not refused ended the line
+pub names-end : (mount : Mount) (v : VolumeSeen) (caller : ℕ) (kept : ClientState) (p : Plan) (ask : NamesAsk) (go_on : List Name → Plan) (stored : Option Held) (Tells : List Name → Type 0) (old new : Knows) (said : Reply)
+    → MayCall mount v old caller → p ≡ plan_names kept ask go_on → NamesDone v caller ask stored Tells old new None
+    → ((names : List Name) → Tells names → go_on names ≡ ends said kept) → LineDone mount caller kept p old new said kept
+names-end mount v caller kept p ask go_on stored Tells old new said may is done end =
+    names-then mount v caller kept p ask go_on stored Tells old new new said kept may is done
+    (λ names tells. plan-none mount caller (go_on names) new said kept (end names tells))
 
 -- the plan of a line whose object is not open
-pub named-none : (state : ClientState) (o : Option OpenObject) (go_on : OpenObject → Plan) → o ≡ None → plan_named state o go_on ≡ ends replies.NoObject state
-named-none state o go_on none = ap (λ (x : Option OpenObject). plan_named state x go_on) none
+pub named-none : (state : ClientState) (o : Option Target) (go_on : Target → Plan) → o ≡ None → plan_named state o go_on ≡ ends replies.NoObject state
+named-none state o go_on none = ap (λ (x : Option Target). plan_named state x go_on) none
 
-pub named-some : (state : ClientState) (o : Option OpenObject) (object : OpenObject) (go_on : OpenObject → Plan) → o ≡ Some object → plan_named state o go_on ≡ go_on object
-named-some state o object go_on some = ap (λ (x : Option OpenObject). plan_named state x go_on) some
+pub named-some : (state : ClientState) (o : Option Target) (object : Target) (go_on : Target → Plan) → o ≡ Some object → plan_named state o go_on ≡ go_on object
+named-some state o object go_on some = ap (λ (x : Option Target). plan_named state x go_on) some
 
 -- an access that does not fit makes no call
-pub access-unfit : (mount : Mount) (state : ClientState) (op : Op) (object : OpenObject) → fits_page mount.page_size (pages_of mount object.file) op ≡ false → plan_access mount state op object ≡ ends replies.NotOnePage state
+pub access-unfit : (mount : Mount) (state : ClientState) (op : Op) (object : Target) → fits_page mount.page_size (pages_of mount object.file) op ≡ false → plan_access mount state op object ≡ ends replies.NotOnePage state
 access-unfit mount state op object unfit = rw unfit refl
 
-pub open-exists : (mount : Mount) (state : ClientState) (name : List ℕ) (path : List (List ℕ)) (o : Option OpenObject) (object : OpenObject) → o ≡ Some object → plan_open mount state name path o ≡ ends replies.ObjectExists state
-open-exists mount state name path o object some = ap (λ (x : Option OpenObject). plan_open mount state name path x) some
+pub open-exists : (mount : Mount) (state : ClientState) (name : List ℕ) (path : List (List ℕ)) (o : Option Target) (object : Target) → o ≡ Some object → plan_open mount state name path o ≡ ends replies.ObjectExists state
+open-exists mount state name path o object some = ap (λ (x : Option Target). plan_open mount state name path x) some
 
-pub open-found : (mount : Mount) (state : ClientState) (name : List ℕ) (path : List (List ℕ)) (o : Option OpenObject) → o ≡ None → plan_open mount state name path o ≡ plan_found state name (found_at mount path)
-open-found mount state name path o none = ap (λ (x : Option OpenObject). plan_open mount state name path x) none
+pub open-new : (mount : Mount) (state : ClientState) (name : List ℕ) (path : List (List ℕ)) (o : Option Target) → o ≡ None
+    → plan_open mount state name path o ≡ plan_names state (asking_names calls_of.Resolve (Some path)) (λ names. plan_found state name (received mount (kept_at names path)))
+open-new mount state name path o none = ap (λ (x : Option Target). plan_open mount state name path x) none
 
 -- the same line, with the plan written otherwise
 pub done-as : (mount : Mount) (caller : ℕ) (kept : ClientState) (p q : Plan) (old new : Knows) (said : Reply) (left : ClientState) → q ≡ p → LineDone mount caller kept p old new said left → LineDone mount caller kept q old new said left
@@ -110,14 +184,6 @@ done-as mount caller kept p q old new said left is done = subst (λ (x : Plan). 
 pub done-left : (mount : Mount) (caller : ℕ) (kept : ClientState) (p : Plan) (old new : Knows) (said : Reply) (left left' : ClientState) → left' ≡ left → LineDone mount caller kept p old new said left → LineDone mount caller kept p old new said left'
 done-left mount caller kept p old new said left left' is done = subst (λ (x : ClientState). LineDone mount caller kept p old new said x) (sym is) done
 
--- an opened object keeps the life that it was told
-pub opened-is : (machine : ℕ) (name : List ℕ) (file node life : ℕ) (objects old new : List OpenObject) (t : Told) (a : Answer) → old ≡ objects → new ≡ old ++ record { name = name; file = file; node = node; life = life } ∷ [] → life ≡ life_in a → t.answer ≡ a
-    → with_object (state_with machine objects) (opened name file node t) ≡ state_with machine new
-opened-is machine name file node life objects old new t a same pushed is answer =
-    let lives : life_in t.answer ≡ life = ap life_in answer ∙ sym is in
-    ap (λ n. state_with machine (objects ++ record { name = name; file = file; node = node; life = n } ∷ [])) lives
-    ∙ (ap (λ (os : List OpenObject). state_with machine (os ++ record { name = name; file = file; node = node; life = life } ∷ [])) (sym same) ∙ ap (state_with machine) (sym pushed))
-
 -- an empty slice stays empty
 pub no-bytes : (xs : List ℕ) → length xs ≡ 0 → xs ≡ []
 no-bytes [] e = refl
@@ -126,3 +192,9 @@ no-bytes (x ∷ xs) e = absurd (omega arith)
 -- a clone of bytes has the bytes
 pub clone-is : (xs ys : List ℕ) → AllZip (λ x y. y ≡ x) xs ys → ys ≡ xs
 clone-is xs ys each = AllZip-map (λ n. n) xs ys each ∙ map-id xs
+
+-- what is received makes no call where memory lacks
+pub found-lacks : (mount : Mount) (caller : ℕ) (state : ClientState) (name : List ℕ) (found : Option Target) (pass : Knows) → IsSome found → PlanDone mount caller (plan_found state name found) pass pass replies.Memory state
+found-lacks mount caller state name None pass some = absurd cc
+found-lacks mount caller state name (Some target) pass some =
+    plan-lacks mount caller (plan_found state name (Some target)) (asking target.file (access target.node 0 ops.Open)) state (λ told. ends (reply_of told) (holding state (with_object state.objects name (opened target told)))) pass refl

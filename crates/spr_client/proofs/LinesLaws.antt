@@ -7,12 +7,13 @@ use Rattle.script_text.specs.declared.script.CallLine.{CallLine}
 use Rattle.script_text.specs.declared.script.Said.{Said}
 use Rattle.script_text.specs.declared.script.Reply.{Reply}
 use Rattle.stack_accept.specs.Mount.{Mount}
-use Rattle.run_defs.specs.declared.client.ClientState.{ClientState}
+use Rattle.client_objects.specs.declared.state.ClientState.{ClientState}
 use Rattle.run_defs.specs.Log.{IsFull}
 use Rattle.run_defs.specs.Plan.{plan}
 use Rattle.run_defs.specs.Fits.{lines_of}
 use Rattle.run_defs.proofs.Parts.{did_then, does-lines, worked_more}
-use Rattle.spr_volume.specs.Passes.{Knows, with_logs}
+use Rattle.spr_volume.specs.Passes.{Knows, as_known}
+use Rattle.spr_client.specs.Calls.{histories}
 use Rattle.spr_client.specs.Lines.{LineDone, LinesDone, OthersIdle}
 
 is_own : (a b : ℕ) → a ≡ b → (a == b) ≡ true
@@ -21,13 +22,13 @@ is_own a b e = grind (arith, nat_tests)
 is_other : (a b : ℕ) → a ≢ b → (a == b) ≡ false
 is_other a b n = grind (arith, nat_tests)
 
-pass-then : (a b c : Knows) → b ≡ with_logs a b.logs → c ≡ with_logs b c.logs → c ≡ with_logs a c.logs
-pass-then a b c f g = g ∙ ap (λ (p : Knows). with_logs p c.logs) f
+pass-then : (a b c : Knows) → b ≡ as_known a b → c ≡ as_known b c → c ≡ as_known a c
+pass-then a b c f g = g ∙ ap (λ (p : Knows). as_known p c) f
 
 -- the others did nothing, and then nothing
-idle-then : (caller : ℕ) (a b c : Knows) → b ≡ with_logs a b.logs → OthersIdle caller a b → OthersIdle caller b c → OthersIdle caller a c
-idle-then caller a b c is f g = λ other ne low high.
-    did_then other a.logs b.logs c.logs [] [] (f other ne low high)
+idle-then : (mount : Mount) (caller : ℕ) (a b c : Knows) → b ≡ as_known a b → OthersIdle mount caller a b → OthersIdle mount caller b c → OthersIdle mount caller a c
+idle-then mount caller a b c is f g = λ other ne low high.
+    did_then other (histories mount a) (histories mount b) (histories mount c) [] [] (f other ne low high)
     (g other ne (subst (λ (p : Knows). p.first ≤ other) (sym is) low) (subst (λ (p : Knows). other < p.end) (sym is) high))
 
 -- lines, and one more
@@ -36,8 +37,8 @@ lines-more : (mount : Mount) (caller : ℕ) (kept : ClientState) (lines : List C
     → LinesDone mount caller kept (lines ++ line ∷ []) old new (said ++ record { line = line.line; reply = reply } ∷ []) left
 lines-more mount caller kept lines line old mid new said reply state left done one = record {
   pass = pass-then old mid new done.pass one.pass;
-  worked = worked_more mount caller kept lines old.logs mid.logs new.logs said state line reply left done.worked one.went;
-  others = idle-then caller old mid new done.pass done.others one.others;
+  worked = worked_more mount caller kept lines (histories mount old) (histories mount mid) (histories mount new) said state line reply left done.worked one.went;
+  others = idle-then mount caller old mid new done.pass done.others one.others;
 }
 
 -- a client's lines among the first lines and the next
@@ -70,7 +71,7 @@ lines-other mount c kept lines i line old new said left is lt other done = subst
 -- so many lines have so many answers
 pub answers-len : (mount : Mount) (caller : ℕ) (kept : ClientState) (lines : List CallLine) (old new : Knows) (said : List Said) (left : ClientState) → LinesDone mount caller kept lines old new said left → length said ≡ length lines
 answers-len mount caller kept lines old new said left done =
-    let e = does-lines mount (IsFull new.logs) caller kept lines done.worked.made said left done.worked.does in
+    let e = does-lines mount (IsFull (histories mount new)) caller kept lines done.worked.made said left done.worked.does in
     sym (length-map said (λ (s : Said). s.line)) ∙ (ap length e ∙ length-map lines (λ (l : CallLine). l.line))
 
 own-of : (b : Bool) (l : CallLine) (xs ys : List CallLine) → length xs < length ys → length (cond b (l ∷ xs) xs) < length (cond b (l ∷ ys) ys)

@@ -1,5 +1,6 @@
--- A call of a client at one of the files, and what a refused one answers.
-use Rattle.std.specs.Prelude.{◌≡◌, ℕ, ◌<◌, ◌≤◌, List, [], ◌∷◌, map, Result}
+-- A call of a client at one of the files or on the names, and what a refused one answers.
+use Rattle.std.specs.Prelude.{◌≡◌, ℕ, ◌<◌, ◌≤◌, List, [], ◌∷◌, map, Option, Result}
+use Rattle.std.specs.Option.{option_map}
 use Rattle.hist_plain.specs.declared.event.Event.{Event}
 use Rattle.page_messages.specs.declared.paged.PagedFile.{PagedFile}
 use Rattle.script_text.specs.declared.script.Reply.{Reply}
@@ -8,14 +9,19 @@ use Rattle.stack_accept.specs.Mount.{Mount}
 use Rattle.stack_accept.specs.declared.entries.FileEntry.{FileEntry}
 use Rattle.tower_core.specs.TreeShape.{TreeShape}
 use Rattle.tower_log.specs.Log.{place_of}
-use Rattle.run_defs.specs.Plan.{Ask, Request, access, sync}
+use Rattle.marshal_buf.specs.Held.{Held}
+use Rattle.name_context.specs.declared.entry.NameErr.{NameErr}
+use Rattle.name_context.specs.Names.{Name, kept_object}
+use Rattle.stack_names.specs.Views.{names_at_start}
+use Rattle.run_defs.specs.Log.{Histories}
+use Rattle.run_defs.specs.Plan.{Ask, NamesAsk, Request, access, sync}
 use Rattle.stack_engine.specs.declared.refusal.StepErr.{StepErr}
 use Rattle.stack_engine.specs.declared.refusal.StepErr.TheVariants.{StoreFault, TrailFull, Memory}
 use Rattle.stack_engine.specs.Engine.{file_in, tree_in}
 use Rattle.stack_engine.specs.Tower.{TowerSeen}
-use Rattle.spr_volume.specs.declared.answered.Answered.{Answered}
-use Rattle.spr_volume.specs.Calls.{CalledAt, IsAccess, IsSync}
-use Rattle.spr_volume.specs.Passes.{Files, IsOf, Knows, known}
+use Rattle.shared_files.specs.declared.answered.Answered.{Answered}
+use Rattle.spr_volume.specs.Calls.{CalledAt, CalledNames, IsAccess, IsSync}
+use Rattle.spr_volume.specs.Passes.{VolumeSeen, IsOf, Knows, known}
 
 -- what no call changes of a tower: its layers, and its file
 pub record Frame : Type 0 where
@@ -40,9 +46,14 @@ AreFrames mount (file ∷ files) (frame ∷ more) =
 abbrev pub AreOfStack : Mount → List TowerSeen → Type 0
 AreOfStack mount towers = AreFrames mount mount.files (frames towers)
 
--- A CALLER THAT MAY CALL: the volume is of the stack, the pass is of the volume, and the caller is one of the pass
-pub record MayCall (mount : Mount) (v : Files) (p : Knows) (caller : ℕ) : Type 0 where
+-- the volume is of the stack: it has a tower for each file, and its names began as the stack's
+pub record IsOfStack (mount : Mount) (v : VolumeSeen) : Type 0 where
   pub towers : AreOfStack mount v.towers
+  pub names : v.names.began ≡ names_at_start mount
+
+-- A CALLER THAT MAY CALL: the volume is of the stack, the pass is of the volume, and the caller is one of the pass
+pub record MayCall (mount : Mount) (v : VolumeSeen) (p : Knows) (caller : ℕ) : Type 0 where
+  pub stack : IsOfStack mount v
   pub of : IsOf v p
   pub first : p.first ≤ caller
   pub last : caller < p.end
@@ -55,6 +66,15 @@ IsAsked caller least (sync node keep) = IsSync caller node keep least
 -- a call at one of the files
 abbrev pub CallDone : ℕ → Request → Knows → Knows → List ℕ → Result Answered StepErr → Type 0
 CallDone caller request old new out r = CalledAt request.file caller (IsAsked caller (place_of (known old request.file)) request.ask) old new out r
+
+-- a call on the names
+abbrev pub NamesDone : VolumeSeen → ℕ → NamesAsk → Option Held → (List Name → Type 0) → Knows → Knows → Option NameErr → Type 0
+NamesDone v caller ask stored Tells old new refused =
+    (option_map kept_object stored ≡ ask.bound) × CalledNames v caller ask.call ask.path stored Tells old new refused
+
+-- what a pass knows of a volume of the stack
+abbrev pub histories : Mount → Knows → Histories
+histories mount p = record { logs = p.logs; names = record { began = names_at_start mount; history = p.history } }
 
 -- what a refused call answers a line of the script
 abbrev pub refusal_of : StepErr → Reply

@@ -1,17 +1,18 @@
-//! A client of a stack's files: its open objects, and what its lines of a script do.
+//! A client of a stack's files and names: its open objects, and what its lines of a script do. A call on a file goes as a frame of its
+//! object's subcontract.
 //!
 //! The lines are this project's own; what a call on a file is follows the Spring papers.
 #![tactic(auto)]
 
 mod calls;
 mod client;
+mod files;
 mod line;
 mod lines;
+mod names;
+mod opening;
 
 pub use calls::sync_at;
 pub use client::{Client, Common, perform};
 pub use line::{refused, reply_to};
 pub use lines::{do_lines, lines_in, run_phase};
-
-#[cfg(test)]
-mod tests;

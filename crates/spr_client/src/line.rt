@@ -1,82 +1,16 @@
-//! What lines of a script do.
+//! What calls answer lines of a script.
 
-ghost use Rattle.std.specs.Prelude.{◌≡◌, ◌<◌, IfOk, length};
-ghost use Rattle.std.specs.Option.{option_copied};
+ghost use Rattle.std.specs.Prelude.{◌≡◌, ◌<◌, IfOk, Some, length, slice_get};
 ghost use Rattle.hist_plain.specs.Plain.{Told};
-ghost use Rattle.run_defs.specs.Names.{found_at};
-ghost use Rattle.run_defs.specs.Plan.{reply_of, object_of, life_in};
+ghost use Rattle.run_defs.specs.Plan.{life_in, refused_as, reply_of};
 ghost use Rattle.spr_client.specs.Calls.{refusal_of};
-ghost use Rattle.spr_client.specs.Lines.{IsRoute};
+ghost use Rattle.spr_client.specs.Names.{IsAt};
 
 use hist_plain::Answer;
-use run_defs::{Found, OpenObject, file_named, view_of};
 use script_text::Reply;
-use seen_values::{Bytes, Text};
-use spr_volume::CallErr;
-use stack_accept::Mounted;
-use std::alloc::AllocError;
-
-/// The open object of a name.
-pub fn find<'a>(objects: &'a [OpenObject], name: &Text) -> Option<&'a OpenObject>
-    ensures { option_copied result ≡ object_of name.now objects.now }
-{
-    objects.iter().find(|o| o.name.as_str() == name.as_str())
-}
-
-/// A path is refused by a part that is absent.
-fn not_bound(part: &Text) -> Result<Found, AllocError>
-    ensures { IfOk result (λ found. found ≡ Found.Refused (Reply.NotBound part.now)) }
-{
-    let part = part.clone()?;
-    Ok(Found::Refused {
-        reply: Reply::NotBound { part },
-    })
-}
-
-/// A path is refused by a part that is an object, where a context is needed.
-fn not_context(part: &Text) -> Result<Found, AllocError>
-    ensures { IfOk result (λ found. found ≡ Found.Refused (Reply.NotContext part.now)) }
-{
-    let part = part.clone()?;
-    Ok(Found::Refused {
-        reply: Reply::NotContext { part },
-    })
-}
-
-/// A path is refused by its last part, which is a context.
-fn not_object(part: &Text) -> Result<Found, AllocError>
-    ensures { IfOk result (λ found. found ≡ Found.Refused (Reply.NotObject part.now)) }
-{
-    let part = part.clone()?;
-    Ok(Found::Refused {
-        reply: Reply::NotObject { part },
-    })
-}
-
-/// What a path leads to: a context for each view, and in it an object for each file.
-pub fn found_at(mount: &Mounted, path: &[Text]) -> Result<Found, AllocError>
-    requires { 0 < length path.now }
-    ensures found { IfOk result (λ found. found ≡ found_at mount.now path.now) }
-    ensures route { IfOk result (IsRoute mount.now) }
-{
-    let Some((part, behind)) = path.split_first() else {
-        unreachable!()
-    };
-    let Some(node) = view_of(mount, part) else {
-        return not_bound(part);
-    };
-    let Some((last, beyond)) = behind.split_first() else {
-        return not_object(part);
-    };
-    let Some(file) = file_named(mount, last) else {
-        return not_bound(last);
-    };
-    if beyond.is_empty() {
-        Ok(Found::Route { file, node })
-    } else {
-        not_context(last)
-    }
-}
+use seen_values::{Bytes, Path, Text};
+use spr_volume::{CallErr, NameErr};
+use std::alloc::{AllocError, Global};
 
 /// The answer of the file, as the answer to a line. The bytes that were read are in `out`.
 pub fn reply_to(answer: Answer, out: Vec<u8>) -> Reply
@@ -92,7 +26,7 @@ pub fn reply_to(answer: Answer, out: Vec<u8>) -> Reply
     }
 }
 
-/// A refused call, as the answer to a line.
+/// A refused call on a file, as the answer to a line.
 pub fn refused(err: CallErr) -> Reply
     ensures { result ≡ refusal_of err }
 {
@@ -100,6 +34,49 @@ pub fn refused(err: CallErr) -> Reply
         CallErr::StoreFault { disk, count } => Reply::Store { disk, count },
         CallErr::TrailFull => Reply::TrailFull,
         CallErr::Memory => Reply::Memory,
+    }
+}
+
+/// The parts of a path, for the answer to a line whose path is refused at one of them.
+pub(crate) fn parts_of(alloc: Global, path: &Path) -> Result<Vec<Text>, AllocError>
+    ensures { IfOk result (λ parts. parts.items ≡ path.now) }
+{
+    let from = path.as_slice();
+    let mut parts = Vec::with_capacity(alloc, from.len())?;
+    for part in from {
+        parts.push_reserved(part.clone()?);
+    }
+    Ok(parts)
+}
+
+/// A part of a path.
+fn part_at(parts: Vec<Text>, part: u32) -> Text
+    requires { part < length parts.items }
+    ensures { Some result ≡ slice_get parts.items part }
+{
+    let mut parts = parts;
+    parts.swap_remove(part as usize)
+}
+
+/// A refused call on the names of a path with these parts, as the answer to a line.
+pub(crate) fn refused_names(err: NameErr, parts: Vec<Text>) -> Reply
+    requires { IsAt (length parts.items) err }
+    ensures { result ≡ refused_as (Some parts.items) err }
+{
+    match err {
+        NameErr::NotBound { part } => Reply::NotBound {
+            part: part_at(parts, part),
+        },
+        NameErr::AlreadyBound { part } => Reply::AlreadyBound {
+            part: part_at(parts, part),
+        },
+        NameErr::NotContext { part } => Reply::NotContext {
+            part: part_at(parts, part),
+        },
+        NameErr::NotObject { part } => Reply::NotObject {
+            part: part_at(parts, part),
+        },
+        NameErr::Memory => Reply::Memory,
     }
 }
 

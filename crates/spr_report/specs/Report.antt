@@ -22,6 +22,8 @@ use Rattle.script_text.specs.declared.script.Reply.TheVariants as replies
 use Rattle.script_text.specs.Answer.{answer_words}
 use Rattle.stack_accept.specs.declared.entries.FileEntry.{FileEntry}
 use Rattle.stack_accept.specs.Mount.{Mount}
+use Rattle.name_context.specs.declared.entry.NameEntry.{NameEntry}
+use Rattle.names_report.specs.Lines.{names_part}
 use Rattle.run_defs.specs.declared.store.StoreKey.{StoreKey}
 use Rattle.run_defs.specs.Stack.{name_in, disk_name, file_name, node_names}
 use Rattle.pager_channel.specs.declared.numbers.Ops.{Ops}
@@ -127,9 +129,10 @@ abbrev pub lost_line : Mount → StoreKey → List ℕ
 lost_line mount lost = line_of (codes "bay" ∷ disk_name mount lost.disk ∷ file_name mount lost.file ∷ [])
 
 -- the whole text. It has the messages too, where the numbers of the operations are given
-abbrev pub report : Mount → Script → Option Ops → List (List Logged) → List (List Said) → List Reply → List StoreKey → List ℕ
-report mount script traced logs said closing lost =
+abbrev pub report : Mount → Script → Option Ops → List (List Logged) → List NameEntry → List (List Said) → List Reply → List StoreKey → List ℕ
+report mount script traced logs history said closing lost =
     client_parts mount.disks script.clients said
     ++ file_parts (callers_of script.clients) mount traced 0 mount.files logs
+    ++ names_part (callers_of script.clients) history
     ++ closing_lines mount.disks mount.files closing
     ++ flat_map (lost_line mount) lost

@@ -10,12 +10,14 @@ ghost use Rattle.spr_report.specs.Tracing.{AreReported, IsReported};
 
 use super::*;
 use hist_plain::{Answer, Event, Keep, MAX_EVENTS, MAX_PAGES, Op, fits};
+use name_context::Names as StackNames;
 use pager_channel::Ops;
 use run_defs::StoreKey;
 use script_text::{Reply, Said, parse_script};
-use seen_values::Bytes;
+use seen_values::{Bytes, Path};
 use spr_io::MemSink;
 use stack_accept::{FileEntry, Mounted, accept};
+use stack_names::start_names;
 use stack_text::{StackText, parse_stack};
 use std::alloc::{AllocError, Global};
 use std::test::Fail;
@@ -173,7 +175,17 @@ fn logged(alloc: Global, mount: &Mounted) -> Result<Trail, Fail>
     Ok(log)
 }
 
-/// The report of a client whose lines were done, and of a log of the one file.
+/// The names of the stack, after a client's resolve of `c/f`.
+fn named(alloc: Global, mount: &Mounted) -> Result<StackNames, Fail> {
+    let mut names = start_names(alloc, mount)?;
+    let path = Path::of(alloc, &["c", "f"])?;
+    match names.resolve(0, &path) {
+        Ok(_) => Ok(names),
+        Err(_) => Err(Fail::from("the path")),
+    }
+}
+
+/// The report of a client whose lines were done, of a log of the one file, and of the names.
 fn told(
     alloc: Global,
     mount: &Mounted,
@@ -195,11 +207,13 @@ fn told(
     said.push(Said { line: 3, reply })?;
     let reply = Reply::Done;
     said.push(Said { line: 4, reply })?;
+    let names = named(alloc, mount)?;
     let run = Run {
         mount,
         script: &script,
         traced,
         logs,
+        names: &names,
         said: &[said],
         closing: &[Reply::Done],
         lost: &[],
@@ -215,6 +229,8 @@ file f
 0 a 0 c 0 open life 0
 2 a 1 c 0 write 0 0 61626364 done
 4 mount 0 c synced 3 done
+names
+0 a 0 resolve c/f done
 ";
 
 /// The report with the messages.
@@ -227,6 +243,8 @@ file f
 2 a 1 c 0 write 0 0 61626364 done
 3 c sync 0 000200030000000000000000000000000000004002010000 000200030000000000000000000000000000004002020000
 4 mount 0 c synced 3 done
+names
+0 a 0 resolve c/f done
 ";
 
 #[test]

@@ -14,6 +14,8 @@ use crate::event::{Names, put_entry};
 use crate::tracing::Tracer;
 use crate::writing::lost_pieces;
 use hist_plain::Event;
+use name_context::Names as StackNames;
+use names_report::put_names;
 use pager_channel::Ops;
 use run_defs::StoreKey;
 use script_text::{ClientLine, Reply, Said, Script};
@@ -34,6 +36,8 @@ pub struct Run<'a> {
     pub traced: Option<Ops>,
     /// Each file's log, in the order of the files.
     pub logs: &'a [Trail],
+    /// The names, with the history of the calls on them.
+    pub names: &'a StackNames,
     /// Each client's answers, in the order of the clients.
     pub said: &'a [Vec<Said>],
     /// The answer of each file's closing sync.
@@ -176,12 +180,12 @@ fn put_lost(out: &mut Vec<u8>, mount: &Mounted, lost: &[StoreKey]) -> Result<(),
 }
 
 /// The text of a run that reached its phases, without the line of its status: the answers of each
-/// client, the log of each file, the closing syncs that failed, and the stores that were lost.
+/// client, the log of each file, the history of the names, the closing syncs that failed, and the stores that were lost.
 pub fn report(alloc: Global, run: &Run<'_>) -> Result<Vec<u8>, AllocError>
     requires logs { AreReported run.now.mount.now run.now.mount.now.files (map (λ t. t.log) run.now.logs.now) }
     requires said { length run.now.said.now ≡ length run.now.script.now.clients }
     requires closing { length run.now.closing.now ≡ length run.now.mount.now.files }
-    ensures { IfOk result (λ text. text.items ≡ report run.now.mount.now run.now.script.now run.now.traced (map (λ t. t.log) run.now.logs.now) (map (λ v. v.items) run.now.said.now) run.now.closing.now run.now.lost.now) }
+    ensures { IfOk result (λ text. text.items ≡ report run.now.mount.now run.now.script.now run.now.traced (map (λ t. t.log) run.now.logs.now) run.now.names.now.history (map (λ v. v.items) run.now.said.now) run.now.closing.now run.now.lost.now) }
 {
     let mut out = Vec::new(alloc);
     let mount = run.mount;
@@ -193,6 +197,7 @@ pub fn report(alloc: Global, run: &Run<'_>) -> Result<Vec<u8>, AllocError>
     };
     put_clients(alloc, &mut out, mount.disks(), clients, run.said)?;
     put_files(alloc, &mut out, &names, run)?;
+    put_names(alloc, &mut out, &callers, run.names)?;
     put_closings(alloc, &mut out, mount.disks(), mount.files(), run.closing)?;
     put_lost(&mut out, mount, run.lost)?;
     Ok(out)

@@ -1,38 +1,109 @@
--- Where no line of a script is later, the program makes its calls.
-use Rattle.std.proofs.Common.{◌≡◌, ℕ, ◌<◌, length, arith, Bool, true, false, cond, not, List, [], ◌∷◌, Option, Some, None, refl}
-use Rattle.std.specs.Option.{option_or}
-use Rattle.std.specs.List.{AllByRecursion}
+-- Where no line of a script is later and the stack has what each names, the program makes its calls.
+use Rattle.std.proofs.Common.{◌≡◌, ℕ, suc, ◌+◌, ◌≤◌, length, arith, Bool, true, false, cond, not, ◌&&◌, ◌||◌, leb, position, IsSome, List, [], ◌∷◌, Option, Some, None, refl, sym, subst}
+use Rattle.std.specs.Option.{option_map, option_or}
+use Rattle.std.proofs.lemmas.Bool.{and_parts, leb-true}
+use Rattle.std.specs.Str.{bytes_eq}
+use Rattle.std.specs.List.{AllByRecursion, list_any, list_all, position_from}
+use Rattle.std.proofs.lemmas.Iterator.Adapters.{position_from-zero}
+use Rattle.text_words.specs.Words.{IsPath, is_name}
 use Rattle.script_text.specs.declared.script.Call.{Call}
 use Rattle.script_text.specs.declared.script.Call.TheVariants as calls
+use Rattle.script_text.specs.declared.script.Sub.{Sub}
+use Rattle.script_text.specs.declared.script.Sub.TheVariants as subs
 use Rattle.script_text.specs.declared.script.CallLine.{CallLine}
+use Rattle.script_text.specs.declared.script.Script.{Script}
+use Rattle.script_text.specs.Grammar.{AreCalls as AreCallLines, ArePhases, IsCall, IsScript}
+use Rattle.stack_accept.specs.declared.entries.FileEntry.{FileEntry}
+use Rattle.stack_accept.specs.declared.entries.NodeEntry.{NodeEntry}
+use Rattle.stack_accept.specs.Mount.{Mount, is_view}
+use Rattle.name_context.specs.Names.{HasParts}
+use Rattle.run_defs.specs.Stack.{view_of, file_named}
+use Rattle.run_defs.specs.Plan.{sub_id}
 use Rattle.spr_client.specs.Lines.{AreCalls, IsCallOf}
-use Rattle.run_texts.specs.Later.{is_built, has_part, later_in, later_call}
+use Rattle.run_texts.specs.Later.{is_made, is_built, later_in, later_call}
+use Rattle.run_texts.specs.Known.{has_view, has_file, is_known, unknown_client, unknown_in, unknown_call, unknown_line}
 
-path-part : (path : List (List ℕ)) → has_part path ≡ true → 0 < length path
-path-part [] e = absurd cc
-path-part (part ∷ parts) e = omega arith
+-- a path of a text has its parts
+parts-of : (path : List (List ℕ)) → IsPath path → HasParts path
+parts-of path is =
+    let outer = and_parts (leb 1 (length path) && leb (length path) 8) (list_all is_name path) is in
+    let inner = and_parts (leb 1 (length path)) (leb (length path) 8) outer.0 in
+    let some : 1 ≤ length path = leb-true 1 (length path) inner.0 in
+    let few : length path ≤ 8 = leb-true (length path) 8 inner.1 in
+    record { some = omega (arith, some); few = omega (arith, few) }
 
-call-built : (call : Call) → is_built call ≡ true → IsCallOf call
-call-built (calls.Open name path) e = path-part path e
-call-built (calls.Read name page off len) e = tt
-call-built (calls.Write name page off bytes) e = tt
-call-built (calls.Clear name page) e = tt
-call-built (calls.Sync name) e = tt
-call-built _ e = absurd cc
+some-if : (b c : Bool) (n : ℕ) (rest : Option ℕ) → (b || c) ≡ true → (c ≡ true → IsSome rest) → IsSome (cond b (Some n) rest)
+some-if true c n rest e f = tt
+some-if false c n rest e f = f e
 
-built-or : (b : Bool) (l : CallLine) (o : Option CallLine) → cond (not b) (Some l) o ≡ None → (b ≡ true) × (o ≡ None)
-built-or true l o e = (refl, e)
-built-or false l o e = absurd cc
+-- what an item passes is found at a place
+found-from : {A : Type 0} (p : A → Bool) (n : ℕ) (xs : List A) → list_any p xs ≡ true → IsSome (position_from p n xs)
+found-from p n [] e = absurd cc
+found-from p n (x ∷ xs) e = some-if (p x) (list_any p xs) n (position_from p (n + 1) xs) e (found-from p (n + 1) xs)
+
+found : {A : Type 0} (p : A → Bool) (xs : List A) → list_any p xs ≡ true → IsSome (position p xs)
+found p xs e = subst (λ (o : Option ℕ). IsSome o) (sym (position_from-zero p xs)) (found-from p 0 xs e)
+
+made-some : (sub : Sub) → is_made sub ≡ true → IsSome (sub_id sub)
+made-some subs.Singleton e = tt
+made-some subs.Cluster e = tt
+made-some subs.Caching e = absurd cc
+made-some subs.Reconnectable e = absurd cc
+
+call-of : (mount : Mount) (call : Call) → IsCall call → is_built call ≡ true → is_known mount call ≡ true → IsCallOf mount call
+call-of mount (calls.Context path) is built known = parts-of path is
+call-of mount (calls.Bind path sub view file) is built known =
+    let named = and_parts (has_view mount view) (has_file mount file) known in
+    (
+      parts-of path is.0,
+      made-some sub built,
+      found (λ (node : NodeEntry). is_view node.kind && bytes_eq node.name view) mount.nodes named.0,
+      found (λ (f : FileEntry). bytes_eq f.name file) mount.files named.1,
+    )
+call-of mount (calls.Unbind path) is built known = parts-of path is
+call-of mount (calls.List None) is built known = refl
+call-of mount (calls.List (Some path)) is built known = parts-of path is
+call-of mount (calls.Open name path) is built known = parts-of path is.1
+call-of mount (calls.Copy name other) is built known = tt
+call-of mount (calls.Drop name) is built known = tt
+call-of mount (calls.Read name page off len) is built known = tt
+call-of mount (calls.Write name page off bytes) is built known = tt
+call-of mount (calls.Clear name page) is built known = tt
+call-of mount (calls.Sync name) is built known = tt
+call-of mount _ is built known = absurd cc
+
+passes-or : (b : Bool) (l : CallLine) (o : Option CallLine) → cond (not b) (Some l) o ≡ None → (b ≡ true) × (o ≡ None)
+passes-or true l o e = (refl, e)
+passes-or false l o e = absurd cc
 
 or-none : (a b : Option CallLine) → option_or a b ≡ None → (a ≡ None) × (b ≡ None)
 or-none None b e = (refl, e)
 or-none (Some x) b e = absurd cc
 
-lines-built : (lines : List CallLine) → later_in lines ≡ None → AreCalls lines
-lines-built [] e = tt
-lines-built (l ∷ lines) e = let both = built-or (is_built l.call) l (later_in lines) e in (call-built l.call both.0, lines-built lines both.1)
+lines-of : (mount : Mount) (count number : ℕ) (lines : List CallLine) → AreCallLines count number lines → later_in lines ≡ None → unknown_in mount lines ≡ None → AreCalls mount lines
+lines-of mount count number [] are later unknown = tt
+lines-of mount count number (l ∷ lines) are later unknown =
+    let built = passes-or (is_built l.call) l (later_in lines) later in
+    let known = passes-or (is_known mount l.call) l (unknown_in mount lines) unknown in
+    (call-of mount l.call are.2 built.0 known.0, lines-of mount count (suc number) lines are.3 built.1 known.1)
 
--- a script without a later call has calls that the program makes
-pub phases-built : (phases : List (List CallLine)) → later_call phases ≡ None → AllByRecursion AreCalls phases
-phases-built [] e = tt
-phases-built (phase ∷ phases) e = let both = or-none (later_in phase) (later_call phases) e in (lines-built phase both.0, phases-built phases both.1)
+phases-of : (mount : Mount) (count number : ℕ) (phases : List (List CallLine)) → ArePhases count number phases → later_call phases ≡ None → unknown_call mount phases ≡ None → AllByRecursion (AreCalls mount) phases
+phases-of mount count number [] are later unknown = tt
+phases-of mount count number (phase ∷ phases) are later unknown =
+    let built = or-none (later_in phase) (later_call phases) later in
+    let known = or-none (unknown_in mount phase) (unknown_call mount phases) unknown in
+    (lines-of mount count (suc number) phase are.0 built.0 known.0, phases-of mount count (suc number + length phase) phases are.1 built.1 known.1)
+
+line-none : (o : Option CallLine) → option_map {T = CallLine} (λ l. l.line) o ≡ None → o ≡ None
+line-none None e = refl
+line-none (Some l) e = absurd cc
+
+numbers-none : (a b : Option ℕ) → option_or a b ≡ None → b ≡ None
+numbers-none None b e = e
+numbers-none (Some n) b e = absurd cc
+
+-- a script without a later call, which names what the stack has, has calls that the program makes
+pub phases-built : (mount : Mount) (script : Script) → IsScript script → later_call script.phases ≡ None → unknown_line mount script ≡ None → AllByRecursion (AreCalls mount) script.phases
+phases-built mount script is later unknown =
+    phases-of mount (length script.clients) (suc (length script.clients)) script.phases is.phases later
+    (line-none (unknown_call mount script.phases) (numbers-none (unknown_client mount script.clients) (option_map {T = CallLine} (λ l. l.line) (unknown_call mount script.phases)) unknown))

@@ -1,4 +1,2 @@
-pub mod Holding
-pub mod RowLemmas
-pub mod Passing
+pub mod Both
 pub mod Crossing

@@ -1,5 +1,3 @@
-pub mod Passes
-pub mod Holds
 pub mod Calls
-pub mod Rows
+pub mod Passes
 pub mod Sample

@@ -1,118 +1,117 @@
 -- What contracts see of a volume and of a pass.
-use Rattle.std.specs.Prelude.{◌≡◌, ℕ, ◌<◌, ◌≤◌, List, [], ◌∷◌, length, map, slice_get, Option, Some, unwrap_or, Bool, false}
-use Rattle.std.specs.List.{AllByRecursion}
+use Rattle.std.specs.Prelude.{◌≡◌, ℕ, false, List, [], map, slice_get, Option, Some, unwrap_or}
 use Rattle.atomic_table.specs.Seated.{TableId}
-use Rattle.hist_lock.specs.Known.{Known, Lock}
-use Rattle.hist_lock.specs.Ranges.{Added, Follows, in_range}
+use Rattle.hist_lock.specs.Ranges.{Added}
 use Rattle.tower_log.specs.declared.logged.Logged.{Logged}
 use Rattle.stack_engine.specs.Engine.{log_in}
 use Rattle.stack_engine.specs.Tower.{TowerSeen}
-use Rattle.shared_tower.specs.Later.{IsLater}
-use Rattle.shared_tower.specs.Shared.{IsPlain, SharedSeen, by}
+use Rattle.name_context.specs.declared.entry.NameEntry.{NameEntry}
+use Rattle.name_context.specs.History.{NamesSeen}
+use Rattle.name_context.specs.Names.{Name}
+use Rattle.shared_tower.specs.Shared.{IsPlain}
+use Rattle.shared_files.specs.Passes.{FilesSeen, FilesKnown, Owner}
+pub use Rattle.shared_files.specs.Passes.{AreBack, IsBack, Quietly, is_own, logs}
+use Rattle.shared_names.specs.Shared.{NamesLock, NamesSeat}
+use Rattle.shared_names.specs.Shared.{Quietly as NamesQuietly}
 
--- the lock of a file, and what a seat of it knows
-abbrev pub FileLock : Type 0
-FileLock = Lock SharedSeen Logged TowerSeen
-
-abbrev pub FileSeat : Type 0
-FileSeat = Known Logged TowerSeen
-
--- which lock a file has, and the tower that was handed in for it
-pub record Owner : Type 0 where
+-- which lock the names have, and the names at the start
+pub record Register : Type 0 where
   pub lock : TableId
-  pub tower : Option TowerSeen
+  pub names : Option (List Name)
 
--- a volume: its files, the tower that was handed in for each, and one more than the last of its callers, which begin with 0
-pub record Files : Type 0 where
-  pub owners : List Owner
+-- what a volume's passes are known by: the locks of its files, with the tower that was handed in for each, and that of its names
+pub record Owners : Type 0 where
+  pub files : List Owner
+  pub names : Register
+
+-- a volume: its locks, the tower that was handed in for each file, the names as they were handed in, and one more than the last of
+-- its callers, which begin with 0
+pub record VolumeSeen : Type 0 where
+  pub owners : Owners
   pub towers : List TowerSeen
+  pub names : NamesSeen
   pub end : ℕ
 
--- a pass: its files, its callers from first up to end, and the beginning of each file's log that it knows
+-- a pass: its locks, its callers from first up to end, and the beginning that it knows of each file's log, and of the names' history
 pub record Knows : Type 0 where
-  pub owners : List Owner
+  pub owners : Owners
   pub first : ℕ
   pub end : ℕ
   pub logs : List (List Logged)
+  pub history : List NameEntry
 
-abbrev pub owner : FileLock → Owner
-owner l = record { lock = l.name; tower = Some l.part }
+abbrev pub register : NamesLock → Register
+register l = record { lock = l.name; names = Some l.part }
 
-abbrev pub owner_of : FileSeat → Owner
-owner_of s = record { lock = s.lock; tower = s.part }
+abbrev pub register_of : NamesSeat → Register
+register_of s = record { lock = s.lock; names = s.part }
 
--- the lock began with the tower that was handed in, for the callers from 0 up to end
-pub record IsLock (end : ℕ) (l : FileLock) : Type 0 where
+-- a volume of these files, with its names under this lock
+abbrev pub volume_of : FilesSeen → NamesLock → VolumeSeen
+volume_of f l = record {
+  owners = record { files = f.owners; names = register l };
+  towers = f.towers;
+  names = record { began = l.part; history = l.began };
+  end = f.end;
+}
+
+-- a pass of files, and a seat of the names
+abbrev pub pass_of : FilesKnown → NamesSeat → Knows
+pass_of f s = record {
+  owners = record { files = f.owners; names = register_of s };
+  first = f.first;
+  end = f.end;
+  logs = f.logs;
+  history = s.seen;
+}
+
+-- the lock is for the callers from 0 up to end
+pub record IsLock (end : ℕ) (l : NamesLock) : Type 0 where
   pub first_is : l.first ≡ 0
   pub end_is : l.end ≡ end
-  pub began_is : l.began ≡ log_in l.part.engine
 
--- the seat has this range, and no value
-pub record IsSeat (first end : ℕ) (s : FileSeat) : Type 0 where
+-- the seat has this range, and has not taken the names
+pub record IsSeat (first end : ℕ) (s : NamesSeat) : Type 0 where
   pub first_is : s.first ≡ first
   pub end_is : s.end ≡ end
   pub free : s.taken ≡ false
 
--- the seats of a pass have its range, which has a caller; and where caller 0 is one, there is room for as many towers
-pub record IsPass (first end : ℕ) (seats : List FileSeat) (room : List TowerSeen) (capacity : ℕ) : Type 0 where
-  pub seated : AllByRecursion (IsSeat first end) seats
-  pub some : first < end
-  pub empty : room ≡ []
-  pub enough : first ≡ 0 → length seats ≤ capacity
-
 -- a pass of this volume
-abbrev pub IsOf : Files → Knows → Type 0
+abbrev pub IsOf : VolumeSeen → Knows → Type 0
 IsOf v p = p.owners ≡ v.owners
-
--- the log of each tower
-abbrev pub logs : List TowerSeen → List (List Logged)
-logs towers = map (λ t. log_in t.engine) towers
 
 -- what a pass knows of a file; of one that is not there, nothing
 abbrev pub known : Knows → ℕ → List Logged
 known p file = unwrap_or (slice_get p.logs file) []
 
--- a volume of these towers, for so many callers
-pub record IsMounted (towers : List TowerSeen) (callers : ℕ) (v : Files) : Type 0 where
+-- a volume of these towers and names, for so many callers
+pub record IsMounted (towers : List TowerSeen) (names : NamesSeen) (callers : ℕ) (v : VolumeSeen) : Type 0 where
   pub towers_are : v.towers ≡ towers
+  pub names_are : v.names ≡ names
   pub end_is : v.end ≡ callers
 
--- the pass of all callers, which knows the logs as they were handed in
-abbrev pub whole : Files → Knows
-whole v = record { owners = v.owners; first = 0; end = v.end; logs = logs v.towers }
+-- the pass of all callers, which knows the logs and the history as they were handed in
+abbrev pub whole : VolumeSeen → Knows
+whole v = record { owners = v.owners; first = 0; end = v.end; logs = logs v.towers; history = v.names.history }
 
 -- the pass with another range
 abbrev pub with_range : Knows → ℕ → ℕ → Knows
-with_range p first end = record { owners = p.owners; first = first; end = end; logs = p.logs }
+with_range p first end = record { owners = p.owners; first = first; end = end; logs = p.logs; history = p.history }
 
--- the pass with other logs
-abbrev pub with_logs : Knows → List (List Logged) → Knows
-with_logs p new = record { owners = p.owners; first = p.first; end = p.end; logs = new }
+-- a pass, but with what another one knows
+abbrev pub as_known : Knows → Knows → Knows
+as_known p other = record { owners = p.owners; first = p.first; end = p.end; logs = other.logs; history = other.history }
 
--- whether an entry is one of the range's callers'
-abbrev pub is_own : ℕ → ℕ → Logged → Bool
-is_own first end logged = in_range first end (by logged)
-
--- A LOG GOES ON, without an entry of the range's callers
-abbrev pub Quietly : ℕ → ℕ → List Logged → List Logged → Type 0
-Quietly first end old new = Follows (is_own first end) old new
-
--- each log goes on so
-abbrev pub AllQuietly : ℕ → ℕ → Knows → Knows → Type 0
-AllQuietly first end old new = (file : ℕ) → Quietly first end (known old file) (known new file)
+-- each log and the history go on, without an entry of the range's callers
+pub record AllQuietly (first end : ℕ) (old new : Knows) : Type 0 where
+  pub files : (file : ℕ) → Quietly first end (known old file) (known new file)
+  pub names : NamesQuietly first end old.history new.history
 
 -- the answers that a pass knows of a file are the plain file's
-abbrev pub KnowsPlain : Files → Knows → ℕ → Type 0
+abbrev pub KnowsPlain : VolumeSeen → Knows → ℕ → Type 0
 KnowsPlain v p file = (t : TowerSeen) → slice_get v.towers file ≡ Some t → IsPlain t.engine (known p file)
 
--- WHAT A FILE IS AFTER ALL CALLS: the tower that was handed in, later on, of which every caller was one of those below end
-pub record IsBack (end : ℕ) (old new : TowerSeen) : Type 0 where
-  pub later : IsLater old.engine new.engine
-  pub callers : Added by 0 end (log_in old.engine) (log_in new.engine)
-
--- each tower is so
-abbrev pub AreBack : ℕ → List TowerSeen → List TowerSeen → Type 0
-AreBack end [] [] = Unit {0}
-AreBack end [] (n ∷ ns) = ⊥
-AreBack end (t ∷ ts) [] = ⊥
-AreBack end (t ∷ ts) (n ∷ ns) = IsBack end t n × AreBack end ts ns
+-- WHAT THE NAMES ARE AFTER ALL CALLS: those that were handed in, with calls more, each of a caller below end
+pub record AreNamesBack (end : ℕ) (old new : NamesSeen) : Type 0 where
+  pub began : new.began ≡ old.began
+  pub callers : Added (λ (e : NameEntry). Some e.caller) 0 end old.history new.history

@@ -1,13 +1,15 @@
 use Rattle.std.proofs.Common.{◌≡◌, suc, length, List, map, sym, ap, subst, ◌∙◌, arith}
 use Rattle.stack_engine.specs.Tower.{TowerSeen}
-use Rattle.spr_volume.specs.Passes.{AreBack, Files, Knows, logs}
+use Rattle.name_context.specs.History.{NamesSeen}
+use Rattle.run_files.specs.Play.{unnamed}
+use Rattle.spr_volume.specs.Passes.{AreBack, AreNamesBack, Knows, VolumeSeen, logs}
 use Rattle.run_files.proofs.PlayLaws.{played-back}
 use Rattle.run_files.proofs.play.play.Goals as goal
 
 pub returns-clause-played : goal.returns-clause-played
 returns-clause-played g c =
     let script = c.args.script.now in
-    let v : Files = c.in_ok-volume.volume in
+    let v : VolumeSeen = c.in_ok-volume.volume in
     let p : Knows = c.in_ok-volume.pass in
     let mounted = c.in_ok-volume.ensures.volume in
     let count = ap length c.as_slice.ensures in

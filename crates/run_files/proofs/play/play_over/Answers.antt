@@ -3,7 +3,8 @@ use Rattle.script_text.specs.declared.script.CallLine.{CallLine}
 use Rattle.run_phases.specs.declared.worker.Worker.{Worker}
 use Rattle.run_phases.specs.Phases.{PhasesDone}
 use Rattle.run_phases.specs.Closing.{FilesClosed}
-use Rattle.run_files.proofs.PlayLaws.{length-done, length-started, played, ready, silent}
+use Rattle.spr_client.specs.Calls.{histories}
+use Rattle.run_files.proofs.PlayLaws.{length-done, length-started, played, ready, silent, some-machine}
 use Rattle.run_files.proofs.play.play_over.Goals as goal
 
 pub run_phases-pass-requires-clause-ready : goal.run_phases-pass-requires-clause-ready
@@ -14,9 +15,9 @@ run_phases-pass-requires-clause-ready g c κs within =
     let end = c.requires.all.1 in
     let many = length-started c.args.common.now.mount.now 0 script.clients begun c.requires.room.started in
     record {
-      towers = c.requires.towers;
+      stack = c.requires.stack;
       of = c.requires.pass;
-      clients = ready c.args.common.now.mount.now 0 script.clients begun c.requires.room.started;
+      clients = ready c.args.common.now.mount.now 0 script.clients begun (some-machine c.args.common.now.mount.now c.nodes-nodes.ensures.sound) c.requires.room.started;
       first_is = omega (arith, first);
       last_is = omega (arith, many, end);
       small = let few = c.requires.script.clients in omega (arith, many);
@@ -30,7 +31,7 @@ gather-requires g c =
     let mount = c.args.common.now.mount.now in
     let begun : List Worker = c.args.asked.clients.items in
     let done = c.run_phases-pass.ensures.done in
-    let many = length-done mount c.as_slice-2.result.now c.args.pass.logs done.cuts begun c.run_phases-pass.result.1.items done.each in
+    let many = length-done mount c.as_slice-2.result.now (histories mount c.args.pass) done.cuts begun c.run_phases-pass.result.1.items done.each in
     let started = length-started mount 0 c.args.script.now.clients begun c.requires.room.started in
     let room = c.requires.room.said.1 in
     (c.requires.room.said.0, omega (arith, many, started, room))

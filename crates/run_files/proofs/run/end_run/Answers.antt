@@ -86,14 +86,14 @@ returns g c =
     c.status_of-status.ensures
     ∙ (ap (λ ss. status_of (map (λ v. v.items) ss) c.deref-7.result.now c.deref-8.result.now) c.deref-6.ensures.value
     ∙ (ap (λ (cs : List Reply). status_of said cs c.deref-8.result.now) c.deref-7.ensures.value ∙ ap (λ (gone : List StoreKey). status_of said closing gone) c.deref-8.ensures.value)) in
-    let tells : Tells mount script traced ls said closing lost status old new c.tell.result =
-    subst (λ (gone : List StoreKey). Tells mount script traced ls said closing gone status old new c.tell.result) c.deref-5.ensures.value
-    (subst (λ (cs : List Reply). Tells mount script traced ls said cs c.deref-5.result.now status old new c.tell.result) c.deref-4.ensures.value
-    (subst (λ (ss : List (List Said)). Tells mount script traced ls ss c.deref-4.result.now c.deref-5.result.now status old new c.tell.result) said_is
-    (subst (λ (o : Option Ops). Tells mount script o ls (map (λ v. v.items) c.deref-3.result.now) c.deref-4.result.now c.deref-5.result.now status old new c.tell.result) c.traced_by.ensures c.tell.ensures))) in
+    let tells : Tells mount script traced (record { logs = ls; names = c.args.names }) said closing lost status old new c.tell.result =
+    subst (λ (gone : List StoreKey). Tells mount script traced (record { logs = ls; names = c.args.names }) said closing gone status old new c.tell.result) c.deref-5.ensures.value
+    (subst (λ (cs : List Reply). Tells mount script traced (record { logs = ls; names = c.args.names }) said cs c.deref-5.result.now status old new c.tell.result) c.deref-4.ensures.value
+    (subst (λ (ss : List (List Said)). Tells mount script traced (record { logs = ls; names = c.args.names }) ss c.deref-4.result.now c.deref-5.result.now status old new c.tell.result) said_is
+    (subst (λ (o : Option Ops). Tells mount script o (record { logs = ls; names = c.args.names }) (map (λ v. v.items) c.deref-3.result.now) c.deref-4.result.now c.deref-5.result.now status old new c.tell.result) c.traced_by.ensures c.tell.ensures))) in
     record {
       ended = λ bay stores begun taken opens played.
-          run-over mount script traced bay mid end begun after stores closed keys lost said closing ls old new status c.tell.result taken
+          run-over mount script traced bay mid end begun after c.args.names stores closed keys lost said closing ls old new status c.tell.result taken
           (record {
             one = c.requires.built.disk;
             keys = taken.which ∙ c.requires.keys;

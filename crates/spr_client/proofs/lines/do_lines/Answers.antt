@@ -5,8 +5,7 @@ use Rattle.run_defs.specs.Fits.{lines_of}
 use Rattle.run_defs.specs.Plan.{plan}
 use Rattle.spr_volume.specs.Passes.{Knows}
 use Rattle.spr_client.specs.declared.client.Client.{Client}
-use Rattle.spr_client.specs.Lines.{LineDone, LinesDone, IsObject}
-use Rattle.std.specs.List.{AllByRecursion}
+use Rattle.spr_client.specs.Lines.{IsOnMachine, LineDone, LinesDone}
 use Rattle.spr_client.proofs.LinesLaws.{lines-own, lines-other, answers-len, own-more}
 use Rattle.spr_client.proofs.lines.do_lines.Goals.{then-line-client, else-line-client}
 use Rattle.spr_client.proofs.lines.do_lines.Goals as goal
@@ -51,7 +50,7 @@ loop-line-preserved g c =
               subst (λ (p : Knows). LinesDone mount old.caller old.state (lines_of old.caller (take (at + 1) lines)) c.args.pass.now p (so ++ said ∷ []) c.if-line-client.client.state) (sym w.pass-is)
                   (subst (λ (k : Client). LinesDone mount old.caller old.state (lines_of old.caller (take (at + 1) lines)) c.args.pass.now w.perform-reply.new.pass (so ++ said ∷ []) k.state) (sym w.client-is) done),
             );
-            objects = subst (λ (k : Client). AllByRecursion (IsObject mount) k.state.objects) (sym w.client-is) w.perform-reply.ensures.objects;
+            on = subst (λ (k : Client). IsOnMachine mount k.state) (sym w.client-is) w.perform-reply.ensures.on;
             caller = ap (λ (k : Client). k.caller) w.client-is ∙ (ap (λ (k : Client). k.caller) w.perform-reply.ensures.same ∙ inv.caller);
             room = cc;
           }
@@ -66,7 +65,7 @@ loop-line-preserved g c =
               subst (λ (p : Knows). LinesDone mount old.caller old.state (lines_of old.caller (take (at + 1) lines)) c.args.pass.now p so c.if-line-client.client.state) (sym w.pass-is)
                   (subst (λ (k : Client). LinesDone mount old.caller old.state (lines_of old.caller (take (at + 1) lines)) c.args.pass.now pass so k.state) (sym w.client-is) done),
             );
-            objects = subst (λ (k : Client). AllByRecursion (IsObject mount) k.state.objects) (sym w.client-is) inv.objects;
+            on = subst (λ (k : Client). IsOnMachine mount k.state) (sym w.client-is) inv.on;
             caller = ap (λ (k : Client). k.caller) w.client-is ∙ inv.caller;
             room = cc;
           }

@@ -1,0 +1,102 @@
+-- Laws of open objects.
+use Rattle.std.proofs.Common.{◌≡◌, ℕ, ◌<◌, List, [], ◌∷◌, length, Bool, true, false, cond, Option, Some, None, refl, sym, ap, subst}
+use Rattle.std.specs.Prelude.{find, IsSome}
+use Rattle.std.specs.List.{AllByRecursion}
+use Rattle.std.specs.Option.{option_map}
+use Rattle.std.specs.Str.{bytes_eq}
+use Rattle.std.proofs.lemmas.Slice.Eq.{bytes_eq-Decides}
+use Rattle.stack_accept.specs.Mount.{Mount, is_view_in}
+use Rattle.client_objects.specs.declared.target.Target.{Target}
+use Rattle.client_objects.specs.Objects.{OpenObject, IsOnStack, object_of, with_object, without}
+use Rattle.client_objects.specs.Stored.{is_built}
+
+-- the target of an object that was found
+abbrev target_found : Option OpenObject → Option Target
+target_found found = option_map (λ (o : OpenObject). o.target) found
+
+-- the first object of a name
+abbrev first_named : List ℕ → List OpenObject → Option OpenObject
+first_named name objects = find (λ (o : OpenObject). bytes_eq o.name name) objects
+
+held_if : (b : Bool) (o : OpenObject) (rest more : Option OpenObject) (t : Target) → (target_found rest ≡ Some t → target_found more ≡ Some t) → target_found (cond b (Some o) rest) ≡ Some t → target_found (cond b (Some o) more) ≡ Some t
+held_if true o rest more t then is = is
+held_if false o rest more t then is = then is
+
+-- an object that is found is found again if one more is opened
+pub object_of-held : (objects : List OpenObject) (name other : List ℕ) (target t : Target) → object_of name objects ≡ Some t → object_of name (with_object objects other target) ≡ Some t
+object_of-held [] name other target t is = absurd cc
+object_of-held (o ∷ os) name other target t is =
+    held_if (bytes_eq o.name name) o (first_named name os) (first_named name (with_object os other target)) t (object_of-held os name other target t) is
+
+new_if : (b : Bool) (o : OpenObject) (rest more : Option OpenObject) (t : Target) → (target_found rest ≡ None → target_found more ≡ Some t) → target_found (cond b (Some o) rest) ≡ None → target_found (cond b (Some o) more) ≡ Some t
+new_if true o rest more t then is = absurd cc
+new_if false o rest more t then is = then is
+
+-- an object is found that was opened under a name that was free
+pub object_of-new : (objects : List OpenObject) (name : List ℕ) (target : Target) → object_of name objects ≡ None → object_of name (with_object objects name target) ≡ Some target
+object_of-new [] name target none =
+    let new : OpenObject = record { name = name; target = target } in
+    ap (λ (b : Bool). target_found (cond b (Some new) None)) ((bytes_eq-Decides name name).1 refl)
+object_of-new (o ∷ os) name target none =
+    new_if (bytes_eq o.name name) o (first_named name os) (first_named name (with_object os name target)) target (object_of-new os name target) none
+
+same_if : (b : Bool) (o : OpenObject) (rest more : Option OpenObject) → target_found more ≡ target_found rest → target_found (cond b (Some o) more) ≡ target_found (cond b (Some o) rest)
+same_if true o rest more same = refl
+same_if false o rest more same = same
+
+-- what a name finds stays as it is if an object is opened under another name
+pub object_of-other : (objects : List OpenObject) (name other : List ℕ) (target : Target) → bytes_eq other name ≡ false → object_of name (with_object objects other target) ≡ object_of name objects
+object_of-other [] name other target differ =
+    let new : OpenObject = record { name = other; target = target } in
+    ap (λ (b : Bool). target_found (cond b (Some new) None)) differ
+object_of-other (o ∷ os) name other target differ =
+    same_if (bytes_eq o.name name) o (first_named name os) (first_named name (with_object os other target)) (object_of-other os name other target differ)
+
+-- an object that leads onto the stack does so under any name and of any life
+pub on_stack-renamed : (mount : Mount) (object : OpenObject) (name : List ℕ) (life : ℕ) → IsOnStack mount object → IsOnStack mount (record { name = name; target = record object.target { life = life } })
+on_stack-renamed mount object name life on = record { built = on.built; view = on.view; file = on.file }
+
+-- all lead onto the stack, with one more that does
+pub on_stack-with_object : (mount : Mount) (objects : List OpenObject) (name : List ℕ) (target : Target) → AllByRecursion (IsOnStack mount) objects → is_built target.sub ≡ true → is_view_in mount.nodes target.node ≡ true → target.file < length mount.files
+    → AllByRecursion (IsOnStack mount) (with_object objects name target)
+on_stack-with_object mount [] name target all built view file = (record { built = built; view = view; file = file }, tt)
+on_stack-with_object mount (o ∷ os) name target all built view file = (all.0, on_stack-with_object mount os name target all.1 built view file)
+
+all_if : (P : OpenObject → Type 0) (b : Bool) (xs ys : List OpenObject) → AllByRecursion P xs → AllByRecursion P ys → AllByRecursion P (cond b xs ys)
+all_if P true xs ys here there = here
+all_if P false xs ys here there = there
+
+-- and with one less
+pub on_stack-without : (mount : Mount) (objects : List OpenObject) (name : List ℕ) → AllByRecursion (IsOnStack mount) objects → AllByRecursion (IsOnStack mount) (without name objects)
+on_stack-without mount [] name all = tt
+on_stack-without mount (o ∷ os) name all =
+    all_if (IsOnStack mount) (bytes_eq o.name name) os (o ∷ without name os) all.1 (all.0, on_stack-without mount os name all.1)
+
+on_stack_if : (mount : Mount) (b : Bool) (o : OpenObject) (rest : Option OpenObject) (name : List ℕ) (t : Target) → IsOnStack mount o → (target_found rest ≡ Some t → IsOnStack mount (record { name = name; target = t })) → target_found (cond b (Some o) rest) ≡ Some t
+    → IsOnStack mount (record { name = name; target = t })
+on_stack_if mount true o rest name t on then is =
+    let same : o.target ≡ t = cc in
+    subst (λ (at : Target). IsOnStack mount (record { name = name; target = at })) same (record { built = on.built; view = on.view; file = on.file })
+on_stack_if mount false o rest name t on then is = then is
+
+-- where the calls of an object go that is found
+pub on_stack-object_of : (mount : Mount) (objects : List OpenObject) (name : List ℕ) (t : Target) → AllByRecursion (IsOnStack mount) objects → object_of name objects ≡ Some t → IsOnStack mount (record { name = name; target = t })
+on_stack-object_of mount [] name t all is = absurd cc
+on_stack-object_of mount (o ∷ os) name t all is =
+    on_stack_if mount (bytes_eq o.name name) o (first_named name os) name t all.0 (on_stack-object_of mount os name t all.1) is
+
+-- all lead onto the stack, with one more that leads where one of them does
+pub on_stack-copied : (mount : Mount) (objects : List OpenObject) (name other : List ℕ) (t : Target) → AllByRecursion (IsOnStack mount) objects → object_of name objects ≡ Some t → AllByRecursion (IsOnStack mount) (with_object objects other t)
+on_stack-copied mount objects name other t all is =
+    let on = on_stack-object_of mount objects name t all is in
+    on_stack-with_object mount objects other t all on.built on.view on.file
+
+copied_by : (mount : Mount) (old new : List OpenObject) (name other : List ℕ) (found : Option Target) → found ≡ object_of name old → IsSome found → AllByRecursion (IsOnStack mount) old → ((t : Target) → object_of name old ≡ Some t → new ≡ with_object old other t)
+    → AllByRecursion (IsOnStack mount) new
+copied_by mount old new name other (Some t) is some all now =
+    subst (λ (os : List OpenObject). AllByRecursion (IsOnStack mount) os) (sym (now t (sym is))) (on_stack-copied mount old name other t all (sym is))
+copied_by mount old new name other None is some all now = absurd cc
+
+-- the same, from what a copy ensures
+pub on_stack-copy : (mount : Mount) (old new : List OpenObject) (name other : List ℕ) → IsSome (object_of name old) → AllByRecursion (IsOnStack mount) old → ((t : Target) → object_of name old ≡ Some t → new ≡ with_object old other t) → AllByRecursion (IsOnStack mount) new
+on_stack-copy mount old new name other some all now = copied_by mount old new name other (object_of name old) refl some all now

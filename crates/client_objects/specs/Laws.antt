@@ -1,0 +1,30 @@
+-- What holds of every object that is bound or received.
+use Rattle.std.specs.Prelude.{◌≡◌, ◌<◌, ℕ, ◌^◌, ◌==◌, if◌then◌else◌, true, length, Option, Some}
+use Rattle.stack_accept.specs.Mount.{Mount, is_view_in}
+use Rattle.sub_basic.specs.declared.TheConstants.{SINGLETON, CLUSTER}
+use Rattle.name_context.specs.Names.{Kept}
+use Rattle.name_context.specs.Start.{file_object}
+use Rattle.client_objects.specs.declared.target.Target.{Target}
+use Rattle.client_objects.specs.Stored.{is_built, received, bound_object}
+
+-- where the calls go of an object that is bound for a file at a view: the object of a cluster has the file's number as its tag
+abbrev pub bound_target : ℕ → ℕ → ℕ → Target
+bound_target sub node file = record { sub = sub; tag = if sub == CLUSTER then file else 0; node = node; file = file; life = 0 }
+
+-- what is bound for a file of the stack at a view of it leads there
+abbrev pub BoundIsReceived : Type 0
+BoundIsReceived = (mount : Mount) (sub node file : ℕ) → is_built sub ≡ true → is_view_in mount.nodes node ≡ true → file < length mount.files → file < 2 ^ 32
+    → received mount (Some (bound_object sub node file)) ≡ Some (bound_target sub node file)
+
+-- the names start with singletons
+abbrev pub StartsBound : Type 0
+StartsBound = (node file : ℕ) → file_object node file ≡ bound_object SINGLETON node file
+
+-- what is received is of a subcontract that the program has, and leads to a view and a file of the stack
+pub record LeadsOntoStack (mount : Mount) (target : Target) : Type 0 where
+  pub built : is_built target.sub ≡ true
+  pub view : is_view_in mount.nodes target.node ≡ true
+  pub file : target.file < length mount.files
+
+abbrev pub ReceivedLeads : Type 0
+ReceivedLeads = (mount : Mount) (kept : Option Kept) (target : Target) → received mount kept ≡ Some target → LeadsOntoStack mount target

@@ -1,0 +1,5 @@
+pub mod Objects
+pub mod Stored
+pub mod Received
+pub mod Held
+pub mod Laws

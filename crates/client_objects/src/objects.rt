@@ -1,0 +1,135 @@
+//! A client's open objects.
+
+ghost use Rattle.std.specs.Prelude.{◌≡◌, ◌<◌, ℕ, List, [], Some, IsSome, IfOk, IfErr, OnOk, OnErr, length};
+ghost use Rattle.std.specs.List.{AllByRecursion};
+ghost use Rattle.name_context.specs.Names.{kept_object};
+ghost use Rattle.client_objects.specs.Objects.{OpenObject, IsOnStack, object_of, with_object, without};
+ghost use Rattle.client_objects.specs.Stored.{received};
+ghost use Rattle.client_objects.specs.Received.{RefusesReceived};
+
+use crate::entry::{Entry, copy_of, give_up, place_of, target_of};
+use crate::reading::{received_target, take_in};
+use crate::target::Target;
+use crate::why::NotReceived;
+use domain_doors::Domain;
+use marshal_buf::Buf;
+use seen_values::Text;
+use stack_accept::Mounted;
+use std::alloc::{AllocError, Global};
+use std::marker::Model;
+
+/// The open objects of a client, in the order in which they were opened. Contracts see them as that list.
+#[derive(Debug, Drop)]
+pub struct Objects {
+    domain: Domain,
+    entries: Vec<Entry>,
+}
+
+impl Model for Objects {
+    ghost use Rattle.std.specs.Prelude.{List};
+    ghost use Rattle.client_objects.specs.Objects.{OpenObject};
+
+    ghost Value = { List OpenObject };
+
+    ghost use Rattle.client_objects.specs.Held.{seen, AreHeld};
+
+    ghost view = { λ o. seen o.domain o.entries.items };
+
+    ghost invariant = { λ o. AreHeld o.domain o.entries.items };
+}
+
+impl Objects {
+    /// No object. It takes no memory.
+    pub fn new(alloc: Global) -> Objects
+        ensures { result ≡ [] }
+    {
+        Objects {
+            domain: Domain::new(alloc),
+            entries: Vec::new(alloc),
+        }
+    }
+
+    /// Where the calls of the object of a name go from a machine of the stack, as its subcontract says. None if there is
+    /// no object of the name. It takes no memory.
+    pub fn find(&self, mount: &Mounted, machine: u32, name: &Text) -> Option<Target>
+        requires machine { machine < length mount.now.machines }
+        requires leads { AllByRecursion (IsOnStack mount.now) self.now }
+        ensures { result ≡ object_of name.now self.now }
+    {
+        let place = place_of(&self.entries, name)?;
+        let object = &self.entries[place].object;
+        Some(target_of(object, &self.domain, mount, machine))
+    }
+
+    /// Receives the object that the names keep, under a name, of life 0. It looks at the whole object before it takes
+    /// memory. An error leaves the objects as they were.
+    pub fn receive(
+        &mut self,
+        alloc: Global,
+        mount: &Mounted,
+        name: Text,
+        stored: &Buf,
+    ) -> Result<Target, NotReceived>
+        ensures ok { IfOk result (λ target. (received mount.now (Some (kept_object stored.now)) ≡ Some target) × (self.new ≡ with_object self.old name target)) }
+        ensures why { IfErr result (RefusesReceived (received mount.now (Some (kept_object stored.now)))) }
+        ensures err { OnErr result (self.new ≡ self.old) }
+    {
+        let Some(target) = received_target(mount, stored) else {
+            return Err(NotReceived::BadObject);
+        };
+        self.entries.reserve(1)?;
+        let mut from = stored.reader();
+        let object = take_in(alloc, &mut self.domain, &mut from)?;
+        self.entries.push_reserved(Entry { name, object });
+        Ok(target)
+    }
+
+    /// Sets the life of the last object.
+    pub fn set_life(&mut self, life: u32)
+        ensures { (objects : List OpenObject) (name : List ℕ) (target : Target) → self.old ≡ with_object objects name target → self.new ≡ with_object objects name (record target { life = life }) }
+    {
+        let Some(last) = self.entries.last_mut() else {
+            return;
+        };
+        last.object.life = life;
+    }
+
+    /// Gives the last object up: its door leaves the domain.
+    pub fn give_up_last(&mut self)
+        ensures { (objects : List OpenObject) (name : List ℕ) (target : Target) → self.old ≡ with_object objects name target → self.new ≡ objects }
+    {
+        if let Some(Entry { name: _, object }) = self.entries.pop() {
+            give_up(object, &mut self.domain);
+        }
+    }
+
+    /// Copies the object of a name, under another name. An error is that memory ran out, and leaves the objects as
+    /// they were.
+    pub fn copy(&mut self, name: &Text, other: Text) -> Result<(), AllocError>
+        requires { IsSome (object_of name.now self.old) }
+        ensures ok { OnOk result ((target : Target) → object_of name.now self.old ≡ Some target → self.new ≡ with_object self.old other target) }
+        ensures err { OnErr result (self.new ≡ self.old) }
+    {
+        let Some(place) = place_of(&self.entries, name) else {
+            unreachable!();
+        };
+        self.entries.reserve(1)?;
+        let object = copy_of(&self.entries[place].object, &mut self.domain)?;
+        self.entries.push_reserved(Entry {
+            name: other,
+            object,
+        });
+        Ok(())
+    }
+
+    /// Gives the first object of a name up, if there is one: its door leaves the domain.
+    pub fn remove(&mut self, name: &Text)
+        ensures { self.new ≡ without name.now self.old }
+    {
+        let Some(place) = place_of(&self.entries, name) else {
+            return;
+        };
+        let Entry { name: _, object } = self.entries.remove(place);
+        give_up(object, &mut self.domain);
+    }
+}

@@ -1,0 +1,12 @@
+//! What a client has between two lines of a script.
+
+use crate::objects::Objects;
+
+/// The state of a client.
+#[derive(Debug, Drop)]
+pub struct ClientState {
+    /// The number of the machine that it runs on.
+    pub machine: u32,
+    /// Its open objects, in the order in which they were opened.
+    pub objects: Objects,
+}

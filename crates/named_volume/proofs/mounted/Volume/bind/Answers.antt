@@ -1,5 +1,0 @@
-use Rattle.named_volume.proofs.Both.{story_of}
-use Rattle.named_volume.proofs.mounted.Volume.bind.Goals as goal
-
-pub returns-clause-story : goal.returns-clause-story
-returns-clause-story g c = story_of c.args.self.now c.self.inside.files c.self.inside.names c.bind.new.seat.seen c.self.view_is c.bind.ensures.story

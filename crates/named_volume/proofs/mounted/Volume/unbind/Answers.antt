@@ -1,5 +1,0 @@
-use Rattle.named_volume.proofs.Both.{story_of}
-use Rattle.named_volume.proofs.mounted.Volume.unbind.Goals as goal
-
-pub returns-clause-story : goal.returns-clause-story
-returns-clause-story g c = story_of c.args.self.now c.self.inside.files c.self.inside.names c.unbind.new.seat.seen c.self.view_is c.unbind.ensures.story

@@ -1,0 +1,4 @@
+pub mod Holding
+pub mod RowLemmas
+pub mod Passing
+pub mod Crossing

@@ -1,0 +1,5 @@
+pub mod Passes
+pub mod Holds
+pub mod Calls
+pub mod Rows
+pub mod Sample

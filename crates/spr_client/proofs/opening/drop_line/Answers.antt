@@ -1,0 +1,22 @@
+use Rattle.std.proofs.Common.{◌≡◌, List, Some, sym, ap, subst, ◌∙◌}
+use Rattle.std.specs.List.{AllByRecursion}
+use Rattle.client_objects.specs.Objects.{IsOnStack, OpenObject, object_of, without}
+use Rattle.client_objects.proofs.OpenLaws.{on_stack-without}
+use Rattle.run_defs.specs.Plan.{plan_drop}
+use Rattle.spr_client.proofs.LineLaws.{done-none, named-none}
+use Rattle.spr_client.proofs.opening.drop_line.Goals as goal
+
+pub returns-in_default-clause-done : goal.returns-in_default-clause-done
+returns-in_default-clause-done g c =
+    let state = c.args.client.now.state in
+    done-none c.args.common.now.mount.now c.args.client.now.caller state _ c.args.pass.now _ state
+    (named-none state (object_of c.args.name.now state.objects) (plan_drop state c.args.name.now) (sym c.find.ensures.is ∙ c.in_default.is))
+
+pub returns-clause-on : goal.returns-clause-on
+returns-clause-on g c =
+    let mount = c.args.common.now.mount.now in
+    let state = c.args.client.now.state in
+    record {
+      machine = c.requires.on.machine;
+      objects = subst (λ (os : List OpenObject). AllByRecursion (IsOnStack mount) os) (sym c.remove.ensures) (on_stack-without mount state.objects c.args.name.now c.requires.on.objects);
+    }

@@ -1,0 +1,212 @@
+//! Lines on the file of an open object.
+
+ghost use Rattle.std.specs.Prelude.{◌≡◌, IfSome, IsTrue};
+ghost use Rattle.hist_plain.specs.declared.event.Op.TheVariants as ops;
+ghost use Rattle.hist_plain.specs.Event.{fits_page};
+ghost use Rattle.hist_plain.specs.Plain.{asked_by};
+ghost use Rattle.client_objects.specs.Objects.{object_of};
+ghost use Rattle.run_defs.specs.Stack.{pages_of};
+ghost use Rattle.run_defs.specs.Plan.{access, asking, plan_access, plan_call, plan_named, plan_sync};
+ghost use Rattle.spr_client.specs.Calls.{MayCall};
+ghost use Rattle.spr_client.specs.Lines.{IsOnMachine, IsTarget, LineDone};
+
+use crate::calls::{access_at, framed, framed_sync, sync_at};
+use crate::client::{Client, Common};
+use crate::line::{refused, reply_to};
+use client_objects::Target;
+use disk_layer::Ground;
+use hist_plain::{Keep, Op, fits};
+use run_defs::pages_of;
+use script_text::Reply;
+use seen_values::{Bytes, Text};
+use spr_io::Gate;
+use spr_volume::Pass;
+use std::alloc::Global;
+use std::sync::Wait;
+
+/// A line of one access of an open object, whose range is within one page of the file.
+fn access_object<R: Wait, G: Ground, T: Gate>(
+    rt: &R,
+    alloc: Global,
+    common: &Common<'_, G, T>,
+    pass: &mut Pass<G>,
+    client: &Client,
+    target: Target,
+    op: Op,
+    len: usize,
+) -> Reply
+    requires may { MayCall common.now.mount.now common.now.volume.now pass.old client.now.caller }
+    requires target { IsTarget common.now.mount.now target }
+    requires fits { IsTrue (fits_page common.now.mount.now.page_size (pages_of common.now.mount.now target.file) op) }
+    requires len { len ≡ asked_by op }
+    ensures { LineDone common.now.mount.now client.now.caller client.now.state (plan_call client.now.state (asking target.file (access target.node target.life op))) pass.old pass.new result client.now.state }
+{
+    let Ok(mut out) = vec![in alloc; 0u8; len] else {
+        return Reply::Memory;
+    };
+    let Ok(op) = framed(alloc, common, target, op) else {
+        return Reply::Memory;
+    };
+    match access_at(
+        rt,
+        common,
+        pass,
+        client.caller,
+        target.file,
+        target.node,
+        target.life,
+        &op,
+        &mut out,
+    ) {
+        Ok(answered) => reply_to(answered.answer, out),
+        Err(err) => refused(err),
+    }
+}
+
+/// A line of one access of the object of a name.
+fn access_line<R: Wait, G: Ground, T: Gate>(
+    rt: &R,
+    alloc: Global,
+    common: &Common<'_, G, T>,
+    pass: &mut Pass<G>,
+    client: &Client,
+    name: &Text,
+    op: Op,
+    len: usize,
+) -> Reply
+    requires may { MayCall common.now.mount.now common.now.volume.now pass.old client.now.caller }
+    requires on { IsOnMachine common.now.mount.now client.now.state }
+    requires len { len ≡ asked_by op }
+    ensures { LineDone common.now.mount.now client.now.caller client.now.state (plan_named client.now.state (object_of name.now client.now.state.objects) (plan_access common.now.mount.now client.now.state op)) pass.old pass.new result client.now.state }
+{
+    let Some(target) = find(common, client, name) else {
+        return Reply::NoObject;
+    };
+    if !fits(
+        &op,
+        common.mount.page_size(),
+        pages_of(common.mount, target.file),
+    ) {
+        return Reply::NotOnePage;
+    }
+    access_object(rt, alloc, common, pass, client, target, op, len)
+}
+
+/// A line that reads bytes of a page of the object of a name.
+pub(crate) fn read_line<R: Wait, G: Ground, T: Gate>(
+    rt: &R,
+    alloc: Global,
+    common: &Common<'_, G, T>,
+    pass: &mut Pass<G>,
+    client: &Client,
+    name: &Text,
+    page: u32,
+    off: u32,
+    len: u32,
+) -> Reply
+    requires may { MayCall common.now.mount.now common.now.volume.now pass.old client.now.caller }
+    requires on { IsOnMachine common.now.mount.now client.now.state }
+    ensures { LineDone common.now.mount.now client.now.caller client.now.state (plan_named client.now.state (object_of name.now client.now.state.objects) (plan_access common.now.mount.now client.now.state (ops.Read page off len))) pass.old pass.new result client.now.state }
+{
+    let op = Op::Read { page, off, len };
+    access_line(rt, alloc, common, pass, client, name, op, len as usize)
+}
+
+/// A line that writes bytes of a page of the object of a name.
+pub(crate) fn write_line<R: Wait, G: Ground, T: Gate>(
+    rt: &R,
+    alloc: Global,
+    common: &Common<'_, G, T>,
+    pass: &mut Pass<G>,
+    client: &Client,
+    name: &Text,
+    page: u32,
+    off: u32,
+    bytes: &Bytes,
+) -> Reply
+    requires may { MayCall common.now.mount.now common.now.volume.now pass.old client.now.caller }
+    requires on { IsOnMachine common.now.mount.now client.now.state }
+    ensures { LineDone common.now.mount.now client.now.caller client.now.state (plan_named client.now.state (object_of name.now client.now.state.objects) (plan_access common.now.mount.now client.now.state (ops.Write page off bytes.now))) pass.old pass.new result client.now.state }
+{
+    let Ok(bytes) = bytes.clone() else {
+        return Reply::Memory;
+    };
+    let op = Op::Write { page, off, bytes };
+    access_line(rt, alloc, common, pass, client, name, op, 0)
+}
+
+/// A line that clears a page of the object of a name.
+pub(crate) fn clear_line<R: Wait, G: Ground, T: Gate>(
+    rt: &R,
+    alloc: Global,
+    common: &Common<'_, G, T>,
+    pass: &mut Pass<G>,
+    client: &Client,
+    name: &Text,
+    page: u32,
+) -> Reply
+    requires may { MayCall common.now.mount.now common.now.volume.now pass.old client.now.caller }
+    requires on { IsOnMachine common.now.mount.now client.now.state }
+    ensures { LineDone common.now.mount.now client.now.caller client.now.state (plan_named client.now.state (object_of name.now client.now.state.objects) (plan_access common.now.mount.now client.now.state (ops.Clear page))) pass.old pass.new result client.now.state }
+{
+    access_line(
+        rt,
+        alloc,
+        common,
+        pass,
+        client,
+        name,
+        Op::Clear { page },
+        0,
+    )
+}
+
+/// A line that syncs the file of the object of a name.
+pub(crate) fn sync_line<R: Wait, G: Ground, T: Gate>(
+    rt: &R,
+    alloc: Global,
+    common: &Common<'_, G, T>,
+    pass: &mut Pass<G>,
+    client: &Client,
+    name: &Text,
+    keep: Keep,
+) -> Reply
+    requires may { MayCall common.now.mount.now common.now.volume.now pass.old client.now.caller }
+    requires on { IsOnMachine common.now.mount.now client.now.state }
+    ensures { LineDone common.now.mount.now client.now.caller client.now.state (plan_named client.now.state (object_of name.now client.now.state.objects) (plan_sync client.now.state keep)) pass.old pass.new result client.now.state }
+{
+    let Some(target) = find(common, client, name) else {
+        return Reply::NoObject;
+    };
+    let Ok(()) = framed_sync(alloc, common, target) else {
+        return Reply::Memory;
+    };
+    match sync_at(
+        rt,
+        common,
+        pass,
+        client.caller,
+        target.file,
+        target.node,
+        keep,
+    ) {
+        Ok(answered) => reply_to(answered.answer, Vec::new(alloc)),
+        Err(err) => refused(err),
+    }
+}
+
+/// Where the calls of a client's object of a name go.
+pub(crate) fn find<G: Ground, T: Gate>(
+    common: &Common<'_, G, T>,
+    client: &Client,
+    name: &Text,
+) -> Option<Target>
+    requires on { IsOnMachine common.now.mount.now client.now.state }
+    ensures is { result ≡ object_of name.now client.now.state.objects }
+    ensures target { IfSome result (IsTarget common.now.mount.now) }
+{
+    // The proof reads here that a view stands above the ground.
+    let _nodes = common.mount.nodes();
+    let objects = &client.state.objects;
+    objects.find(common.mount, client.state.machine, name)
+}

@@ -1,0 +1,174 @@
+//! Lines that open, copy and drop objects.
+
+ghost use Rattle.std.specs.Prelude.{◌≡◌, ◌⊎◌, ℕ, List, Some};
+ghost use Rattle.name_context.specs.Names.{HasParts, kept_object};
+ghost use Rattle.client_objects.specs.Objects.{OpenObject, object_of, with_object};
+ghost use Rattle.client_objects.specs.Stored.{received};
+ghost use Rattle.run_defs.specs.Plan.{plan_copy, plan_drop, plan_found, plan_named, plan_open};
+ghost use Rattle.spr_client.specs.Calls.{MayCall};
+ghost use Rattle.spr_client.specs.Lines.{IsOnMachine, IsTarget, LineDone, PlanDone, state_with};
+
+use crate::calls::{access_at, framed};
+use crate::client::{Client, Common};
+use crate::files::find;
+use crate::line::{life_in, parts_of, refused, refused_names, reply_to};
+use client_objects::{NotReceived, Target};
+use disk_layer::Ground;
+use hist_plain::Op;
+use script_text::Reply;
+use seen_values::{Path, Text};
+use spr_io::Gate;
+use spr_volume::{Pass, Stored};
+use std::alloc::Global;
+use std::sync::Wait;
+
+/// Opens the file at the view to which the last of a client's objects leads, which was just received. The object keeps the life that is
+/// answered; if the call is refused, the object is given up.
+fn open_received<R: Wait, G: Ground, T: Gate>(
+    rt: &R,
+    alloc: Global,
+    common: &Common<'_, G, T>,
+    pass: &mut Pass<G>,
+    client: &mut Client,
+    target: Target,
+) -> Reply
+    requires may { MayCall common.now.mount.now common.now.volume.now pass.old client.old.caller }
+    requires target { IsTarget common.now.mount.now target }
+    ensures done { (objects : List OpenObject) (name : List ℕ) → client.old.state.objects ≡ with_object objects name target
+        → PlanDone common.now.mount.now client.old.caller (plan_found (state_with client.old.state.machine objects) name (Some target)) pass.old pass.new result client.new.state }
+    ensures on { (objects : List OpenObject) (name : List ℕ) → client.old.state.objects ≡ with_object objects name target
+        → (client.new.state.objects ≡ objects) ⊎ ((life : ℕ) × (client.new.state.objects ≡ with_object objects name (record target { life = life }))) }
+    ensures machine { client.new.state.machine ≡ client.old.state.machine }
+    ensures same { client.new ≡ record client.old { state = client.new.state } }
+{
+    let Ok(op) = framed(alloc, common, target, Op::Open) else {
+        client.state.objects.give_up_last();
+        return Reply::Memory;
+    };
+    match access_at(
+        rt,
+        common,
+        pass,
+        client.caller,
+        target.file,
+        target.node,
+        0,
+        &op,
+        &mut [],
+    ) {
+        Ok(answered) => {
+            client.state.objects.set_life(life_in(answered.answer));
+            reply_to(answered.answer, Vec::new(alloc))
+        }
+        Err(err) => {
+            client.state.objects.give_up_last();
+            refused(err)
+        }
+    }
+}
+
+/// Opens what stands at a path, under a name that no open object has.
+fn open_stored<R: Wait, G: Ground, T: Gate>(
+    rt: &R,
+    alloc: Global,
+    common: &Common<'_, G, T>,
+    pass: &mut Pass<G>,
+    client: &mut Client,
+    name: Text,
+    stored: &Stored,
+) -> Reply
+    requires may { MayCall common.now.mount.now common.now.volume.now pass.old client.old.caller }
+    requires on { IsOnMachine common.now.mount.now client.old.state }
+    ensures done { PlanDone common.now.mount.now client.old.caller (plan_found client.old.state name (received common.now.mount.now (Some (kept_object stored.now)))) pass.old pass.new result client.new.state }
+    ensures on { IsOnMachine common.now.mount.now client.new.state }
+    ensures same { client.new ≡ record client.old { state = client.new.state } }
+{
+    // The proof reads here that a view stands above the ground.
+    let _nodes = common.mount.nodes();
+    let objects = &mut client.state.objects;
+    match objects.receive(alloc, common.mount, name, stored) {
+        Ok(target) => open_received(rt, alloc, common, pass, client, target),
+        Err(NotReceived::BadObject) => Reply::BadObject,
+        Err(NotReceived::Memory) => Reply::Memory,
+    }
+}
+
+/// A line that opens what a path leads to.
+pub(crate) fn open_line<R: Wait, G: Ground, T: Gate>(
+    rt: &R,
+    alloc: Global,
+    common: &Common<'_, G, T>,
+    pass: &mut Pass<G>,
+    client: &mut Client,
+    name: &Text,
+    path: &Path,
+) -> Reply
+    requires may { MayCall common.now.mount.now common.now.volume.now pass.old client.old.caller }
+    requires on { IsOnMachine common.now.mount.now client.old.state }
+    requires path { HasParts path.now }
+    ensures done { LineDone common.now.mount.now client.old.caller client.old.state (plan_open common.now.mount.now client.old.state name.now path.now (object_of name.now client.old.state.objects)) pass.old pass.new result client.new.state }
+    ensures on { IsOnMachine common.now.mount.now client.new.state }
+    ensures same { client.new ≡ record client.old { state = client.new.state } }
+{
+    let None = find(common, client, name) else {
+        return Reply::ObjectExists;
+    };
+    let Ok(copy) = Text::of(alloc, name.as_str()) else {
+        return Reply::Memory;
+    };
+    let Ok(parts) = parts_of(alloc, path) else {
+        return Reply::Memory;
+    };
+    match common.volume.resolve(rt, pass, client.caller, path) {
+        Ok(stored) => open_stored(rt, alloc, common, pass, client, copy, &stored),
+        Err(err) => refused_names(err, parts),
+    }
+}
+
+/// A line that copies the object of a name.
+pub(crate) fn copy_line<G: Ground, T: Gate>(
+    alloc: Global,
+    common: &Common<'_, G, T>,
+    pass: &Pass<G>,
+    client: &mut Client,
+    name: &Text,
+    other: &Text,
+) -> Reply
+    requires on { IsOnMachine common.now.mount.now client.old.state }
+    ensures done { LineDone common.now.mount.now client.old.caller client.old.state (plan_named client.old.state (object_of name.now client.old.state.objects) (plan_copy client.old.state other.now (object_of other.now client.old.state.objects))) pass.now pass.now result client.new.state }
+    ensures on { IsOnMachine common.now.mount.now client.new.state }
+    ensures same { client.new ≡ record client.old { state = client.new.state } }
+{
+    let Some(_) = find(common, client, name) else {
+        return Reply::NoObject;
+    };
+    let None = find(common, client, other) else {
+        return Reply::ObjectExists;
+    };
+    let Ok(second) = Text::of(alloc, other.as_str()) else {
+        return Reply::Memory;
+    };
+    match client.state.objects.copy(name, second) {
+        Ok(()) => Reply::Done,
+        Err(_) => Reply::Memory,
+    }
+}
+
+/// A line that drops the object of a name.
+pub(crate) fn drop_line<G: Ground, T: Gate>(
+    common: &Common<'_, G, T>,
+    pass: &Pass<G>,
+    client: &mut Client,
+    name: &Text,
+) -> Reply
+    requires on { IsOnMachine common.now.mount.now client.old.state }
+    ensures done { LineDone common.now.mount.now client.old.caller client.old.state (plan_named client.old.state (object_of name.now client.old.state.objects) (plan_drop client.old.state name.now)) pass.now pass.now result client.new.state }
+    ensures on { IsOnMachine common.now.mount.now client.new.state }
+    ensures same { client.new ≡ record client.old { state = client.new.state } }
+{
+    let Some(_) = find(common, client, name) else {
+        return Reply::NoObject;
+    };
+    client.state.objects.remove(name);
+    Reply::Done
+}

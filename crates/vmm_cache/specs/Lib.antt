@@ -1,0 +1,5 @@
+pub mod Uses
+pub mod Bare
+pub mod Frames
+pub mod Leaf
+pub mod Used
