@@ -1,10 +1,8 @@
 -- A log in two parts, and a history of the names in two parts.
-use Rattle.std.proofs.Common.{◌≡◌, ℕ, suc, ◌+◌, List, [], ◌∷◌, ◌++◌, ◌==◌, length, map, Option, Some, refl, ap, ◌∙◌, arith, length-append}
+use Rattle.std.proofs.Common.{◌≡◌, ℕ, suc, ◌+◌, List, [], ◌∷◌, ◌++◌, ◌==◌, length, refl, ap, ◌∙◌, arith, length-append}
 use Rattle.std.proofs.lemmas.List.Elements.{filter-append}
 use Rattle.hist_plain.specs.declared.event.Event.{Event}
-use Rattle.hist_plain.specs.Event.{caller_of}
 use Rattle.hist_plain.specs.History.{is_by}
-use Rattle.tower_log.specs.declared.logged.Entry.{Entry}
 use Rattle.tower_log.specs.declared.logged.Logged.{Logged}
 use Rattle.tower_log.specs.declared.logged.Logged.TheVariants.{Entered, Noted}
 use Rattle.tower_log.specs.Log.{trail_of, place_of, told_by}

@@ -1,5 +1,5 @@
 -- What a line of a script does: the calls that it makes, one after another, and its answer.
-use Rattle.std.specs.Prelude.{◌≡◌, ℕ, List, [], ◌∷◌, ◌++◌, if◌then◌else◌, slice_index_or, Option, Some, None}
+use Rattle.std.specs.Prelude.{◌≡◌, ℕ, List, [], ◌∷◌, if◌then◌else◌, slice_index_or, Option, Some, None}
 use Rattle.std.specs.Option.{option_map}
 use Rattle.hist_plain.specs.declared.event.Op.{Op}
 use Rattle.hist_plain.specs.declared.event.Op.TheVariants as ops
@@ -179,8 +179,8 @@ sub_id Cluster = Some CLUSTER
 sub_id sub = None
 
 abbrev pub plan_bind_as : ClientState → List (List ℕ) → Option ℕ → Option ℕ → Option ℕ → Plan
-plan_bind_as state path (Some sub) node file = plan_bind state path sub node file
-plan_bind_as state path None node file = unknown
+plan_bind_as state path (Some sub) view file = plan_bind state path sub view file
+plan_bind_as state path None view file = unknown
 
 -- what a call does, in this state of its client
 abbrev pub plan : Mount → ClientState → Call → Plan

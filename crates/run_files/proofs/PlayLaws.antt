@@ -155,9 +155,9 @@ played-back stack script before after names p q said closing first end start bla
 number-below : (names : List (List ℕ)) (name : List ℕ) → 0 < length names → number_in names name < length names
 number-below names name some = below_or (position (λ own. bytes_eq own name) names) refl
   where
-  below_or : (o : Option ℕ) → position (λ own. bytes_eq own name) names ≡ o → number_in names name < length names
-  below_or None is = subst (λ (x : Option ℕ). unwrap_or x 0 < length names) (sym is) some
-  below_or (Some n) is = subst (λ (x : Option ℕ). unwrap_or x 0 < length names) (sym is) (position-lt names name n is)
+    below_or : (o : Option ℕ) → position (λ own. bytes_eq own name) names ≡ o → number_in names name < length names
+    below_or None is = subst (λ (x : Option ℕ). unwrap_or x 0 < length names) (sym is) some
+    below_or (Some n) is = subst (λ (x : Option ℕ). unwrap_or x 0 < length names) (sym is) (position-lt names name n is)
 
 -- a stack has a machine
 pub some-machine : (stack : Mount) → IsMount stack → 0 < length stack.machines

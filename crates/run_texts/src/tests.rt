@@ -83,7 +83,7 @@ const UNKNOWN: [(&[u8], Option<u32>); 23] = [
 type Texts<'a> = (&'a [u8], &'a [u8], &'a [u8]);
 
 /// Texts with why one of them is refused, and the line that says so.
-const REFUSED: [(Texts<'static>, Refusal, &str); 19] = [
+const REFUSED: [(Texts<'static>, Refusal, &str); 20] = [
     (
         (b"struct s {\n  u8 ?;\n};\n", b"", b""),
         Refusal::Idl {
@@ -199,6 +199,11 @@ const REFUSED: [(Texts<'static>, Refusal, &str); 19] = [
             why: ScriptWhy::Name,
         },
         "script 3 name",
+    ),
+    (
+        (IDL, STACK, b"client a m\nphase\na bind t caching c f\n"),
+        Refusal::ScriptLater { line: 3 },
+        "script 3 later",
     ),
     (
         (IDL, STACK, b"client a m\nphase\na revoke q f\n"),

@@ -198,7 +198,12 @@ impl<G: Ground> SharedFiles<G> {
 
     /// Cuts the callers of a pass in two: the pass keeps those below `at`, and the new pass has the others. Both know what the pass
     /// knew. If memory runs out, the pass stays as it was.
-    pub fn split(&self, alloc: Global, pass: &mut FilesPass<G>, at: u32) -> Result<FilesPass<G>, AllocError>
+    pub fn split(
+        &self,
+        alloc: Global,
+        pass: &mut FilesPass<G>,
+        at: u32,
+    ) -> Result<FilesPass<G>, AllocError>
         requires pass { IsOf self.now pass.old }
         requires at { (pass.old.first < at) × (at < pass.old.end) }
         ensures low { OnOk result (pass.new ≡ with_range pass.old pass.old.first at) }

@@ -12,8 +12,8 @@ mod patience;
 mod rows;
 
 pub use answered::Answered;
-pub use stack_engine::StepErr as CallErr;
 pub use files::{FilesPass, SharedFiles};
+pub use stack_engine::StepErr as CallErr;
 
 #[cfg(test)]
 mod tests;

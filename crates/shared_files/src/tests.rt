@@ -100,7 +100,11 @@ fn tower(alloc: Global) -> Result<Option<Tower<Ram>>, AllocError>
 }
 
 /// A volume of so many files, and the pass of all its callers.
-fn mounted(alloc: Global, files: usize, callers: u32) -> Result<(SharedFiles<Ram>, FilesPass<Ram>), Fail>
+fn mounted(
+    alloc: Global,
+    files: usize,
+    callers: u32,
+) -> Result<(SharedFiles<Ram>, FilesPass<Ram>), Fail>
     requires { 0 < callers }
     ensures files { IfOk result (λ r. (length r.0.towers ≡ files) × AllByRecursion IsSmall r.0.towers) }
     ensures pass { IfOk result (λ r. IsFor r.0 0 callers r.1) }

@@ -106,27 +106,27 @@ pub names-refused : (mount : Mount) (v : VolumeSeen) (caller : ℕ) (kept : Clie
 names-refused mount v caller kept p ask go_on stored Tells old new err said may is done same =
     line_of mount caller kept p old new said kept (by_memory (memory_or err))
   where
-  by_memory : (err ≢ errs.Memory) ⊎ (err ≡ errs.Memory) → PlanDone mount caller p old new said kept
-  by_memory (inl n) =
-      let made = entered mount v caller ask stored Tells old new (Some err) may.stack.names done (λ e. n (some_same err errs.Memory e)) in
-      let told : told_names made.item ≡ record { refused = Some err; names = made.item.names } = ap (λ (r : Option NameErr). record { refused = r; names = made.item.names }) made.refused_is in
-      let end : unless_refused kept ask.path made.item.entry.refused (go_on made.item.names) ≡ ends said kept =
-      ap (λ (r : Option NameErr). unless_refused kept ask.path r (go_on made.item.names)) made.refused_is ∙ ap (λ (r : Reply). ends r kept) (sym same) in
-      record {
-        pass = done.1.pass;
-        gone = gone_named caller p ask kept (λ t. unless_refused kept ask.path t.refused (go_on t.names)) (histories mount old) (histories mount new) (histories mount new) made.item said kept is
-            (made.own may.first may.last) made.asks (gone_none caller (unless_refused kept ask.path made.item.entry.refused (go_on made.item.names)) (histories mount new) said kept end);
-        others = λ other ne low high. made.others other ne low high;
-      }
-  by_memory (inr m) =
-      let lacked = subst (λ (e : NameErr). NamesDone v caller ask stored Tells old new (Some e)) m done in
-      record {
-        pass = done.1.pass;
-        gone = subst (λ (r : Reply). Gone caller p (histories mount old) (histories mount new) r kept) (sym (same ∙ ap (refused_as ask.path) m))
-            (gone_unnamed caller p ask kept (λ t. unless_refused kept ask.path t.refused (go_on t.names)) (histories mount old) (histories mount new) is
-            (unnamed mount v caller ask stored Tells old new may.stack.names lacked caller may.first may.last));
-        others = λ other ne low high. unnamed mount v caller ask stored Tells old new may.stack.names lacked other low high;
-      }
+    by_memory : (err ≢ errs.Memory) ⊎ (err ≡ errs.Memory) → PlanDone mount caller p old new said kept
+    by_memory (inl n) =
+        let made = entered mount v caller ask stored Tells old new (Some err) may.stack.names done (λ e. n (some_same err errs.Memory e)) in
+        let told : told_names made.item ≡ record { refused = Some err; names = made.item.names } = ap (λ (r : Option NameErr). record { refused = r; names = made.item.names }) made.refused_is in
+        let end : unless_refused kept ask.path made.item.entry.refused (go_on made.item.names) ≡ ends said kept =
+        ap (λ (r : Option NameErr). unless_refused kept ask.path r (go_on made.item.names)) made.refused_is ∙ ap (λ (r : Reply). ends r kept) (sym same) in
+        record {
+          pass = done.1.pass;
+          gone = gone_named caller p ask kept (λ t. unless_refused kept ask.path t.refused (go_on t.names)) (histories mount old) (histories mount new) (histories mount new) made.item said kept is
+              (made.own may.first may.last) made.asks (gone_none caller (unless_refused kept ask.path made.item.entry.refused (go_on made.item.names)) (histories mount new) said kept end);
+          others = λ other ne low high. made.others other ne low high;
+        }
+    by_memory (inr m) =
+        let lacked = subst (λ (e : NameErr). NamesDone v caller ask stored Tells old new (Some e)) m done in
+        record {
+          pass = done.1.pass;
+          gone = subst (λ (r : Reply). Gone caller p (histories mount old) (histories mount new) r kept) (sym (same ∙ ap (refused_as ask.path) m))
+              (gone_unnamed caller p ask kept (λ t. unless_refused kept ask.path t.refused (go_on t.names)) (histories mount old) (histories mount new) is
+              (unnamed mount v caller ask stored Tells old new may.stack.names lacked caller may.first may.last));
+          others = λ other ne low high. unnamed mount v caller ask stored Tells old new may.stack.names lacked other low high;
+        }
 
 pass_then : (a b c : Knows) → b ≡ as_known a b → c ≡ as_known b c → c ≡ as_known a c
 pass_then a b c f g = g ∙ ap (λ (p : Knows). as_known p c) f

@@ -47,7 +47,14 @@ pub(crate) fn framed_sync<G: Ground, T: Gate>(
     requires built { is_built target.sub ≡ true }
 {
     let page_size = common.mount.page_size();
-    match through_frame(alloc, common.ops, page_size, target.sub, target.tag, FileCall::Sync)? {
+    match through_frame(
+        alloc,
+        common.ops,
+        page_size,
+        target.sub,
+        target.tag,
+        FileCall::Sync,
+    )? {
         FileCall::Sync => Ok(()),
         FileCall::Access { .. } => unreachable!(),
     }

@@ -149,16 +149,7 @@ pub(crate) fn clear_line<R: Wait, G: Ground, T: Gate>(
     requires on { IsOnMachine common.now.mount.now client.now.state }
     ensures { LineDone common.now.mount.now client.now.caller client.now.state (plan_named client.now.state (object_of name.now client.now.state.objects) (plan_access common.now.mount.now client.now.state (ops.Clear page))) pass.old pass.new result client.now.state }
 {
-    access_line(
-        rt,
-        alloc,
-        common,
-        pass,
-        client,
-        name,
-        Op::Clear { page },
-        0,
-    )
+    access_line(rt, alloc, common, pass, client, name, Op::Clear { page }, 0)
 }
 
 /// A line that syncs the file of the object of a name.

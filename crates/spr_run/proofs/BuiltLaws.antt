@@ -53,8 +53,7 @@ made-some subs.Reconnectable e = absurd cc
 call-of : (mount : Mount) (call : Call) → IsCall call → is_built call ≡ true → is_known mount call ≡ true → IsCallOf mount call
 call-of mount (calls.Context path) is built known = parts-of path is
 call-of mount (calls.Bind path sub view file) is built known =
-    let named = and_parts (has_view mount view) (has_file mount file) known in
-    (
+    let named = and_parts (has_view mount view) (has_file mount file) known in (
       parts-of path is.0,
       made-some sub built,
       found (λ (node : NodeEntry). is_view node.kind && bytes_eq node.name view) mount.nodes named.0,

@@ -36,53 +36,77 @@ const SCRIPT: &[u8] =
     b"client a m\nphase\na open x c/f\na write x 0 0 61626364\na read x 0 0 4\na sync x\n";
 
 const REPORT: &str =
-    "client a\n3 life 0\n4 done\n5 61626364\n6 done\nfile f\n0 a 0 c 0 open life 0\n2 a 1 c 0 write 0 0 61626364 done\n3 a 2 c 0 read 0 0 4 61626364\n5 a 3 c synced 4 done\n6 mount 0 c synced 6 done\nstatus 0\n";
+    "client a\n3 life 0\n4 done\n5 61626364\n6 done\nfile f\n0 a 0 c 0 open life 0\n2 a 1 c 0 write 0 0 61626364 done\n3 a 2 c 0 read 0 0 4 61626364\n5 a 3 c synced 4 done\n6 mount 0 c synced 6 done\nnames\n0 a 0 resolve c/f done\nstatus 0\n";
 
 /// The same without a sync: the closing sync writes the page.
 const UNSAVED: &[u8] = b"client a m\nphase\na open x c/f\na write x 0 0 61626364\na read x 0 0 4\n";
 
 const UNSAVED_REPORT: &str =
-    "client a\n3 life 0\n4 done\n5 61626364\nfile f\n0 a 0 c 0 open life 0\n2 a 1 c 0 write 0 0 61626364 done\n3 a 2 c 0 read 0 0 4 61626364\n5 mount 0 c synced 4 done\nstatus 0\n";
+    "client a\n3 life 0\n4 done\n5 61626364\nfile f\n0 a 0 c 0 open life 0\n2 a 1 c 0 write 0 0 61626364 done\n3 a 2 c 0 read 0 0 4 61626364\n5 mount 0 c synced 4 done\nnames\n0 a 0 resolve c/f done\nstatus 0\n";
 
 /// The disk refuses the page of the first sync.
 const UNWRITTEN: &[u8] =
-    b"client a\n3 life 0\n4 done\n5 61626364\n6 store d 1\nfile f\n0 a 0 c 0 open life 0\n2 a 1 c 0 write 0 0 61626364 done\n3 a 2 c 0 read 0 0 4 61626364\n5 mount 0 c synced 4 done\nstatus 1\n";
+    b"client a\n3 life 0\n4 done\n5 61626364\n6 store d 1\nfile f\n0 a 0 c 0 open life 0\n2 a 1 c 0 write 0 0 61626364 done\n3 a 2 c 0 read 0 0 4 61626364\n5 mount 0 c synced 4 done\nnames\n0 a 0 resolve c/f done\nstatus 1\n";
 
 /// The disk takes that page, and refuses to make it last.
 const UNSYNCED: &[u8] =
-    b"client a\n3 life 0\n4 done\n5 61626364\n6 store d 1\nfile f\n0 a 0 c 0 open life 0\n2 a 1 c 0 write 0 0 61626364 done\n3 a 2 c 0 read 0 0 4 61626364\n5 mount 0 c synced 5 done\nstatus 1\n";
+    b"client a\n3 life 0\n4 done\n5 61626364\n6 store d 1\nfile f\n0 a 0 c 0 open life 0\n2 a 1 c 0 write 0 0 61626364 done\n3 a 2 c 0 read 0 0 4 61626364\n5 mount 0 c synced 5 done\nnames\n0 a 0 resolve c/f done\nstatus 1\n";
 
 const UNCLOSED: &[u8] =
-    b"client a\n3 life 0\n4 done\n5 61626364\n6 done\nfile f\n0 a 0 c 0 open life 0\n2 a 1 c 0 write 0 0 61626364 done\n3 a 2 c 0 read 0 0 4 61626364\n5 a 3 c synced 4 done\nclosing f store d 1\nstatus 1\n";
+    b"client a\n3 life 0\n4 done\n5 61626364\n6 done\nfile f\n0 a 0 c 0 open life 0\n2 a 1 c 0 write 0 0 61626364 done\n3 a 2 c 0 read 0 0 4 61626364\n5 a 3 c synced 4 done\nnames\n0 a 0 resolve c/f done\nclosing f store d 1\nstatus 1\n";
 
 const LOST: &[u8] =
-    b"client a\n3 life 0\n4 done\n5 61626364\n6 done\nfile f\n0 a 0 c 0 open life 0\n2 a 1 c 0 write 0 0 61626364 done\n3 a 2 c 0 read 0 0 4 61626364\n5 a 3 c synced 4 done\n6 mount 0 c synced 6 done\nbay d f\nstatus 5\n";
+    b"client a\n3 life 0\n4 done\n5 61626364\n6 done\nfile f\n0 a 0 c 0 open life 0\n2 a 1 c 0 write 0 0 61626364 done\n3 a 2 c 0 read 0 0 4 61626364\n5 a 3 c synced 4 done\n6 mount 0 c synced 6 done\nnames\n0 a 0 resolve c/f done\nbay d f\nstatus 5\n";
 
 /// Ranges that end with their page, and ranges that do not lie within one page of the file.
 const EDGES: &[u8] =
     b"client a m\nphase\na open x c/f\na write x 0 60 61626364\na write x 0 61 61626364\na read x 2 0 1\na read x 0 0 0\n";
 
 const EDGES_REPORT: &str =
-    "client a\n3 life 0\n4 done\n5 not one page\n6 not one page\n7 not one page\nfile f\n0 a 0 c 0 open life 0\n2 a 1 c 0 write 0 60 61626364 done\n4 mount 0 c synced 3 done\nstatus 0\n";
+    "client a\n3 life 0\n4 done\n5 not one page\n6 not one page\n7 not one page\nfile f\n0 a 0 c 0 open life 0\n2 a 1 c 0 write 0 60 61626364 done\n4 mount 0 c synced 3 done\nnames\n0 a 0 resolve c/f done\nstatus 0\n";
 
 /// A page that was never written.
 const ZEROS: &[u8] = b"client a m\nphase\na open x c/f\na read x 1 0 64\n";
 
 const ZEROS_REPORT: &str =
-    "client a\n3 life 0\n4 00000000000000000000000000000000000000000000000000000000000000000000000000000000000000000000000000000000000000000000000000000000\nfile f\n0 a 0 c 0 open life 0\n2 a 1 c 0 read 1 0 64 00000000000000000000000000000000000000000000000000000000000000000000000000000000000000000000000000000000000000000000000000000000\n3 mount 0 c synced 3 done\nstatus 0\n";
+    "client a\n3 life 0\n4 00000000000000000000000000000000000000000000000000000000000000000000000000000000000000000000000000000000000000000000000000000000\nfile f\n0 a 0 c 0 open life 0\n2 a 1 c 0 read 1 0 64 00000000000000000000000000000000000000000000000000000000000000000000000000000000000000000000000000000000000000000000000000000000\n3 mount 0 c synced 3 done\nnames\n0 a 0 resolve c/f done\nstatus 0\n";
 
 /// Two clients that take turns, a phase each.
 const TWO_CLIENTS: &[u8] =
     b"client a m\nclient b m\nphase\nb open y c/f\nphase\na open x c/f\na write x 1 0 61\nphase\nb read y 1 0 2\nphase\na read x 1 0 1\nphase\nb clear y 1\n";
 
 const TWO_CLIENTS_REPORT: &str =
-    "client a\n6 life 0\n7 done\n11 61\nclient b\n4 life 0\n9 6100\n13 done\nfile f\n0 b 0 c 0 open life 0\n1 a 0 c 0 open life 0\n3 a 1 c 0 write 1 0 61 done\n4 b 1 c 0 read 1 0 2 6100\n5 a 2 c 0 read 1 0 1 61\n6 b 2 c 0 clear 1 done\n8 mount 0 c synced 7 done\nstatus 0\n";
+    "client a\n6 life 0\n7 done\n11 61\nclient b\n4 life 0\n9 6100\n13 done\nfile f\n0 b 0 c 0 open life 0\n1 a 0 c 0 open life 0\n3 a 1 c 0 write 1 0 61 done\n4 b 1 c 0 read 1 0 2 6100\n5 a 2 c 0 read 1 0 1 61\n6 b 2 c 0 clear 1 done\n8 mount 0 c synced 7 done\nnames\n0 b 0 resolve c/f done\n1 a 0 resolve c/f done\nstatus 0\n";
 
 /// Names that lead nowhere.
 const LOST_NAMES: &[u8] = b"client a m\nphase\na open x c\na open x q\na read x 0 0 1\n";
 
 const LOST_NAMES_REPORT: &str =
-    "client a\n3 not object c\n4 not bound q\n5 no object\nfile f\n0 mount 0 c synced 0 done\nstatus 0\n";
+    "client a\n3 not object c\n4 not bound q\n5 no object\nfile f\n0 mount 0 c synced 0 done\nnames\n0 a 0 resolve c not object c\n1 a 1 resolve q not bound q\nstatus 0\n";
+
+/// A name that is bound, listed and unbound, and paths that are refused.
+const BINDER: &[u8] =
+    b"client a m\nphase\na context t\na bind t/k cluster c f\na bind t/k singleton c f\na list t\na list /\na open x t\na open x t/k/z\na open x u\na unbind t\na list /\n";
+
+const BINDER_REPORT: &str =
+    "client a\n3 done\n4 done\n5 already bound k\n6 names k\n7 names c t\n8 not object t\n9 not context k\n10 not bound u\n11 done\n12 names c\nfile f\n0 mount 0 c synced 0 done\nnames\n0 a 0 context t done\n1 a 1 bind t/k done\n2 a 2 bind t/k already bound k\n3 a 3 list t done\n4 a 4 list / done\n5 a 5 resolve t not object t\n6 a 6 resolve t/k/z not context k\n7 a 7 resolve u not bound u\n8 a 8 unbind t done\n9 a 9 list / done\nstatus 0\n";
+
+/// Two files of two pages each.
+const TWINS: &[u8] = b"page 64\nfile f 2\nfile g 2\ndisk d m\ncoherency c m d\n";
+
+/// An object of a cluster is copied and dropped; the copy outlives the name.
+const COPIER: &[u8] =
+    b"client a m\nphase\na bind q cluster c g\na open x q\na write x 1 0 62\na copy x y\na copy x y\na drop x\na read x 1 0 1\na read y 1 0 1\na copy x z\na drop z\na unbind q\na open x q\na read y 1 0 1\n";
+
+const COPIER_REPORT: &str =
+    "client a\n3 done\n4 life 0\n5 done\n6 done\n7 object exists\n8 done\n9 no object\n10 62\n11 no object\n12 no object\n13 done\n14 not bound q\n15 62\nfile f\n0 mount 0 c synced 0 done\nfile g\n0 a 0 c 0 open life 0\n2 a 1 c 0 write 1 0 62 done\n3 a 2 c 0 read 1 0 1 62\n4 a 3 c 0 read 1 0 1 62\n6 mount 0 c synced 5 done\nnames\n0 a 0 bind q done\n1 a 1 resolve q done\n2 a 2 unbind q done\n3 a 3 resolve q not bound q\nstatus 0\n";
+
+/// A name of eight parts.
+const DEEP_NAME: &[u8] =
+    b"client a m\nphase\na context a\na context a/b\na context a/b/c\na context a/b/c/d\na context a/b/c/d/e\na context a/b/c/d/e/f\na context a/b/c/d/e/f/g\na bind a/b/c/d/e/f/g/h singleton c f\na open x a/b/c/d/e/f/g/h\na list a/b/c/d/e/f/h\n";
+
+const DEEP_NAME_REPORT: &str =
+    "client a\n3 done\n4 done\n5 done\n6 done\n7 done\n8 done\n9 done\n10 done\n11 life 0\n12 not bound h\nfile f\n0 a 0 c 0 open life 0\n1 mount 0 c synced 1 done\nnames\n0 a 0 context a done\n1 a 1 context a/b done\n2 a 2 context a/b/c done\n3 a 3 context a/b/c/d done\n4 a 4 context a/b/c/d/e done\n5 a 5 context a/b/c/d/e/f done\n6 a 6 context a/b/c/d/e/f/g done\n7 a 7 bind a/b/c/d/e/f/g/h done\n8 a 8 resolve a/b/c/d/e/f/g/h done\n9 a 9 list a/b/c/d/e/f/h not bound h\nstatus 0\n";
 
 /// Managers and a distributed layer on a coherency layer.
 const SPREAD: &[u8] =
@@ -98,26 +122,26 @@ const WRITE_ABOVE: &[u8] =
     b"client a m\nphase\na open x k/f\na write x 0 0 61\nphase\na open y c/f\na read y 0 0 1\n";
 
 const WRITE_ABOVE_REPORT: &str =
-    "client a\n3 life 0\n4 done\n6 life 0\n7 61\nfile f\n0 a 0 k 0 open life 0\n3 a 1 k 0 write 0 0 61 done\n4 a 2 c 0 open life 0\n6 a 3 c 0 read 0 0 1 61\n8 mount 0 c synced 7 done\nstatus 0\n";
+    "client a\n3 life 0\n4 done\n6 life 0\n7 61\nfile f\n0 a 0 k 0 open life 0\n3 a 1 k 0 write 0 0 61 done\n4 a 2 c 0 open life 0\n6 a 3 c 0 read 0 0 1 61\n8 mount 0 c synced 7 done\nnames\n0 a 0 resolve k/f done\n1 a 1 resolve c/f done\nstatus 0\n";
 
 const WRITE_BELOW: &[u8] =
     b"client a m\nphase\na open x c/f\na write x 0 0 61\nphase\na open y k/f\na read y 0 0 1\n";
 
 const WRITE_BELOW_REPORT: &str =
-    "client a\n3 life 0\n4 done\n6 life 0\n7 61\nfile f\n0 a 0 c 0 open life 0\n2 a 1 c 0 write 0 0 61 done\n3 a 2 k 0 open life 0\n5 a 3 k 0 read 0 0 1 61\n7 mount 0 c synced 6 done\nstatus 0\n";
+    "client a\n3 life 0\n4 done\n6 life 0\n7 61\nfile f\n0 a 0 c 0 open life 0\n2 a 1 c 0 write 0 0 61 done\n3 a 2 k 0 open life 0\n5 a 3 k 0 read 0 0 1 61\n7 mount 0 c synced 6 done\nnames\n0 a 0 resolve c/f done\n1 a 1 resolve k/f done\nstatus 0\n";
 
 /// The same runs with their page messages, and the heads of their frames.
 const UNSAVED_TRACED: &str =
-    "client a\n3 life 0\n4 done\n5 61626364\nfile f\n0 a 0 c 0 open life 0\n1 c zero_fill 0 000200000000000000000000000000000000004002000000 000200040000000000000000000000000000004002040000\n2 a 1 c 0 write 0 0 61626364 done\n3 a 2 c 0 read 0 0 4 61626364\n4 c sync 0 000200030000000000000000000000000000004002010000 000200030000000000000000000000000000004002020000\n5 mount 0 c synced 4 done\nstatus 0\n";
+    "client a\n3 life 0\n4 done\n5 61626364\nfile f\n0 a 0 c 0 open life 0\n1 c zero_fill 0 000200000000000000000000000000000000004002000000 000200040000000000000000000000000000004002040000\n2 a 1 c 0 write 0 0 61626364 done\n3 a 2 c 0 read 0 0 4 61626364\n4 c sync 0 000200030000000000000000000000000000004002010000 000200030000000000000000000000000000004002020000\n5 mount 0 c synced 4 done\nnames\n0 a 0 resolve c/f done\nstatus 0\n";
 
 const ZEROS_TRACED: &str =
-    "client a\n3 life 0\n4 00000000000000000000000000000000000000000000000000000000000000000000000000000000000000000000000000000000000000000000000000000000\nfile f\n0 a 0 c 0 open life 0\n1 c zero_fill 1 000200000000000000000000000000400000004001000000 000200040000000000000000000000400000004001040000\n2 a 1 c 0 read 1 0 64 00000000000000000000000000000000000000000000000000000000000000000000000000000000000000000000000000000000000000000000000000000000\n3 mount 0 c synced 3 done\nstatus 0\n";
+    "client a\n3 life 0\n4 00000000000000000000000000000000000000000000000000000000000000000000000000000000000000000000000000000000000000000000000000000000\nfile f\n0 a 0 c 0 open life 0\n1 c zero_fill 1 000200000000000000000000000000400000004001000000 000200040000000000000000000000400000004001040000\n2 a 1 c 0 read 1 0 64 00000000000000000000000000000000000000000000000000000000000000000000000000000000000000000000000000000000000000000000000000000000\n3 mount 0 c synced 3 done\nnames\n0 a 0 resolve c/f done\nstatus 0\n";
 
 const WRITE_ABOVE_TRACED: &str =
-    "client a\n3 life 0\n4 done\n6 life 0\n7 61\nfile f\n0 a 0 k 0 open life 0\n1 c zero_fill 0 000200000000000000000000000000000000004002000000 000200040000000000000000000000000000004002040000\n2 k zero_fill 0 000200000000000000000000000000000000004002000000 000200040000000000000000000000000000004002040000\n3 a 1 k 0 write 0 0 61 done\n4 a 2 c 0 open life 0\n5 k deny_writes 0 000200010000000000000000000000000000004001040000 000200010000000000000000000000000000004001070000\n6 a 3 c 0 read 0 0 1 61\n7 c sync 0 000200030000000000000000000000000000004002010000 000200030000000000000000000000000000004002020000\n8 mount 0 c synced 7 done\nstatus 0\n";
+    "client a\n3 life 0\n4 done\n6 life 0\n7 61\nfile f\n0 a 0 k 0 open life 0\n1 c zero_fill 0 000200000000000000000000000000000000004002000000 000200040000000000000000000000000000004002040000\n2 k zero_fill 0 000200000000000000000000000000000000004002000000 000200040000000000000000000000000000004002040000\n3 a 1 k 0 write 0 0 61 done\n4 a 2 c 0 open life 0\n5 k deny_writes 0 000200010000000000000000000000000000004001040000 000200010000000000000000000000000000004001070000\n6 a 3 c 0 read 0 0 1 61\n7 c sync 0 000200030000000000000000000000000000004002010000 000200030000000000000000000000000000004002020000\n8 mount 0 c synced 7 done\nnames\n0 a 0 resolve k/f done\n1 a 1 resolve c/f done\nstatus 0\n";
 
 const WRITE_BELOW_TRACED: &str =
-    "client a\n3 life 0\n4 done\n6 life 0\n7 61\nfile f\n0 a 0 c 0 open life 0\n1 c zero_fill 0 000200000000000000000000000000000000004002000000 000200040000000000000000000000000000004002040000\n2 a 1 c 0 write 0 0 61 done\n3 a 2 k 0 open life 0\n4 k page_in 0 000200000000000000000000000000000000004001000000 000200000000000000000000000000000000004001030000\n5 a 3 k 0 read 0 0 1 61\n6 c sync 0 000200030000000000000000000000000000004002010000 000200030000000000000000000000000000004002020000\n7 mount 0 c synced 6 done\nstatus 0\n";
+    "client a\n3 life 0\n4 done\n6 life 0\n7 61\nfile f\n0 a 0 c 0 open life 0\n1 c zero_fill 0 000200000000000000000000000000000000004002000000 000200040000000000000000000000000000004002040000\n2 a 1 c 0 write 0 0 61 done\n3 a 2 k 0 open life 0\n4 k page_in 0 000200000000000000000000000000000000004001000000 000200000000000000000000000000000000004001030000\n5 a 3 k 0 read 0 0 1 61\n6 c sync 0 000200030000000000000000000000000000004002010000 000200030000000000000000000000000000004002020000\n7 mount 0 c synced 6 done\nnames\n0 a 0 resolve c/f done\n1 a 1 resolve k/f done\nstatus 0\n";
 
 /// Three layers, one upon another.
 const DEEP: &[u8] =
@@ -128,7 +152,7 @@ const DEEP_SCRIPT: &[u8] =
     b"client a m\nphase\na open x l/f\na write x 0 0 61\na open y c/f\na read y 0 0 1\na write y 0 1 62\na read x 0 0 2\n";
 
 const DEEP_REPORT: &str =
-    "client a\n3 life 0\n4 done\n5 life 0\n6 61\n7 done\n8 6162\nfile f\n0 a 0 l 0 open life 0\n4 a 1 l 0 write 0 0 61 done\n5 a 2 c 0 open life 0\n8 a 3 c 0 read 0 0 1 61\n11 a 4 c 0 write 0 1 62 done\n14 a 5 l 0 read 0 0 2 6162\n16 mount 0 c synced 15 done\nstatus 0\n";
+    "client a\n3 life 0\n4 done\n5 life 0\n6 61\n7 done\n8 6162\nfile f\n0 a 0 l 0 open life 0\n4 a 1 l 0 write 0 0 61 done\n5 a 2 c 0 open life 0\n8 a 3 c 0 read 0 0 1 61\n11 a 4 c 0 write 0 1 62 done\n14 a 5 l 0 read 0 0 2 6162\n16 mount 0 c synced 15 done\nnames\n0 a 0 resolve l/f done\n1 a 1 resolve c/f done\nstatus 0\n";
 
 /// Three layers upon one.
 const WIDE: &[u8] =
@@ -139,7 +163,7 @@ const WIDE_SCRIPT: &[u8] =
     b"client a m\nphase\na open x k/f\na open y l/f\na open z n/f\na write x 0 0 61\na read y 0 0 1\na read z 0 0 1\na write y 0 1 62\na read z 0 0 2\n";
 
 const WIDE_REPORT: &str =
-    "client a\n3 life 0\n4 life 0\n5 life 0\n6 done\n7 61\n8 61\n9 done\n10 6162\nfile f\n0 a 0 k 0 open life 0\n1 a 1 l 0 open life 0\n2 a 2 n 0 open life 0\n5 a 3 k 0 write 0 0 61 done\n8 a 4 l 0 read 0 0 1 61\n10 a 5 n 0 read 0 0 1 61\n14 a 6 l 0 write 0 1 62 done\n17 a 7 n 0 read 0 0 2 6162\n19 mount 0 c synced 18 done\nstatus 0\n";
+    "client a\n3 life 0\n4 life 0\n5 life 0\n6 done\n7 61\n8 61\n9 done\n10 6162\nfile f\n0 a 0 k 0 open life 0\n1 a 1 l 0 open life 0\n2 a 2 n 0 open life 0\n5 a 3 k 0 write 0 0 61 done\n8 a 4 l 0 read 0 0 1 61\n10 a 5 n 0 read 0 0 1 61\n14 a 6 l 0 write 0 1 62 done\n17 a 7 n 0 read 0 0 2 6162\n19 mount 0 c synced 18 done\nnames\n0 a 0 resolve k/f done\n1 a 1 resolve l/f done\n2 a 2 resolve n/f done\nstatus 0\n";
 
 /// Two files.
 const FILES: &[u8] = b"page 64\nfile f 1\nfile g 2\ndisk d m\ncoherency c m d\n";
@@ -147,14 +171,14 @@ const FILES: &[u8] = b"page 64\nfile f 1\nfile g 2\ndisk d m\ncoherency c m d\n"
 const FILES_SCRIPT: &[u8] = b"client a m\nphase\na open x c/f\na open y c/g\na write y 1 0 62\n";
 
 const FILES_REPORT: &[u8] =
-    b"client a\n3 life 0\n4 life 0\n5 done\nfile f\n0 a 0 c 0 open life 0\n1 mount 0 c synced 1 done\nfile g\n0 a 0 c 0 open life 0\n2 a 1 c 0 write 1 0 62 done\n4 mount 0 c synced 3 done\nstatus 0\n";
+    b"client a\n3 life 0\n4 life 0\n5 done\nfile f\n0 a 0 c 0 open life 0\n1 mount 0 c synced 1 done\nfile g\n0 a 0 c 0 open life 0\n2 a 1 c 0 write 1 0 62 done\n4 mount 0 c synced 3 done\nnames\n0 a 0 resolve c/f done\n1 a 1 resolve c/g done\nstatus 0\n";
 
 /// The first file is synced, and the store of the second refuses its page.
 const FILES_UNCLOSED: &[u8] =
-    b"client a\n3 life 0\n4 life 0\n5 done\nfile f\n0 a 0 c 0 open life 0\n1 mount 0 c synced 1 done\nfile g\n0 a 0 c 0 open life 0\n2 a 1 c 0 write 1 0 62 done\nclosing g store d 1\nstatus 1\n";
+    b"client a\n3 life 0\n4 life 0\n5 done\nfile f\n0 a 0 c 0 open life 0\n1 mount 0 c synced 1 done\nfile g\n0 a 0 c 0 open life 0\n2 a 1 c 0 write 1 0 62 done\nnames\n0 a 0 resolve c/f done\n1 a 1 resolve c/g done\nclosing g store d 1\nstatus 1\n";
 
 const FILES_LOST: &[u8] =
-    b"client a\n3 life 0\n4 life 0\n5 done\nfile f\n0 a 0 c 0 open life 0\n1 mount 0 c synced 1 done\nfile g\n0 a 0 c 0 open life 0\n2 a 1 c 0 write 1 0 62 done\n4 mount 0 c synced 3 done\nbay d g\nstatus 5\n";
+    b"client a\n3 life 0\n4 life 0\n5 done\nfile f\n0 a 0 c 0 open life 0\n1 mount 0 c synced 1 done\nfile g\n0 a 0 c 0 open life 0\n2 a 1 c 0 write 1 0 62 done\n4 mount 0 c synced 3 done\nnames\n0 a 0 resolve c/f done\n1 a 1 resolve c/g done\nbay d g\nstatus 5\n";
 
 /// Which calls of the outside are to fail, counted from 1. Those of a store are of the file of this name.
 #[derive(Clone, Copy)]
@@ -406,12 +430,15 @@ fn refusals(rt: HostRuntime) -> Result<(), Fail> {
 
 #[test]
 fn runs(rt: HostRuntime) -> Result<(), Fail> {
-    let empty = "file f\n0 mount 0 c synced 0 done\nstatus 0\n";
-    let rows: [(&[&str], &[u8], &[u8], &str); 16] = [
+    let empty = "file f\n0 mount 0 c synced 0 done\nnames\nstatus 0\n";
+    let rows: [(&[&str], &[u8], &[u8], &str); 19] = [
         (RUN, STACK, UNSAVED, UNSAVED_REPORT),
         (RUN, STACK, SCRIPT, REPORT),
         (RUN, STACK, b"", empty),
         (RUN, STACK, LOST_NAMES, LOST_NAMES_REPORT),
+        (RUN, STACK, BINDER, BINDER_REPORT),
+        (RUN, TWINS, COPIER, COPIER_REPORT),
+        (RUN, STACK, DEEP_NAME, DEEP_NAME_REPORT),
         (RUN, STACK, EDGES, EDGES_REPORT),
         (RUN, STACK, ZEROS, ZEROS_REPORT),
         (RUN, STACK, TWO_CLIENTS, TWO_CLIENTS_REPORT),
@@ -423,7 +450,7 @@ fn runs(rt: HostRuntime) -> Result<(), Fail> {
             RUN,
             b"page 128\nfile h 3\ndisk e m\ncoherency c m e\n",
             b"",
-            "file h\n0 mount 0 c synced 0 done\nstatus 0\n",
+            "file h\n0 mount 0 c synced 0 done\nnames\nstatus 0\n",
         ),
         (TRACE, STACK, UNSAVED, UNSAVED_TRACED),
         (TRACE, STACK, ZEROS, ZEROS_TRACED),
@@ -671,11 +698,11 @@ fn pages_after_each_call(rt: HostRuntime) -> Result<(), Fail> {
 const READ_AGAIN: &[u8] = b"client a m\nphase\na open x c/f\na read x 0 0 4\n";
 
 const READ_AGAIN_REPORT: &str =
-    "client a\n3 life 0\n4 61626364\nfile f\n0 a 0 c 0 open life 0\n2 a 1 c 0 read 0 0 4 61626364\n3 mount 0 c synced 3 done\nstatus 0\n";
+    "client a\n3 life 0\n4 61626364\nfile f\n0 a 0 c 0 open life 0\n2 a 1 c 0 read 0 0 4 61626364\n3 mount 0 c synced 3 done\nnames\n0 a 0 resolve c/f done\nstatus 0\n";
 
 /// The store does not give the page that the read needs.
 const UNREAD_REPORT: &str =
-    "client a\n3 life 0\n4 store d 1\nfile f\n0 a 0 c 0 open life 0\n1 mount 0 c synced 1 done\nstatus 1\n";
+    "client a\n3 life 0\n4 store d 1\nfile f\n0 a 0 c 0 open life 0\n1 mount 0 c synced 1 done\nnames\n0 a 0 resolve c/f done\nstatus 1\n";
 
 const FIRST_PAGE: &str =
     "page 0 61626364000000000000000000000000000000000000000000000000000000000000000000000000000000000000000000000000000000000000000000000000\npage 1 zeros\nstatus 0\n";
@@ -857,6 +884,31 @@ fn writers_at_once(rt: HostRuntime) -> Result<(), Fail> {
     Ok(())
 }
 
+/// Two clients that bind and unbind one name in one phase.
+const BINDERS: &[u8] =
+    b"client a m\nclient b m\nphase\na bind q singleton c f\na unbind q\nb bind q cluster c f\nb unbind q\n";
+
+/// Whatever the order, the names' history has each call once, and a name that nobody has bound can be.
+#[test]
+fn binders_at_once(rt: HostRuntime) -> Result<(), Fail> {
+    let calls: [&[u8]; 4] = [
+        b" a 0 bind q ",
+        b" a 1 unbind q ",
+        b" b 0 bind q ",
+        b" b 1 unbind q ",
+    ];
+    for _round in 0..20 {
+        let (got, sink) = run(&rt, rt.alloc(), RUN, STACK, BINDERS, &SOUND)?;
+        assert_eq!(rt; got, Status::Good);
+        for call in calls {
+            assert_eq!(rt; times(sink.bytes(), call), 1);
+        }
+        assert!(rt; times(sink.bytes(), b" bind q done\n") > 0);
+        assert!(rt; times(sink.bytes(), b" unbind q done\n") > 0);
+    }
+    Ok(())
+}
+
 /// Two clients that write to two pages in one phase.
 const MEETERS: &[u8] =
     b"client a m\nclient b m\nphase\na open x c/f\na write x 0 0 61\nb open y c/f\nb write y 1 0 62\n";
@@ -917,8 +969,13 @@ fn clients_run_at_once(rt: HostRuntime) -> Result<(), Fail> {
 const BESIDE: &[u8] =
     b"client a m\nclient b m\nphase\na open x c/f\na write x 0 0 61\na sync x\nb open y c/g\nb write y 1 0 62\nb sync y\n";
 
-const BESIDE_REPORT: &str =
-    "client a\n4 life 0\n5 done\n6 done\nclient b\n7 life 0\n8 done\n9 store d 1\nfile f\n0 a 0 c 0 open life 0\n2 a 1 c 0 write 0 0 61 done\n4 a 2 c synced 3 done\n5 mount 0 c synced 5 done\nfile g\n0 b 0 c 0 open life 0\n2 b 1 c 0 write 1 0 62 done\n4 mount 0 c synced 3 done\nstatus 1\n";
+/// Its report up to the calls on names, of which there may be either order.
+const BESIDE_FILES: &[u8] =
+    b"client a\n4 life 0\n5 done\n6 done\nclient b\n7 life 0\n8 done\n9 store d 1\nfile f\n0 a 0 c 0 open life 0\n2 a 1 c 0 write 0 0 61 done\n4 a 2 c synced 3 done\n5 mount 0 c synced 5 done\nfile g\n0 b 0 c 0 open life 0\n2 b 1 c 0 write 1 0 62 done\n4 mount 0 c synced 3 done\nnames\n";
+
+const A_FIRST: &[u8] = b"0 a 0 resolve c/f done\n1 b 0 resolve c/g done\nstatus 1\n";
+
+const B_FIRST: &[u8] = b"0 b 0 resolve c/g done\n1 a 0 resolve c/f done\nstatus 1\n";
 
 #[test]
 fn refused_beside_good(rt: HostRuntime) -> Result<(), Fail> {
@@ -927,7 +984,9 @@ fn refused_beside_good(rt: HostRuntime) -> Result<(), Fail> {
     outside.writes = &[3];
     let (got, sink) = run(&rt, rt.alloc(), RUN, FILES, BESIDE, &outside)?;
     assert_eq!(rt; got, Status::Faulted);
-    assert_eq!(rt; sink.bytes(), BESIDE_REPORT.as_bytes());
+    let text = sink.bytes();
+    assert!(rt; text.starts_with(BESIDE_FILES));
+    assert_eq!(rt; times(text, A_FIRST) + times(text, B_FIRST), 1);
     Ok(())
 }
 

@@ -15,8 +15,8 @@ ghost use Rattle.spr_volume.specs.Passes.{IsOf, KnowsPlain, known};
 use crate::mounted::{Pass, Volume};
 use disk_layer::Ground;
 use hist_plain::{Keep, Op};
-use spr_io::Gate;
 use shared_files::{Answered, CallErr};
+use spr_io::Gate;
 use std::sync::Wait;
 
 impl<G: Ground> Volume<G> {
