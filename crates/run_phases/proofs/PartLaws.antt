@@ -4,6 +4,7 @@ use Rattle.std.proofs.lemmas.List.{append-nil, with_items_is}
 use Rattle.std.specs.Vec.{with_items}
 use Rattle.std.specs.List.{AllByRecursion, flat_map}
 use Rattle.script_text.specs.declared.script.CallLine.{CallLine}
+use Rattle.script_text.specs.declared.script.Said.{Said}
 use Rattle.stack_accept.specs.Mount.{Mount}
 use Rattle.tower_log.specs.declared.logged.Logged.{Logged}
 use Rattle.name_context.specs.declared.entry.NameEntry.{NameEntry}
@@ -13,7 +14,7 @@ use Rattle.run_defs.specs.Fits.{AllGoOn, Did, lines_of}
 use Rattle.run_defs.proofs.Parts.{did_after, did_nothing, did_then, all_go_on_same, all_go_on_then, worked_before, worked_then}
 use Rattle.hist_lock.proofs.Lists.{lt_or_le}
 use Rattle.spr_volume.specs.Passes.{AllQuietly, VolumeSeen, IsOf, Knows, Owners, known, as_known, with_range}
-use Rattle.spr_client.specs.Lines.{AreCalls}
+use Rattle.spr_client.specs.Lines.{AreCalls, LinesDone}
 use Rattle.spr_client.specs.Calls.{histories}
 use Rattle.spr_client.proofs.CallLaws.{quiet_by}
 use Rattle.spr_client.proofs.NamesLaws.{quiet_names}
@@ -105,6 +106,16 @@ module _ (mount : Mount) (lines : List CallLine) where
     work-before before mid after w n (subst (λ (c : ℕ). Did c before mid []) (sym ready.0) (idle first (omega arith) (omega arith))) each.0,
     each-before before mid after (suc first) ws ns ready.2 (λ c low high. idle c (omega arith) (omega arith)) each.1,
   )
+
+  -- one client did its lines
+  pub worker-done : (w n : Worker) (one : List Said) (p q : Knows) → n.client.caller ≡ w.client.caller → vec_capacity n.said ≡ vec_capacity w.said → n.said.items ≡ w.said.items ++ one
+      → LinesDone mount w.client.caller w.client.state (lines_of w.client.caller lines) p q one n.client.state → PhaseDone mount lines w.client.caller (w ∷ []) (n ∷ []) p q
+  worker-done w n one p q caller room said done = record {
+    pass = done.pass;
+    each = (record { caller_same = caller; room_same = room; one = one; said_is = said; worked = done.worked }, tt);
+    others = λ other low high out. done.others other (λ same. ⊎_elim (λ below. absurd (omega arith)) (λ above. absurd (omega arith)) out) low high;
+    later = done.worked.did.later;
+  }
 
   -- nobody's lines
   pub phase-nobody : (first : ℕ) (p : Knows) → PhaseDone mount lines first [] [] p p

@@ -1,4 +1,13 @@
+use denote.Exit.{no}
+use denote.Param.{param}
+use denote.Param.Send.{IsSend, IsSync, arg_send, arg_sync, param_send, param_sync, sendable, shr_slice_sync, shr_sync}
+use denote.RattleType.{RattleType}
+use denote.Struct.Field.{u64-field}
 use Rattle.std.proofs.Common.{rules, arith}
+use Rattle.std.proofs.Crossing as heap
+use Rattle.std.proofs.option.Option.TheSendSync as option
+use Rattle.script_text.proofs.script.CallLine.TheSendSync as line
+use Rattle.run_phases.proofs.Crossing.{common_sync, part_send, shared_with_five}
 use Rattle.run_phases.proofs.PartLaws.{may-high, may-low, parts-done, room-for, whole-done}
 use Rattle.run_phases.proofs.parts.+parts.Goals as goal
 
@@ -19,3 +28,25 @@ run_part-returns-in-Ok g t c = parts-done c.args.common.now.mount.now c.args.lin
 
 pub run_part-returns-in-Err : goal.run_part-returns-in-Err
 run_part-returns-in-Err g t c = whole-done c.args.common.now.mount.now c.args.lines.now c.args.part c.in-Err.whole _ c.run_in_turn.new.workers c.run_in_turn.new.pass (search rules) (search rules) (search rules) (search rules) (search rules) c.run_in_turn.ensures.done (search rules)
+
+pub run_halves-for_each_mut-requires-send-T : goal.run_halves-for_each_mut-requires-send-T
+run_halves-for_each_mut-requires-send-T g t c κs within =
+    let G : RattleType = param 1 g.row.G in
+    let ground : IsSend G = search (param_send) in
+    param_send _ _ (arg_send _ no _ (option.the_send _ (part_send G g.G.Ground ground)))
+
+pub run_halves-for_each_mut-requires-sync-F : goal.run_halves-for_each_mut-requires-sync-F
+run_halves-for_each_mut-requires-sync-F g t c κs within =
+    let G : RattleType = param 1 g.row.G in
+    let T : RattleType = param 2 g.row.T in
+    let R : RattleType = param 0 g.row.R in
+    let ground : IsSend G = search (param_send) in
+    let gate : IsSync g.row.T = search (rules, c.requires-raw) parts 8 in
+    let runtime : IsSync R = search (rules, c.requires-raw) parts 8 in
+    let count : IsSync (u64-field).row = search sendable in
+    param_sync _ _ (arg_sync _ no _ (shared_with_five _ _ _ _ _ _
+    (shr_sync _ _ _ runtime)
+    (shr_sync _ _ _ heap.sync)
+    (shr_sync _ _ _ (common_sync G g.G.Ground ground _ T (param_sync 2 g.row.T gate)))
+    (shr_sync _ _ _ count)
+    (shr_slice_sync _ _ _ line.the_sync)))
