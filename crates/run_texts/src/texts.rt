@@ -5,6 +5,7 @@ ghost use Rattle.spr_io.specs.Causes.{Rose};
 ghost use Rattle.stack_accept.specs.Mount.{Mount, mounted};
 ghost use Rattle.run_defs.specs.Stack.{IsBuilt};
 ghost use Rattle.script_text.specs.Grammar.{IsScript};
+ghost use Rattle.run_texts.specs.Known.{unknown_line};
 ghost use Rattle.run_texts.specs.Later.{later_line, later_call};
 ghost use Rattle.run_texts.specs.Stacks.{IsText, SameTexts, IsStackOf, IsMounted, IsRunnable};
 ghost use Rattle.run_texts.specs.Refusal.{Spells, Scripts, RefusesScript, HasScript, IsPrepared, IsStackCause, IsRunnableCause, IsRunCause, IsCause};
