@@ -1,8 +1,8 @@
 -- Clients of a phase, some after others, or in two halves whose passes meet.
-use Rattle.std.proofs.Common.{◌≡◌, ◌⊎◌, inl, inr, ⊎_elim, ℕ, suc, ◌+◌, ◌<◌, ◌≤◌, List, [], ◌∷◌, ◌++◌, length, refl, sym, ap, subst, ◌∙◌, arith, length-append, vec_capacity}
+use Rattle.std.proofs.Common.{◌≡◌, inl, inr, ⊎_elim, ℕ, suc, ◌+◌, ◌<◌, ◌≤◌, List, [], ◌∷◌, ◌++◌, length, refl, sym, ap, subst, ◌∙◌, arith, length-append, vec_capacity}
 use Rattle.std.proofs.lemmas.List.{append-nil, with_items_is}
 use Rattle.std.specs.Vec.{with_items}
-use Rattle.std.specs.List.{AllByRecursion, flat_map}
+use Rattle.std.specs.List.{AllByRecursion}
 use Rattle.script_text.specs.declared.script.CallLine.{CallLine}
 use Rattle.script_text.specs.declared.script.Said.{Said}
 use Rattle.stack_accept.specs.Mount.{Mount}
@@ -13,16 +13,16 @@ use Rattle.run_defs.specs.Log.{Histories}
 use Rattle.run_defs.specs.Fits.{AllGoOn, Did, lines_of}
 use Rattle.run_defs.proofs.Parts.{did_after, did_nothing, did_then, all_go_on_same, all_go_on_then, worked_before, worked_then}
 use Rattle.hist_lock.proofs.Lists.{lt_or_le}
-use Rattle.spr_volume.specs.Passes.{AllQuietly, VolumeSeen, IsOf, Knows, Owners, known, as_known, with_range}
-use Rattle.spr_client.specs.Lines.{AreCalls, LinesDone}
+use Rattle.spr_volume.specs.Passes.{AllQuietly, VolumeSeen, IsOf, Knows, Owners, known, as_known}
+use Rattle.spr_client.specs.Lines.{LinesDone}
 use Rattle.spr_client.specs.Calls.{histories}
 use Rattle.spr_client.proofs.CallLaws.{quiet_by}
 use Rattle.spr_client.proofs.NamesLaws.{quiet_names}
 use Rattle.run_phases.specs.declared.parts.Part.{Part}
 use Rattle.run_phases.specs.declared.worker.Worker.{Worker}
 use Rattle.run_phases.specs.Workers.{AreReady, HaveRoom}
-use Rattle.run_phases.specs.Phases.{EachDone, IsReady, OthersIdle, PhaseDone, WorkDone}
-use Rattle.run_phases.specs.Parts.{AreHalves, HasPart, MayRun, PartDone, SlotDone}
+use Rattle.run_phases.specs.Phases.{EachDone, PhaseDone, WorkDone}
+use Rattle.run_phases.specs.Parts.{AreHalves, MayRun, PartDone}
 
 -- so many callers of a pass from one on did nothing
 abbrev pub AllIdle : ℕ → ℕ → Histories → Histories → Type 0

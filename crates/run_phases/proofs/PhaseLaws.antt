@@ -15,8 +15,7 @@ use Rattle.run_phases.specs.declared.parts.Part.{Part}
 use Rattle.run_phases.specs.declared.worker.Worker.{Worker}
 use Rattle.run_phases.specs.Workers.{AreReady, HaveRoom, IsSilent}
 use Rattle.run_phases.specs.Parts.{MayRun, PartDone}
-use Rattle.run_phases.specs.Phases.{ClientDone, ClientsDone, EachDone, IsReady, PhaseDone, PhasesDone}
-use Rattle.run_phases.proofs.PartLaws.{each-len}
+use Rattle.run_phases.specs.Phases.{ClientsDone, EachDone, IsReady, PhaseDone, PhasesDone}
 
 clients-none : (mount : Mount) (start : Histories) (ws : List Worker) → AllByRecursion IsSilent ws → ClientsDone mount [] start [] ws ws
 clients-none mount start [] silent = tt

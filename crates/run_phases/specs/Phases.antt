@@ -1,6 +1,5 @@
 -- What phases did.
 use Rattle.std.specs.Prelude.{◌≡◌, ◌⊎◌, ℕ, ◌+◌, ◌<◌, ◌≤◌, ◌^◌, List, [], ◌∷◌, ◌++◌, length, vec_capacity}
-use Rattle.std.specs.List.{AllByRecursion}
 use Rattle.script_text.specs.declared.script.CallLine.{CallLine}
 use Rattle.script_text.specs.declared.script.Said.{Said}
 use Rattle.stack_accept.specs.Mount.{Mount}
@@ -8,9 +7,8 @@ use Rattle.run_defs.specs.Log.{Histories}
 use Rattle.run_defs.specs.Fits.{AllGoOn, Did, Worked, Acts, InOrder, IsAnswered, last_cut, lines_of}
 use Rattle.spr_volume.specs.Passes.{VolumeSeen, IsOf, Knows, as_known}
 use Rattle.spr_client.specs.Calls.{IsOfStack, histories}
-use Rattle.spr_client.specs.Lines.{AreCalls}
 use Rattle.run_phases.specs.declared.worker.Worker.{Worker}
-use Rattle.run_phases.specs.Workers.{AreReady, HaveRoom}
+use Rattle.run_phases.specs.Workers.{AreReady}
 
 -- the pass is of the volume of a stack, and has the callers from this one on that are these workers
 pub record IsReady (mount : Mount) (v : VolumeSeen) (p : Knows) (first : ℕ) (workers : List Worker) : Type 0 where

@@ -1,5 +1,5 @@
 -- The clients of a script with their answers, before its first phase.
-use Rattle.std.specs.Prelude.{◌≡◌, ℕ, suc, ◌+◌, ◌≤◌, List, [], ◌∷◌, length, slice_get, Some, vec_capacity}
+use Rattle.std.specs.Prelude.{◌≡◌, ℕ, suc, ◌+◌, ◌≤◌, List, [], ◌∷◌, length, vec_capacity}
 use Rattle.std.specs.List.{AllByRecursion, flat_map}
 use Rattle.script_text.specs.declared.script.CallLine.{CallLine}
 use Rattle.script_text.specs.declared.script.ClientLine.{ClientLine}

@@ -1,5 +1,5 @@
 -- How a line is done.
-use Rattle.std.proofs.Common.{◌≡◌, ◌≢◌, ℕ, ◌<◌, ◌≤◌, List, [], ◌∷◌, ◌++◌, length, Bool, true, false, Option, Some, None, IsSome, Ok, Err, refl, sym, ap, subst, ◌∙◌, arith, inl, inr}
+use Rattle.std.proofs.Common.{◌≡◌, ◌≢◌, ℕ, ◌<◌, ◌≤◌, List, [], ◌∷◌, length, false, Option, Some, None, IsSome, Ok, Err, refl, sym, ap, subst, ◌∙◌, arith, inl, inr}
 use Rattle.std.specs.Prelude.{◌⊎◌}
 use Rattle.std.specs.List.{AllZip}
 use Rattle.std.proofs.lemmas.Slice.Zip.{AllZip-map}
@@ -23,8 +23,8 @@ use Rattle.client_objects.specs.declared.target.Target.{Target}
 use Rattle.client_objects.specs.Objects.{with_object}
 use Rattle.client_objects.specs.Stored.{received}
 use Rattle.run_defs.specs.Stack.{pages_of}
-use Rattle.run_defs.specs.Plan.{Plan, ends, calls, Request, NamesAsk, NamesTold, told_names, unless_refused, refused_as, plan_call, plan_named, plan_names, plan_access, plan_open, plan_found, access, asking, asking_names, holding, opened, reply_of}
-use Rattle.run_defs.specs.Fits.{Gone, Went}
+use Rattle.run_defs.specs.Plan.{Plan, ends, calls, Request, NamesAsk, told_names, unless_refused, refused_as, plan_call, plan_named, plan_names, plan_access, plan_open, plan_found, access, asking, asking_names, holding, opened, reply_of}
+use Rattle.run_defs.specs.Fits.{Gone}
 use Rattle.run_defs.proofs.Parts.{did_nothing, did_then, went_of, went_lacks, gone_as, gone_none, gone_named, gone_unnamed, gone_refused}
 use Rattle.shared_files.specs.declared.answered.Answered.{Answered}
 use Rattle.spr_volume.specs.Passes.{VolumeSeen, Knows, as_known}

@@ -1,5 +1,5 @@
 -- What a call on the names is for the one who called, and for the others of its pass.
-use Rattle.std.proofs.Common.{◌≡◌, ◌≢◌, ℕ, zero, suc, ◌+◌, ◌≤◌, ◌<◌, ◌==◌, Bool, true, false, cond, List, [], ◌∷◌, ◌++◌, length, Option, Some, None, refl, sym, ap, subst, ◌∙◌, arith, append_assoc, length-append, inl, inr, ⊎_elim}
+use Rattle.std.proofs.Common.{◌≡◌, ◌≢◌, ℕ, ◌+◌, ◌≤◌, ◌<◌, ◌==◌, Bool, true, false, cond, List, [], ◌∷◌, ◌++◌, length, Option, Some, None, refl, sym, ap, subst, ◌∙◌, arith, append_assoc, length-append, inl, inr, ⊎_elim}
 use Rattle.std.proofs.lemmas.List.{append-nil}
 use Rattle.std.proofs.lemmas.Bool.Decides.{nat_tests}
 use Rattle.std.specs.Prelude.{slice_get, unwrap_or, ◌⊎◌}
@@ -10,7 +10,7 @@ use Rattle.name_context.specs.declared.entry.NameCall.TheVariants as calls
 use Rattle.name_context.specs.declared.entry.NameEntry.{NameEntry}
 use Rattle.name_context.specs.declared.entry.NameErr.{NameErr}
 use Rattle.name_context.specs.declared.entry.NameErr.TheVariants as errs
-use Rattle.name_context.specs.Names.{Kept, context, object, Name, kept_at, kept_object}
+use Rattle.name_context.specs.Names.{Kept, context, object, Name, kept_at}
 use Rattle.name_context.specs.History.{NamesSeen, after, names_after}
 use Rattle.name_context.specs.Refusal.{refused_at, needed_for, first_of, walk, refusal}
 use Rattle.shared_names.specs.Shared.{is_own, names_with}
@@ -21,7 +21,7 @@ use Rattle.stack_accept.specs.Mount.{Mount}
 use Rattle.stack_names.specs.Views.{names_at_start}
 use Rattle.tower_log.specs.declared.logged.Logged.{Logged}
 use Rattle.tower_log.specs.Log.{place_of}
-use Rattle.run_defs.specs.Log.{Histories, Item, NameItem, items, by_caller, name_items, name_items_from, names_by, log_at}
+use Rattle.run_defs.specs.Log.{Item, NameItem, items, by_caller, name_items, name_items_from, names_by, log_at}
 use Rattle.script_text.specs.declared.script.Reply.TheVariants as replies
 use Rattle.run_defs.specs.Plan.{NamesAsk, Made, with_names, AsksNames, asking_names, refused_as}
 use Rattle.run_defs.specs.Fits.{NamesGoOn, Did, SyncsInOrder, made_on, made_with_names}

@@ -3,7 +3,7 @@ use denote.Param.{param}
 use denote.Param.Send.{IsSend, IsSync, arg_send, arg_sync, param_send, param_sync, sendable, shr_slice_sync, shr_sync}
 use denote.RattleType.{RattleType}
 use denote.Struct.Field.{u64-field}
-use Rattle.std.proofs.Common.{rules, arith}
+use Rattle.std.proofs.Common.{rules}
 use Rattle.std.proofs.Crossing as heap
 use Rattle.std.proofs.option.Option.TheSendSync as option
 use Rattle.script_text.proofs.script.CallLine.TheSendSync as line

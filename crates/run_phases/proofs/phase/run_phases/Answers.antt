@@ -1,4 +1,4 @@
-use Rattle.std.proofs.Common.{rules, refl}
+use Rattle.std.proofs.Common.{refl}
 use Rattle.run_phases.proofs.PhaseLaws.{may-next, part-next, phases-none}
 use Rattle.run_phases.proofs.phase.run_phases.Goals as goal
 

@@ -1,6 +1,6 @@
-use Rattle.std.proofs.Common.{◌≡◌, List, Some, sym, ap, subst, ◌∙◌}
+use Rattle.std.proofs.Common.{List, sym, subst, ◌∙◌}
 use Rattle.std.specs.List.{AllByRecursion}
-use Rattle.client_objects.specs.Objects.{IsOnStack, OpenObject, object_of, without}
+use Rattle.client_objects.specs.Objects.{IsOnStack, OpenObject, object_of}
 use Rattle.client_objects.proofs.OpenLaws.{on_stack-without}
 use Rattle.run_defs.specs.Plan.{plan_drop}
 use Rattle.spr_client.proofs.LineLaws.{done-none, named-none}

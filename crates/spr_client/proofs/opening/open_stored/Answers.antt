@@ -1,4 +1,4 @@
-use Rattle.std.proofs.Common.{◌≡◌, List, Option, Some, sym, ap, subst, ◌∙◌}
+use Rattle.std.proofs.Common.{List, Option, Some, sym, ap, subst, ◌∙◌}
 use Rattle.script_text.specs.declared.script.Reply.TheVariants as replies
 use Rattle.name_context.specs.Names.{kept_object}
 use Rattle.client_objects.specs.declared.target.Target.{Target}
