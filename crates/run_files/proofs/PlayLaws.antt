@@ -1,6 +1,8 @@
 -- From phases and closing syncs to the logs that fit a script.
 use Rattle.std.proofs.Common.{◌≡◌, ◌≢◌, inr, ℕ, suc, ◌+◌, ◌<◌, ◌≤◌, List, [], ◌∷◌, length, map, refl, sym, ap, subst, ◌∙◌, arith}
-use Rattle.std.specs.Prelude.{slice_get, Some}
+use Rattle.std.specs.Prelude.{slice_get, Option, Some, None, unwrap_or, position}
+use Rattle.std.specs.Str.{bytes_eq}
+use Rattle.std.proofs.lemmas.List.Quantifiers.{position-Some}
 use Rattle.std.specs.List.{AllByRecursion}
 use Rattle.std.proofs.lemmas.List.{length-map}
 use Rattle.script_text.specs.declared.script.CallLine.{CallLine}
@@ -9,7 +11,8 @@ use Rattle.script_text.specs.declared.script.Script.{Script}
 use Rattle.script_text.specs.declared.script.Said.{Said}
 use Rattle.script_text.specs.declared.script.Reply.{Reply}
 use Rattle.script_text.specs.declared.script.Reply.TheVariants.{Done}
-use Rattle.stack_accept.specs.Mount.{Mount}
+use Rattle.stack_accept.specs.Mount.{Mount, number_in}
+use Rattle.stack_accept.specs.declared.entries.Kind.TheVariants as kinds
 use Rattle.stack_accept.specs.Sound.{IsMount}
 use Rattle.client_objects.specs.declared.state.ClientState.{ClientState}
 use Rattle.name_context.specs.History.{NamesSeen, IsStory}
@@ -26,8 +29,8 @@ use Rattle.run_phases.specs.declared.worker.Worker.{Worker}
 use Rattle.run_phases.specs.Workers.{IsStarted, AreStarted, AreReady, IsSilent}
 use Rattle.run_phases.specs.Phases.{ClientDone, ClientsDone, PhasesDone}
 use Rattle.run_phases.specs.Closing.{EndsQuietly, FilesClosed}
-use Rattle.run_files.specs.Play.{IsUnwritten, IsPlayed, ArePlayed, unnamed}
-use Rattle.run_files.proofs.TowerLaws.{known-tower, made-at, made-up-to}
+use Rattle.run_files.specs.Play.{AreMadeUpTo, IsUnwritten, IsPlayed, ArePlayed, unnamed}
+use Rattle.run_files.proofs.TowerLaws.{entries-up-to, known-tower, made-at, made-up-to}
 use Rattle.run_files.proofs.ClosedLaws.{closed-now}
 
 pub length-started : (mount : Mount) (caller : ℕ) (lines : List ClientLine) (workers : List Worker) → AreStarted mount caller lines workers → length workers ≡ length lines
@@ -157,7 +160,7 @@ number-below names name some = below_or (position (λ own. bytes_eq own name) na
   where
     below_or : (o : Option ℕ) → position (λ own. bytes_eq own name) names ≡ o → number_in names name < length names
     below_or None is = subst (λ (x : Option ℕ). unwrap_or x 0 < length names) (sym is) some
-    below_or (Some n) is = subst (λ (x : Option ℕ). unwrap_or x 0 < length names) (sym is) (position-lt names name n is)
+    below_or (Some n) is = subst (λ (x : Option ℕ). unwrap_or x 0 < length names) (sym is) (position-Some (λ own. bytes_eq own name) names n [] is).0
 
 -- a stack has a machine
 pub some-machine : (stack : Mount) → IsMount stack → 0 < length stack.machines

@@ -48,7 +48,7 @@ use Rattle.file_stores.proofs.HeldLaws.{same-then}
 use Rattle.file_stores.proofs.StackLaws.{length-stores, store-of-one}
 use Rattle.run_files.specs.Ended.{status_of}
 use Rattle.run_files.specs.Held.{IsTaken, Opens, OpensEach, IsShut, AreShut}
-use Rattle.run_files.specs.Play.{IsClosed, IsUnwritten, ArePlayed}
+use Rattle.run_files.specs.Play.{IsClosed, IsUnwritten, ArePlayed, unnamed}
 use Rattle.run_files.specs.Run.{IsOfFile, AreOfFiles, IsTold, Leaves, LeavesEach, CameBack, AreBack, start_of, Played, SaysRun, reported, ran_out}
 use Rattle.run_files.specs.Told.{Tells}
 use Rattle.run_files.proofs.HeldLaws.{opens-length, opens-at, shut-length, shut-at, shut-keys, length-logs, number-keys}

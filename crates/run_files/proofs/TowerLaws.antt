@@ -18,7 +18,7 @@ use Rattle.tower_log.specs.Log.{trail_of}
 use Rattle.name_context.specs.declared.entry.NameEntry.{NameEntry}
 use Rattle.name_context.specs.History.{NamesSeen, IsStory}
 use Rattle.run_defs.specs.Log.{Histories, items, items_from, log_of}
-use Rattle.run_defs.specs.Fits.{IsUpTo}
+use Rattle.run_defs.specs.Fits.{IsEntryUpTo, IsUpTo}
 use Rattle.stack_engine.specs.Engine.{log_in}
 use Rattle.stack_engine.specs.Tower.{TowerSeen}
 use Rattle.shared_tower.specs.Later.{IsLater}
