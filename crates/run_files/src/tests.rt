@@ -32,7 +32,7 @@ const BOTH: &str =
 /// What is written of `ONE` over fresh images.
 const TOLD: &[u8] = b"client a\n3 life 0\n4 done\n5 6100\n6 done\n\
 file f\n0 a 0 c 0 open life 0\n2 a 1 c 0 write 0 0 61 done\n3 a 2 c 0 read 0 0 2 6100\n5 a 3 c synced 4 done\n6 mount 0 c synced 6 done\n\
-file g\n0 mount 0 c synced 0 done\n";
+file g\n0 mount 0 c synced 0 done\nnames\n0 a 0 resolve c/f done\n";
 
 /// What is written of `ONE` over fresh images, if the page messages are traced: the page that comes is filled with zeros, and the
 /// sync sends it down.
@@ -42,12 +42,13 @@ file f\n0 a 0 c 0 open life 0\n\
 2 a 1 c 0 write 0 0 61 done\n3 a 2 c 0 read 0 0 2 6100\n\
 4 c sync 0 000200030000000000000000000000000000004002010000 000200030000000000000000000000000000004002020000\n\
 5 a 3 c synced 4 done\n6 mount 0 c synced 6 done\n\
-file g\n0 mount 0 c synced 0 done\n";
+file g\n0 mount 0 c synced 0 done\nnames\n0 a 0 resolve c/f done\n";
 
 /// What is written of `BOTH` if two writes of the store of `g` fail.
 const FAILED: &[u8] = b"client a\n3 life 0\n4 life 0\n5 done\n6 done\n7 done\n8 store d 1\n\
 file f\n0 a 0 c 0 open life 0\n2 a 1 c 0 write 0 0 61 done\n4 a 2 c synced 3 done\n5 mount 0 c synced 5 done\n\
-file g\n0 a 0 c 0 open life 0\n2 a 1 c 0 write 0 0 62 done\nclosing g store d 2\n";
+file g\n0 a 0 c 0 open life 0\n2 a 1 c 0 write 0 0 62 done\n\
+names\n0 a 0 resolve c/f done\n1 a 1 resolve c/g done\nclosing g store d 2\n";
 
 /// The header of an image of two pages of 64 bytes, of generation 1.
 const HEADER: &[u8] =
@@ -81,45 +82,45 @@ fn mounted(alloc: Global) -> Result<Mounted, Fail>
     }
 }
 
-/// Whether it is a call that the program has.
-fn is_call(line: &CallLine) -> bool
-    ensures { IsTrue result → IsCallOf line.now.call }
+/// Whether it is a call on a file that the program has, or an `open`.
+fn is_call(_mount: &Mounted, line: &CallLine) -> bool
+    ensures { IsTrue result → IsCallOf _mount.now line.now.call }
 {
     match &line.call {
-        Call::Open { path, .. } => !path.as_slice().is_empty(),
+        Call::Open { path, .. } => matches!(path.as_slice().len(), 1..=8),
         Call::Read { .. } | Call::Write { .. } | Call::Clear { .. } | Call::Sync { .. } => true,
         _ => false,
     }
 }
 
-fn are_calls(lines: &[CallLine]) -> bool
-    ensures { IsTrue result → AreCalls lines.now }
+fn are_calls(mount: &Mounted, lines: &[CallLine]) -> bool
+    ensures { IsTrue result → AreCalls mount.now lines.now }
 {
     for line in lines {
-        if !is_call(line) {
+        if !is_call(mount, line) {
             return false;
         }
     }
     true
 }
 
-fn are_phases(phases: &[Items<CallLine>]) -> bool
-    ensures { IsTrue result → AllByRecursion AreCalls phases.now }
+fn are_phases(mount: &Mounted, phases: &[Items<CallLine>]) -> bool
+    ensures { IsTrue result → AllByRecursion (AreCalls mount.now) phases.now }
 {
     for phase in phases {
-        if !are_calls(phase.as_slice()) {
+        if !are_calls(mount, phase.as_slice()) {
             return false;
         }
     }
     true
 }
 
-fn script_of(alloc: Global, text: &str) -> Result<Script, Fail>
+fn script_of(alloc: Global, mount: &Mounted, text: &str) -> Result<Script, Fail>
     ensures script { IfOk result IsScript }
-    ensures calls { IfOk result (λ script. AllByRecursion AreCalls script.phases) }
+    ensures calls { IfOk result (λ script. AllByRecursion (AreCalls mount.now) script.phases) }
 {
     match parse_script(alloc, text.as_bytes()) {
-        Ok(script) if are_phases(script.phases.as_slice()) => Ok(script),
+        Ok(script) if are_phases(mount, script.phases.as_slice()) => Ok(script),
         Ok(_) => Err(Fail::from("the calls")),
         Err(_) => Err(Fail::from("the script")),
     }
@@ -303,7 +304,7 @@ fn runs_as<R: Threads + Wait + Sync>(
 ) -> Result<bool, Fail>
     requires { IsBuilt mount.now }
 {
-    let script = script_of(alloc, row.script)?;
+    let script = script_of(alloc, mount, row.script)?;
     let mut bay = bay_of(alloc, row)?;
     let mut sink = MemSink::new(alloc, 4_096, &[])?;
     let ops = Ops::new([0, 1, 2, 3, 4], [0, 1, 2, 3, 4, 5], [2, 3, 4, 5, 6, 0, 1]);
