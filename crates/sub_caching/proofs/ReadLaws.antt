@@ -1,5 +1,5 @@
 -- What was sent is read again.
-use Rattle.std.proofs.Common.{◌≡◌, ℕ, ◌<◌, ◌^◌, List, [], ◌∷◌, ◌++◌, length, Result, Some, Ok, refl, sym, ap, ◌∙◌, append_assoc, lit<}
+use Rattle.std.proofs.Common.{◌≡◌, ℕ, List, [], ◌∷◌, ◌++◌, length, Result, Some, Ok, refl, ap, ◌∙◌, append_assoc, lit<}
 use Rattle.std.specs.Prelude.{slice_get}
 use Rattle.std.proofs.lemmas.List.{drop_at}
 use Rattle.marshal_buf.specs.declared.door.Door.{Door}
@@ -19,9 +19,8 @@ use Rattle.sub_core.specs.Calls.{Marshals}
 use Rattle.sub_core.specs.Laws.{ComesNext, StandsAtEnd}
 use Rattle.sub_core.proofs.Objects.{id_is_read, fields_are_read}
 use Rattle.sub_core.proofs.Taken.{rest_behind}
-use Rattle.sub_caching.specs.declared.TheConstants.{CACHING}
 use Rattle.sub_caching.specs.Names.{manager_name, name_bytes, part_behind, or_other_name, string_at, name_at}
-use Rattle.sub_caching.specs.Calls.{fields_if_named, named_fields}
+use Rattle.sub_caching.specs.Calls.{fields_if_named}
 use Rattle.sub_caching.specs.Laws.{SentIsRead}
 use Rattle.sub_caching.proofs.CallLaws.{length-bare, stands_before}
 
@@ -42,7 +41,7 @@ comes_next object d e old new start sent stands =
       more = stands.more;
       bytes = rw (stands.next, stands.at, input) (drop_at old.bytes (bytes ++ stands.more) (length old.bytes) refl);
       door_there = rw (stands.next, doors) (get_behind old.doors sent.door stands.more_doors);
-      few = rw stands.next stands.few
+      few = rw stands.next stands.few;
     }
 
 -- the name that comes next
@@ -61,11 +60,12 @@ sent_is_read object from_old from_new old new start is sent stands =
     let next = comes_next object from_old from_new old sent.between start sent.bare before in
     let id : number_at 2 start ≡ Ok object.sub = id_is_read start object.sub Bare sent.bare.door object.tag (rw is.sub (lit< tt)) next in
     let fields : fields_behind Bare start ≡ Ok (record { door = sent.bare.door; tag = object.tag }) =
-        fields_are_read start object.sub Bare sent.bare.door object.tag (rw is.tag (lit< tt)) is.tag next in
+    fields_are_read start object.sub Bare sent.bare.door object.tag (rw is.tag (lit< tt)) is.tag next in
     let rest : rest_of (past 6 1 start) ≡ name_bytes ++ stands.more =
-        rest_behind (object_bytes object.sub Bare start.next object.tag) (name_bytes ++ stands.more) 6 1 start (length-bare object.sub start.next object.tag) next.bytes in
+    rest_behind (object_bytes object.sub Bare start.next object.tag) (name_bytes ++ stands.more) 6 1 start (length-bare object.sub start.next object.tag) next.bytes in
     let name : name_at (past 6 1 start) ≡ Ok manager_name = name_is_read (past 6 1 start) stands.more rest in
-    let tagged : fields_behind Bare start ≡ Ok (record { door = sent.bare.door; tag = 0 }) = fields ∙ ap (λ (n : ℕ). Ok (record { door = sent.bare.door; tag = n })) is.tag in
-    (id ∙ ap Ok is.sub,
-    ap (λ (f : Result Fields ℕ). fields_if_named f (name_at (past 6 1 start))) tagged
-    ∙ ap (λ (n : Result (List ℕ) ℕ). fields_if_named (Ok (record { door = sent.bare.door; tag = 0 })) n) name)
+    let tagged : fields_behind Bare start ≡ Ok (record { door = sent.bare.door; tag = 0 }) = fields ∙ ap (λ (n : ℕ). Ok (record { door = sent.bare.door; tag = n })) is.tag in (
+      id ∙ ap Ok is.sub,
+      ap (λ (f : Result Fields ℕ). fields_if_named f (name_at (past 6 1 start))) tagged
+          ∙ ap (λ (n : Result (List ℕ) ℕ). fields_if_named (Ok (record { door = sent.bare.door; tag = 0 })) n) name,
+    )

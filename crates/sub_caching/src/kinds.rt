@@ -153,11 +153,7 @@ fn make_room(object: &Object, domain: &Domain, buf: &mut Buf) -> Result<(), Obje
 }
 
 /// Sends an object for which there is room.
-fn send(
-    object: Object,
-    domain: &mut Domain,
-    buf: &mut Buf,
-) -> Result<(), (ObjectErr, Object)>
+fn send(object: Object, domain: &mut Domain, buf: &mut Buf) -> Result<(), (ObjectErr, Object)>
     requires bytes { length buf.old.bytes + CACHING_LEN < 2 ^ 32 }
     requires doors { length buf.old.doors + 1 < 2 ^ 32 }
     requires room { HasRoom buf.old }

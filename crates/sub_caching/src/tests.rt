@@ -86,7 +86,11 @@ fn route_from(
 }
 
 /// Receives an object, if one of the subcontract comes next.
-fn received(alloc: Global, domain: &mut Domain, from: &mut Reader<'_>) -> Result<Object, ObjectErr> {
+fn received(
+    alloc: Global,
+    domain: &mut Domain,
+    from: &mut Reader<'_>,
+) -> Result<Object, ObjectErr> {
     if from.copy().get_u16() != Ok(CACHING) {
         return Err(ObjectErr::BadObject { at: 0 });
     }
