@@ -33,7 +33,7 @@ parts-of path is =
     record { some = omega (arith, some); few = omega (arith, few) }
 
 some-if : (b c : Bool) (n : ℕ) (rest : Option ℕ) → (b || c) ≡ true → (c ≡ true → IsSome rest) → IsSome (cond b (Some n) rest)
-some-if true c n rest e f = tt
+some-if true c n rest e f = refl
 some-if false c n rest e f = f e
 
 -- what an item passes is found at a place
@@ -45,8 +45,8 @@ found : {A : Type 0} (p : A → Bool) (xs : List A) → list_any p xs ≡ true �
 found p xs e = subst (λ (o : Option ℕ). IsSome o) (sym (position_from-zero p xs)) (found-from p 0 xs e)
 
 made-some : (sub : Sub) → is_made sub ≡ true → IsSome (sub_id sub)
-made-some subs.Singleton e = tt
-made-some subs.Cluster e = tt
+made-some subs.Singleton e = refl
+made-some subs.Cluster e = refl
 made-some subs.Caching e = absurd cc
 made-some subs.Reconnectable e = absurd cc
 
