@@ -10,3 +10,6 @@ mod round;
 pub use asked::{Call, Held, Side, ask_disk, hold, look_disk};
 pub use ground::MirrorGround;
 pub use node::{Kept, Mark, Node, Shut, Unopened};
+
+#[cfg(test)]
+mod tests;
