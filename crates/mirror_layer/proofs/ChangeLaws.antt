@@ -1,0 +1,258 @@
+-- From the machine's calls to what a ground tells of each disk.
+use Rattle.std.proofs.Common.{◌≡◌, ◌≢◌, ◌⊎◌, inl, inr, ℕ, zero, suc, ◌<◌, ◌≤◌, Bool, true, false, List, [], ◌∷◌, ◌++◌, length, get_or, Option, Some, None, refl, sym, ap, ◌∙◌, subst, arith}
+use Rattle.std.specs.Prelude.{slice_get}
+use Rattle.std.specs.Option.{option_map}
+use Rattle.disk_format.specs.Image.{Imaged}
+use Rattle.disk_layer.specs.Seen.{DiskSeen, KeptAt}
+use Rattle.disk_layer.specs.Seen as seen
+use Rattle.mirror_rules.specs.Tree.{Image, Cell, Store, Seat, In, Out, Tree, seats}
+use Rattle.mirror_rules.specs.Claims.{Pairs, pairs_none, pairs_more, Every, every_none, every_more, Has, has_here, has_later, IsLive, HasPages, pages_live, pages_left, pages_out, Keeps, keeps_out, keeps_left, keeps_live, keeps_lost, Rose, rose_live, rose_left, rose_out}
+use Rattle.mirror_rules.specs.Claims as claims
+use Rattle.mirror_rules.specs.Fates.{disk_of}
+use Rattle.mirror_rules.specs.Steps.{Act, Write, Says, Done, Fault, is_done, Takes, write_taken, raise_taken, flush_taken, refused, Asked, asked_out, asked_stale, asked_took, asked_lost, asked_none, Looked, looked_out, looked_stale, looked_same, looked_refused, Named, named_here, named_later, Reads, read_taken, read_refused, read_below, read_left, read_right, read_left_only, read_right_only, Round, Raised, raised_whole, raised_again, raised_none, Pays, pays_none, pays_raise, Flushes, flush_whole, flush_lost, flush_none, flush_unraised}
+use Rattle.mirror_rules.proofs.RoundLaws.{pairs-map, reads-each}
+use Rattle.mirror_rules.proofs.PageLaws.{pairs-then, pairs-both}
+use Rattle.mirror_layer.specs.View.{Beside}
+use Rattle.mirror_layer.specs.Ground.{as_imaged, kept_told, disk_seen, disks_seen, live_pages, pages_told, Differ, Counted, counted}
+use Rattle.mirror_layer.proofs.SeenLaws.{Step, Apart, Somewhere, some_here, some_later, Calm, Rises, Blamed}
+
+-- a disk in a call: T, whether all is told; F, the ground's pages at its start
+pub data Change (T : Bool) (F : List (List ℕ)) : Seat → Seat → Type 0 where
+  change_out : {b : Bool} {s : Store} → Change T F (Out b s) (Out b s)
+  change_left : {c : Cell} → Change T F (In false c) (In false c)
+  change_live : {c d : Cell} → d.disk ≡ c.disk → c.faults ≤ d.faults → (T ≡ true → (claims.pages_in d.kept ≡ claims.pages_in c.kept) ⊎ (claims.pages_in d.kept ≡ Some F)) → Change T F (In true c) (In true d)
+  change_lost : {c d : Cell} → d.disk ≡ c.disk → c.faults < d.faults → Change T F (In true c) (In false d)
+
+pub look-change : {T : Bool} {F : List (List ℕ)} {s : Says} {xs ys : List Seat} → Pairs (Looked s) xs ys → Pairs (Change T F) xs ys
+look-change h = pairs-map (λ x y. one) h where
+  one : {T : Bool} {F : List (List ℕ)} {s : Says} {x y : Seat} → Looked s x y → Change T F x y
+  one looked_out = change_out
+  one looked_stale = change_left
+  one (looked_same e) = change_live refl (omega arith) (λ t. inl refl)
+  one (looked_refused l) = change_live refl (omega arith) (λ t. inl refl)
+
+pub put-change : {T : Bool} {F : List (List ℕ)} {p : ℕ} {x : List ℕ} {s : Says} {xs ys : List Seat} → Pairs (Asked (Write p x) s) xs ys → Pairs (Change T F) xs ys
+put-change h = pairs-map (λ x y. one) h where
+  one : {T : Bool} {F : List (List ℕ)} {p : ℕ} {v : List ℕ} {s : Says} {x y : Seat} → Asked (Write p v) s x y → Change T F x y
+  one asked_out = change_out
+  one asked_stale = change_left
+  one (asked_took write_taken) = change_live refl (omega arith) (λ t. inl refl)
+  one (asked_lost (refused l)) = change_lost refl l
+  one (asked_none (refused l)) = change_live refl (omega arith) (λ t. inl refl)
+
+pub flush-change : (T : Bool) {F : List (List ℕ)} {f r : Bool} {xs ys : List Seat} → Pairs (Keeps f r) xs ys → (T ≡ true → Every (HasPages F) xs) → Pairs (Change T F) xs ys
+flush-change false h p = pairs-map (λ x y. one) h where
+  one : {F : List (List ℕ)} {f r : Bool} {x y : Seat} → Keeps f r x y → Change false F x y
+  one keeps_out = change_out
+  one keeps_left = change_left
+  one (keeps_live {c = c} {d = d} h a b) = change_live {c = c} {d = d} h.disk h.later (λ e. cc)
+  one (keeps_lost h a) = change_lost h.disk a
+flush-change true h p = pairs-both (λ x y. one) h (p refl) where
+  one : {F : List (List ℕ)} {f r : Bool} {x y : Seat} → Keeps f r x y → HasPages F x → Change true F x y
+  one keeps_out q = change_out
+  one keeps_left q = change_left
+  one (keeps_live {c = c} {d = d} h a b) (pages_live e) = change_live {c = c} {d = d} h.disk h.later (λ t. elim h.kept [ inl q ↦ inl q | inr q ↦ inr (q ∙ ap (λ (v : List (List ℕ)). Some v) e) ])
+  one (keeps_lost h a) q = change_lost h.disk a
+
+-- what a disk kept, as it is told
+imaged-pages : (k : Option Image) → option_map {T = Imaged} (λ v. v.pages) (option_map {T = Image} as_imaged k) ≡ claims.pages_in k
+imaged-pages None = refl
+imaged-pages (Some i) = refl
+
+kept-step : (T t : Bool) (F : List (List ℕ)) (k j : Option Image) → (T ≡ true → (claims.pages_in j ≡ claims.pages_in k) ⊎ (claims.pages_in j ≡ Some F)) → (seen.pages_in (kept_told t j) ≡ seen.pages_in (kept_told t k)) ⊎ KeptAt (kept_told t j) (pages_told T F)
+kept-step T false F k j f = inl refl
+kept-step false true F k j f = inr tt
+kept-step true true F k j f = elim (f refl) [
+  | inl q ↦ inl (ap (λ (v : Option (List (List ℕ))). Some v) (imaged-pages j ∙ q ∙ sym (imaged-pages k)))
+  | inr q ↦ inr (imaged-pages j ∙ q)
+]
+
+change-step : (T : Bool) (F : List (List ℕ)) (b : Beside) {x y : Seat} → Counted b x → Change T F x y → Step (pages_told T F) (disk_seen b x) (disk_seen b y)
+change-step T F b (counted e l) change_out = record { disk = refl; opened = refl; later = omega arith; since = l; live = λ q. cc; lost = λ q. cc; kept = λ q. cc }
+change-step T F b (counted e l) change_left = record { disk = refl; opened = refl; later = omega arith; since = l; live = λ q. cc; lost = λ q. cc; kept = λ q. cc }
+change-step T F b (counted e l) (change_live {c = c} {d = d} i k f) = record { disk = i; opened = refl; later = k; since = l; live = λ q. refl; lost = λ q. inl refl; kept = λ q. kept-step T b.told F c.kept d.kept f }
+change-step T F b (counted e l) (change_lost i k) = record { disk = i; opened = refl; later = omega arith; since = l; live = λ q. cc; lost = λ q. inr k; kept = λ q. cc }
+
+pub steps : {T : Bool} {F : List (List ℕ)} {bs : List Beside} {xs ys : List Seat} → Pairs Counted bs xs → Pairs (Change T F) xs ys → Pairs (Step (pages_told T F)) (disks_seen bs xs) (disks_seen bs ys)
+steps pairs_none pairs_none = pairs_none
+steps {T} {F} (pairs_more {x = b} c h) (pairs_more k i) = pairs_more (change-step T F b c k) (steps h i)
+
+pub counts-after : {T : Bool} {F : List (List ℕ)} {bs : List Beside} {xs ys : List Seat} → Pairs Counted bs xs → Pairs (Change T F) xs ys → Pairs Counted bs ys
+counts-after h i = pairs-then (λ b x y. one) h i where
+  one : {T : Bool} {F : List (List ℕ)} {b : Beside} {x y : Seat} → Counted b x → Change T F x y → Counted b y
+  one k change_out = k
+  one k change_left = k
+  one (counted e l) (change_live i m f) = counted (i ∙ e) (omega arith)
+  one (counted e l) (change_lost i m) = counted (i ∙ e) (omega arith)
+
+-- numbers that differ
+seen-disk : (b : Beside) (x : Seat) → (disk_seen b x).disk ≡ disk_of x
+seen-disk b (In l c) = refl
+seen-disk b (Out l s) = refl
+
+number : {b : Beside} {x : Seat} → Counted b x → (disk_seen b x).disk ≡ b.disk
+number {b} {x} (counted e l) = seen-disk b x ∙ e
+
+apart-one : {m : ℕ} {bs : List Beside} {xs : List Seat} → Pairs Counted bs xs → Every (λ (b : Beside). b.disk ≢ m) bs → Every (λ (d : DiskSeen). d.disk ≢ m) (disks_seen bs xs)
+apart-one pairs_none every_none = every_none
+apart-one (pairs_more c h) (every_more p q) = every_more (λ e. p (sym (number c) ∙ e)) (apart-one h q)
+
+pub apart : {bs : List Beside} {xs : List Seat} → Pairs Counted bs xs → Differ bs → Apart (disks_seen bs xs)
+apart pairs_none d = tt
+apart {bs = bs} (pairs_more {x = b} {xs = cs} {ys = ys} c h) d =
+    (subst (λ m. Every (λ (e : DiskSeen). e.disk ≢ m) (disks_seen cs ys)) (sym (number c)) (apart-one h d.0), apart h d.1)
+
+pub live-some : {bs : List Beside} {xs : List Seat} → Pairs Counted bs xs → Has IsLive xs → 0 < length (seen.live_in (disks_seen bs xs))
+live-some pairs_none h = elim h [ ]
+live-some (pairs_more c i) (has_here claims.live_in) = omega arith
+live-some (pairs_more {y = In true e} c i) (has_later h) = omega arith
+live-some (pairs_more {y = In false e} c i) (has_later h) = live-some i h
+live-some (pairs_more {y = Out b s} c i) (has_later h) = live-some i h
+
+-- the ground's pages
+pub pages-are : {F : List (List ℕ)} {xs : List Seat} → Every (HasPages F) xs → Has IsLive xs → live_pages xs ≡ F
+pages-are every_none h = elim h [ ]
+pages-are (every_more (pages_live e) i) h = e
+pages-are (every_more pages_left i) (has_here h) = elim h [ ]
+pages-are (every_more pages_left i) (has_later h) = pages-are i h
+pages-are (every_more pages_out i) (has_here h) = elim h [ ]
+pages-are (every_more pages_out i) (has_later h) = pages-are i h
+
+pub got-back : (F : List (List ℕ)) (p : ℕ) (x : List ℕ) → p < length F → get_or F p [] ≡ x → slice_get F p ≡ Some x
+got-back [] p x l e = absurd (omega arith)
+got-back (y ∷ ys) zero x l e = ap (λ (v : List ℕ). Some v) e
+got-back (y ∷ ys) (suc p) x l e = got-back ys p x (omega arith) e
+
+-- a disk that had no fault, where it is live then
+pub data Unfaulted : Seat → Seat → Type 0 where
+  unfaulted_live : {c d : Cell} → d.faults ≡ c.faults → d.disk ≡ c.disk → Unfaulted (In true c) (In true d)
+  unfaulted_left : {x : Seat} {d : Cell} → Unfaulted x (In false d)
+  unfaulted_out : {x : Seat} {b : Bool} {s : Store} → Unfaulted x (Out b s)
+
+unfaulted-then : {x y z : Seat} → Unfaulted x y → Unfaulted y z → Unfaulted x z
+unfaulted-then (unfaulted_live a b) (unfaulted_live c d) = unfaulted_live (c ∙ a) (d ∙ b)
+unfaulted-then h unfaulted_left = unfaulted_left
+unfaulted-then h unfaulted_out = unfaulted_out
+
+unfaulted-row : (xs : List Seat) → Pairs Unfaulted xs xs
+unfaulted-row [] = pairs_none
+unfaulted-row (In true c ∷ xs) = pairs_more (unfaulted_live refl refl) (unfaulted-row xs)
+unfaulted-row (In false c ∷ xs) = pairs_more unfaulted_left (unfaulted-row xs)
+unfaulted-row (Out b s ∷ xs) = pairs_more unfaulted_out (unfaulted-row xs)
+
+takes-calm : {a : Act} {c d : Cell} → Takes a c d → (d.faults ≡ c.faults) × (d.disk ≡ c.disk)
+takes-calm write_taken = (refl, refl)
+takes-calm raise_taken = (refl, refl)
+takes-calm flush_taken = (refl, refl)
+
+pub round-calm : {a : Act} {w : Bool} {xs ys : List Seat} → Pairs (Asked a (Done w)) xs ys → Pairs Unfaulted xs ys
+round-calm h = pairs-map (λ x y. one) h where
+  one : {a : Act} {w : Bool} {x y : Seat} → Asked a (Done w) x y → Unfaulted x y
+  one asked_out = unfaulted_out
+  one asked_stale = unfaulted_left
+  one (asked_took t) = let r = takes-calm t in unfaulted_live r.0 r.1
+  one (asked_lost r) = unfaulted_left
+
+calm-then : {xs ys zs : List Seat} → Pairs Unfaulted xs ys → Pairs Unfaulted ys zs → Pairs Unfaulted xs zs
+calm-then h i = pairs-then (λ x y z. unfaulted-then) h i
+
+raised-calm : {s : Says} {xs ys : List Seat} → Raised xs s ys → is_done s ≡ true → Pairs Unfaulted xs ys
+raised-calm (raised_whole h) e = round-calm h.each
+raised-calm (raised_again h i) e = calm-then (round-calm h.each) (raised-calm i e)
+raised-calm (raised_none h) e = cc
+
+pays-calm : {o : Bool} {s : Says} {xs ys : List Seat} → Pays o xs s ys → is_done s ≡ true → Pairs Unfaulted xs ys
+pays-calm (pays_none {xs = xs}) e = unfaulted-row xs
+pays-calm (pays_raise h) e = raised-calm h e
+
+pub flush-calm : {o q : Bool} {s : Says} {xs ys : List Seat} → Flushes o xs s q ys → is_done s ≡ true → Pairs Unfaulted xs ys
+flush-calm (flush_whole h i) e = calm-then (pays-calm h refl) (round-calm i.each)
+flush-calm (flush_lost h i k) e = calm-then (calm-then (pays-calm h refl) (round-calm i.each)) (flush-calm k e)
+flush-calm (flush_none h i) e = cc
+flush-calm (flush_unraised h) e = cc
+
+pub calm-where : {bs : List Beside} {xs ys : List Seat} → Pairs Counted bs xs → Pairs Unfaulted xs ys → Has IsLive ys → Somewhere Calm (disks_seen bs xs) (disks_seen bs ys)
+calm-where (pairs_more c h) (pairs_more (unfaulted_live a b) i) (has_here k) = some_here (refl, a, b)
+calm-where (pairs_more c h) (pairs_more unfaulted_left i) (has_here k) = elim k [ ]
+calm-where (pairs_more c h) (pairs_more unfaulted_out i) (has_here k) = elim k [ ]
+calm-where (pairs_more c h) (pairs_more u i) (has_later k) = some_later (calm-where h i k)
+calm-where pairs_none pairs_none h = elim h [ ]
+
+-- the disk that answered a read
+pub data Answers : List Seat → List Seat → Type 0 where
+  answers_here : {c : Cell} {xs ys : List Seat} → Answers (In true c ∷ xs) (In true c ∷ ys)
+  answers_later : {x y : Seat} {xs ys : List Seat} → Answers xs ys → Answers (x ∷ xs) (y ∷ ys)
+
+answers-left : {xs ys : List Seat} (zs us : List Seat) → Answers xs ys → Answers (xs ++ zs) (ys ++ us)
+answers-left zs us answers_here = answers_here
+answers-left zs us (answers_later h) = answers_later (answers-left zs us h)
+
+answers-right : {R : Seat → Seat → Type 0} {xs ys zs us : List Seat} → Pairs R xs ys → Answers zs us → Answers (xs ++ zs) (ys ++ us)
+answers-right pairs_none h = h
+answers-right (pairs_more a b) h = answers_later (answers-right b h)
+
+same-pairs : (xs : List Seat) → Pairs (λ (x y : Seat). Unit {0}) xs xs
+same-pairs [] = pairs_none
+same-pairs (x ∷ xs) = pairs_more tt (same-pairs xs)
+
+pub reads-answer : {p : ℕ} {x : List ℕ} {t u : Tree} {s : Says} → Reads p x t s u → is_done s ≡ true → Answers (seats t) (seats u)
+reads-answer (read_taken e) d = answers_here
+reads-answer (read_refused l m) d = cc
+reads-answer (read_below h) d = reads-answer h d
+reads-answer (read_left {r = r} h) d = answers-left (seats r) (seats r) (reads-answer h refl)
+reads-answer (read_right h i) d = answers-right (reads-each h) (reads-answer i d)
+reads-answer (read_left_only e h) d = cc
+reads-answer (read_right_only {l = l} e h) d = answers-right (same-pairs (seats l)) (reads-answer h d)
+
+pub answers-where : {bs : List Beside} {xs ys : List Seat} → Pairs Counted bs xs → Answers xs ys → Somewhere Calm (disks_seen bs xs) (disks_seen bs ys)
+answers-where (pairs_more c h) answers_here = some_here (refl, refl, refl)
+answers-where (pairs_more c h) (answers_later k) = some_later (answers-where h k)
+answers-where pairs_none h = elim h [ ]
+
+-- a refused call
+pub rises : {bs : List Beside} {xs ys : List Seat} → Pairs Counted bs xs → Pairs Rose xs ys → Pairs Rises (disks_seen bs xs) (disks_seen bs ys)
+rises pairs_none pairs_none = pairs_none
+rises (pairs_more c h) (pairs_more (rose_live {b = true} l) i) = pairs_more (λ e. l) (rises h i)
+rises (pairs_more c h) (pairs_more (rose_live {b = false} l) i) = pairs_more (λ e. l) (rises h i)
+rises (pairs_more c h) (pairs_more rose_left i) = pairs_more (λ e. cc) (rises h i)
+rises (pairs_more c h) (pairs_more rose_out i) = pairs_more (λ e. cc) (rises h i)
+
+pub blamed : {m k : ℕ} {bs : List Beside} {xs ys : List Seat} → Pairs Counted bs xs → Named m k xs ys → Somewhere (Blamed m k) (disks_seen bs xs) (disks_seen bs ys)
+blamed (pairs_more c h) (named_here e l n) = some_here (refl, e, l, n)
+blamed (pairs_more c h) (named_later k) = some_later (blamed h k)
+blamed pairs_none h = elim h [ ]
+
+-- a live disk stays
+pub look-live : {s : Says} {xs ys : List Seat} → Pairs (Looked s) xs ys → Has IsLive xs → Has IsLive ys
+look-live pairs_none h = elim h [ ]
+look-live (pairs_more looked_out i) (has_here h) = elim h [ ]
+look-live (pairs_more looked_stale i) (has_here h) = elim h [ ]
+look-live (pairs_more (looked_same e) i) (has_here h) = has_here claims.live_in
+look-live (pairs_more (looked_refused l) i) (has_here h) = has_here claims.live_in
+look-live (pairs_more h i) (has_later k) = has_later (look-live i k)
+
+none-live : {a : Act} {d n : ℕ} {xs ys : List Seat} → Pairs (Asked a (Fault d n)) xs ys → Has IsLive xs → Has IsLive ys
+none-live pairs_none h = elim h [ ]
+none-live (pairs_more asked_out i) (has_here h) = elim h [ ]
+none-live (pairs_more asked_stale i) (has_here h) = elim h [ ]
+none-live (pairs_more (asked_none r) i) (has_here h) = has_here claims.live_in
+none-live (pairs_more h i) (has_later k) = has_later (none-live i k)
+
+pub round-live : {a : Act} {s : Says} {xs ys : List Seat} → Round a xs s ys → Has IsLive xs → Has IsLive ys
+round-live {s = Done w} h k = h.answer.0
+round-live {s = Fault d n} h k = none-live h.each k
+
+raised-stay : {s : Says} {xs ys : List Seat} → Raised xs s ys → Has IsLive xs → Has IsLive ys
+raised-stay (raised_whole h) k = round-live h k
+raised-stay (raised_again h i) k = raised-stay i (round-live h k)
+raised-stay (raised_none h) k = round-live h k
+
+pays-stay : {o : Bool} {s : Says} {xs ys : List Seat} → Pays o xs s ys → Has IsLive xs → Has IsLive ys
+pays-stay pays_none k = k
+pays-stay (pays_raise h) k = raised-stay h k
+
+pub flush-stay : {o q : Bool} {s : Says} {xs ys : List Seat} → Flushes o xs s q ys → Has IsLive xs → Has IsLive ys
+flush-stay (flush_whole h i) k = round-live i (pays-stay h k)
+flush-stay (flush_lost h i r) k = flush-stay r (round-live i (pays-stay h k))
+flush-stay (flush_none h i) k = round-live i (pays-stay h k)
+flush-stay (flush_unraised h) k = pays-stay h k

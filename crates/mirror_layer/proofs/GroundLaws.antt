@@ -1,0 +1,280 @@
+-- What a ground tells after each of its calls.
+use Rattle.std.proofs.Common.{◌≡◌, ℕ, ◌<◌, ◌≤◌, Bool, true, false, List, [], ◌∷◌, ◌++◌, set, length, Option, Some, None, IfSome, refl, sym, ap, ◌∙◌, subst, length-set}
+use Rattle.std.specs.Prelude.{slice_get, OnOk, OnErr, IfErr, Result, Ok, Err}
+use Rattle.disk_format.specs.declared.shape.ImageShape.{ImageShape}
+use Rattle.disk_layer.specs.declared.fault.StoreFault.{StoreFault}
+use Rattle.disk_layer.specs.Seen.{DiskSeen, Keeps, IsCalm, IsFault, ReadsPage, AllKept, KeptAt, with_page}
+use Rattle.mirror_rules.specs.Tree.{Image, Cell, Seat, In, Out, Tree, seats, top, limit}
+use Rattle.mirror_rules.specs.Claims.{Pairs, pairs_none, pairs_more, Every, every_none, every_more, Has, IsLive, HasPages, KeepsPages, keeping_live, keeping_left, keeping_out, Even}
+use Rattle.mirror_rules.specs.Claims as claims
+use Rattle.mirror_rules.specs.Steps.{Write, Says, Done, Fault, Round, Reads, Look, Flushes, Puts, put_whole, put_lost, put_refused}
+use Rattle.mirror_rules.specs.Guards.{Within, Guarding, live_at, Lower}
+use Rattle.mirror_rules.specs.History.{Since_then}
+use Rattle.mirror_rules.proofs.GuardLaws.{guards-flush, guards-found}
+use Rattle.mirror_rules.proofs.RoundLaws.{reads-look}
+use Rattle.mirror_rules.proofs.PageLaws.{flush_keeps, keeps-holds, flush-done, flush-rose, flush-names, write-rose, write-names, read-rose, write-holds, refused-holds, read-holds, read-gives, write_round}
+use Rattle.mirror_rules.proofs.GenLaws.{puts-even, look-even, flush-even, flush-bounded, write-bounded, look-bounded}
+use Rattle.mirror_layer.specs.declared.node.Node.{Node, Opened, Shut, Coherency', Mirror'}
+use Rattle.mirror_layer.specs.View.{Beside, beside_in}
+use Rattle.mirror_layer.specs.Calls.{all_told, answered}
+use Rattle.mirror_layer.specs.Calls as calls
+use Rattle.mirror_layer.specs.Ground.{Ground, IsGround, Counted, outcome, kept_told, disk_seen, disks_seen, live_pages, pages_told, seen_of}
+use Rattle.mirror_layer.proofs.ReadSteps.{Taken, Refused}
+use Rattle.mirror_layer.proofs.SeenLaws.{keeps-by, calm-by, fault-by, kept-each}
+use Rattle.mirror_layer.proofs.ChangeLaws.{Change, look-change, put-change, flush-change, steps, counts-after, apart, live-some, pages-are, got-back, round-calm, flush-calm, calm-where, reads-answer, answers-where, rises, blamed, look-live, round-live, flush-stay}
+
+every-left : {A : Type 0} {P : A → Type 0} (xs ys : List A) → Every P (xs ++ ys) → Every P xs
+every-left [] ys h = every_none
+every-left (x ∷ xs) ys (every_more h i) = every_more h (every-left xs ys i)
+
+every-right : {A : Type 0} {P : A → Type 0} (xs ys : List A) → Every P (xs ++ ys) → Every P ys
+every-right [] ys h = h
+every-right (x ∷ xs) ys (every_more h i) = every-right xs ys i
+
+-- a ground by its parts
+abbrev pub ground : ImageShape → Bool → List Seat → List Beside → Ground
+ground shape owed row beside = record { shape = shape; owed = owed; row = row; beside = beside }
+
+-- pages that are told
+told-same : (T : Bool) (P Q : List (List ℕ)) → (T ≡ true → Q ≡ P) → pages_told T Q ≡ pages_told T P
+told-same true P Q f = ap (λ (v : List (List ℕ)). Some v) (f refl)
+told-same false P Q f = refl
+
+told-set : (T : Bool) (P Q : List (List ℕ)) (p : ℕ) (x : List ℕ) → (T ≡ true → Q ≡ set P p x) → pages_told T Q ≡ with_page p x (pages_told T P)
+told-set true P Q p x f = ap (λ (v : List (List ℕ)). Some v) (f refl)
+told-set false P Q p x f = refl
+
+told-many : (T : Bool) (P : List (List ℕ)) (n : ℕ) → (T ≡ true → length P ≡ n) → IfSome (pages_told T P) (λ ps. length ps ≡ n)
+told-many true P n f = f refl
+told-many false P n f = tt
+
+told-page : (T : Bool) (P : List (List ℕ)) (p : ℕ) (x : List ℕ) → (T ≡ true → slice_get P p ≡ Some x) → ReadsPage (pages_told T P) p x
+told-page true P p x f = f refl
+told-page false P p x f = tt
+
+-- the pages of a ground whose disks are told
+pub pages-of : (g : Ground) → IsGround g → all_told g.beside ≡ true → Every (HasPages (live_pages g.row)) g.row
+pages-of g i t = let r = i.pages t in subst (λ F. Every (HasPages F) g.row) (sym (pages-are r.1 i.live)) r.1
+
+pub pages-length : (g : Ground) → IsGround g → all_told g.beside ≡ true → length (live_pages g.row) ≡ g.shape.pages
+pages-length g i t = let r = i.pages t in ap length (pages-are r.1 i.live) ∙ r.2
+
+-- a ground after a call
+pub record After (g h : Ground) : Type 0 where
+  pub whole : IsGround h
+  pub keeps : Keeps (seen_of g) (seen_of h)
+
+abbrev Changes : Ground → List Seat → Type 0
+Changes g u = Pairs (Change (all_told g.beside) (live_pages g.row)) g.row u
+
+next-ground : (g : Ground) (q : Bool) (u : List Seat) → IsGround g → Changes g u → Has IsLive u → (all_told g.beside ≡ true → (F : List (List ℕ)) × Every (HasPages F) u × (length F ≡ g.shape.pages)) → Even q u → top u ≤ limit
+    → After g (ground g.shape q u g.beside)
+next-ground g q u i c l p e w =
+    let r : IsGround (ground g.shape q u g.beside) = record { live = l; shapes = i.shapes; differ = i.differ; counts = counts-after i.counts c; pages = p; even = e; within = w } in
+    record {
+      whole = r;
+      keeps = keeps-by (seen_of g) (seen_of (ground g.shape q u g.beside)) refl refl
+          (told-many (all_told g.beside) (live_pages u) g.shape.pages (λ t. pages-length (ground g.shape q u g.beside) r t)) (steps i.counts c) (apart i.counts i.differ) (live-some r.counts l);
+    }
+
+-- a read
+read-changes : (g : Ground) (u : List Seat) {p : ℕ} {x : List ℕ} {s : Says} → Look p x g.row s u → Changes g u
+read-changes g u k = look-change k.each
+
+pub after-read : (g : Ground) (u : List Seat) {p : ℕ} {x : List ℕ} {s : Says} → IsGround g → Look p x g.row s u → After g (ground g.shape g.owed u g.beside)
+after-read g u i k = next-ground g g.owed u i (read-changes g u k) (look-live k.each i.live) (λ t. let r = i.pages t in (r.0, read-holds k.each r.1, r.2)) (look-even {o = g.owed} k.each i.even) (subst (λ v. v ≤ limit) (sym (look-bounded k.each)) i.within)
+
+pub read-same : (g : Ground) (u : List Seat) {p : ℕ} {x : List ℕ} {s : Says} → IsGround g → Look p x g.row s u → (seen_of (ground g.shape g.owed u g.beside)).pages ≡ (seen_of g).pages
+read-same g u i k = told-same (all_told g.beside) (live_pages g.row) (live_pages u) (λ t. pages-are (read-holds k.each (pages-of g i t)) (look-live k.each i.live))
+
+pub read-page : (g : Ground) (u : List Seat) (p : ℕ) (x out : List ℕ) {w : Bool} → IsGround g → Look p x g.row (Done w) u → p < g.shape.pages → (all_told g.beside ≡ true → x ≡ out) → ReadsPage (seen_of g).pages p out
+read-page g u p x out i k l told =
+    told-page (all_told g.beside) (live_pages g.row) p out
+    (λ t. got-back (live_pages g.row) p out (subst (λ n. p < n) (sym (pages-length g i t)) l) (read-gives k.found.0 (pages-of g i t) ∙ told t))
+
+pub read-calm : (shape : ImageShape) (o : Bool) (bs : List Beside) (t u : Tree) {p : ℕ} {x : List ℕ} → IsGround (ground shape o (seats t) bs) → Reads p x t (Done true) u → IsCalm (seen_of (ground shape o (seats t) bs)) (seen_of (ground shape o (seats u) bs))
+read-calm shape o bs t u i r =
+    let g : Ground = ground shape o (seats t) bs in
+    calm-by (seen_of g) (seen_of (ground shape o (seats u) bs)) (steps i.counts (read-changes g (seats u) (reads-look r))) (apart i.counts i.differ) (answers-where i.counts (reads-answer r refl))
+
+pub read-fault : (g : Ground) (u : List Seat) (f : StoreFault) {p : ℕ} {x : List ℕ} → IsGround g → Look p x g.row (Fault f.disk f.count) u → IsFault (seen_of g) (seen_of (ground g.shape g.owed u g.beside)) f
+read-fault g u f i k = fault-by (seen_of g) (seen_of (ground g.shape g.owed u g.beside)) f (steps i.counts (read-changes g u k)) (apart i.counts i.differ) (rises i.counts (read-rose k.each)) (blamed i.counts k.found)
+
+-- a write
+puts-each : {p : ℕ} {x : List ℕ} {o q : Bool} {s : Says} {xs ys : List Seat} → Puts p x o xs s q ys → Round (Write p x) xs s ys
+puts-each (put_whole h) = h
+puts-each (put_lost h) = h
+puts-each (put_refused h) = h
+
+put-changes : (g : Ground) (q : Bool) (u : List Seat) {p : ℕ} {x : List ℕ} {s : Says} → Puts p x g.owed g.row s q u → Changes g u
+put-changes g q u h = put-change (puts-each h).each
+
+put-pages : (s : Says) (g : Ground) (q : Bool) (u : List Seat) {p : ℕ} {x : List ℕ} → IsGround g → Puts p x g.owed g.row s q u → all_told g.beside ≡ true → (F : List (List ℕ)) × Every (HasPages F) u × (length F ≡ g.shape.pages)
+put-pages (Done w) g q u {p} {x} i h t = let r = i.pages t in (set r.0 p x, write-holds (write_round (puts-each h)) r.1, length-set r.0 p x ∙ r.2)
+put-pages (Fault d n) g q u i h t = let r = i.pages t in (r.0, refused-holds (write_round (puts-each h)) r.1, r.2)
+
+pub after-write : (g : Ground) (q : Bool) (u : List Seat) {p : ℕ} {x : List ℕ} {s : Says} → IsGround g → Puts p x g.owed g.row s q u → After g (ground g.shape q u g.beside)
+after-write g q u {s = s} i h = next-ground g q u i (put-changes g q u h) (round-live (puts-each h) i.live) (put-pages s g q u i h) (puts-even h i.even) (subst (λ v. v ≤ limit) (sym (write-bounded h)) i.within)
+
+pub write-pages : (g : Ground) (q : Bool) (u : List Seat) (p : ℕ) (x : List ℕ) {w : Bool} → IsGround g → Puts p x g.owed g.row (Done w) q u → (seen_of (ground g.shape q u g.beside)).pages ≡ with_page p x (seen_of g).pages
+write-pages g q u p x i h = told-set (all_told g.beside) (live_pages g.row) (live_pages u) p x (λ t. pages-are (write-holds (write_round (puts-each h)) (pages-of g i t)) (round-live (puts-each h) i.live))
+
+pub write-same : (g : Ground) (q : Bool) (u : List Seat) {p : ℕ} {x : List ℕ} {d n : ℕ} → IsGround g → Puts p x g.owed g.row (Fault d n) q u → (seen_of (ground g.shape q u g.beside)).pages ≡ (seen_of g).pages
+write-same g q u i h = told-same (all_told g.beside) (live_pages g.row) (live_pages u) (λ t. pages-are (refused-holds (write_round (puts-each h)) (pages-of g i t)) (round-live (puts-each h) i.live))
+
+pub write-calm : (g : Ground) (q : Bool) (u : List Seat) {p : ℕ} {x : List ℕ} {w : Bool} → IsGround g → Puts p x g.owed g.row (Done w) q u → IsCalm (seen_of g) (seen_of (ground g.shape q u g.beside))
+write-calm g q u i h = calm-by (seen_of g) (seen_of (ground g.shape q u g.beside)) (steps i.counts (put-changes g q u h)) (apart i.counts i.differ) (calm-where i.counts (round-calm (puts-each h).each) (puts-each h).answer.0)
+
+pub write-fault : (g : Ground) (q : Bool) (u : List Seat) (f : StoreFault) {p : ℕ} {x : List ℕ} → IsGround g → Puts p x g.owed g.row (Fault f.disk f.count) q u → IsFault (seen_of g) (seen_of (ground g.shape q u g.beside)) f
+write-fault g q u f i h = fault-by (seen_of g) (seen_of (ground g.shape q u g.beside)) f (steps i.counts (put-changes g q u h)) (apart i.counts i.differ) (rises i.counts (write-rose h)) (blamed i.counts (write-names h))
+
+-- a flush
+flush-changes : (g : Ground) (q : Bool) (u : List Seat) {s : Says} → IsGround g → Flushes g.owed g.row s q u → Changes g u
+flush-changes g q u i h = flush-change (all_told g.beside) (flush_keeps h) (pages-of g i)
+
+pub after-flush : (g : Ground) (q : Bool) (u : List Seat) {s : Says} → IsGround g → Flushes g.owed g.row s q u → After g (ground g.shape q u g.beside)
+after-flush g q u i h = next-ground g q u i (flush-changes g q u i h) (flush-stay h i.live) (λ t. let r = i.pages t in (r.0, keeps-holds (flush_keeps h) r.1, r.2)) (flush-even h i.within i.even) (flush-bounded h i.within)
+
+pub flush-same : (g : Ground) (q : Bool) (u : List Seat) {s : Says} → IsGround g → Flushes g.owed g.row s q u → (seen_of (ground g.shape q u g.beside)).pages ≡ (seen_of g).pages
+flush-same g q u i h = told-same (all_told g.beside) (live_pages g.row) (live_pages u) (λ t. pages-are (keeps-holds (flush_keeps h) (pages-of g i t)) (flush-stay h i.live))
+
+pub flush-quiet : (g : Ground) (q : Bool) (u : List Seat) {w : Bool} → IsGround g → Flushes g.owed g.row (Done w) q u → IsCalm (seen_of g) (seen_of (ground g.shape q u g.beside))
+flush-quiet g q u i h = calm-by (seen_of g) (seen_of (ground g.shape q u g.beside)) (steps i.counts (flush-changes g q u i h)) (apart i.counts i.differ) (calm-where i.counts (flush-calm h refl) (flush-stay h i.live))
+
+pub flush-fault : (g : Ground) (q : Bool) (u : List Seat) (f : StoreFault) → IsGround g → Flushes g.owed g.row (Fault f.disk f.count) q u → IsFault (seen_of g) (seen_of (ground g.shape q u g.beside)) f
+flush-fault g q u f i h = fault-by (seen_of g) (seen_of (ground g.shape q u g.beside)) f (steps i.counts (flush-changes g q u i h)) (apart i.counts i.differ) (rises i.counts (flush-rose h)) (blamed i.counts (flush-names h refl))
+
+-- after a flush that was taken each live disk keeps the pages
+keep-one : (T t : Bool) (F : List (List ℕ)) (k : Option Image) → (T ≡ true → claims.pages_in k ≡ Some F) → KeptAt (kept_told t k) (pages_told T F)
+keep-one T false F k f = tt
+keep-one false true F k f = tt
+keep-one true true F None f = f refl
+keep-one true true F (Some i) f = f refl
+
+first : {F : List (List ℕ)} {y : Seat} {ys : List Seat} → Every (KeepsPages F) (y ∷ ys) → KeepsPages F y
+first (every_more k i) = k
+
+rest : {F : List (List ℕ)} {y : Seat} {ys : List Seat} → Every (KeepsPages F) (y ∷ ys) → Every (KeepsPages F) ys
+rest (every_more k i) = i
+
+kept-of : {F : List (List ℕ)} {c : Cell} → KeepsPages F (In true c) → claims.pages_in c.kept ≡ Some F
+kept-of (keeping_live k) = k
+
+keeps-one : (T : Bool) (F : List (List ℕ)) (b : Beside) (y : Seat) → (T ≡ true → KeepsPages F y) → (disk_seen b y).live ≡ true → KeptAt (disk_seen b y).kept (pages_told T F)
+keeps-one T F b (In true c) f e = keep-one T b.told F c.kept (λ t. kept-of (f t))
+keeps-one T F b (In false c) f e = cc
+keeps-one T F b (Out l s) f e = cc
+
+keeping : (T : Bool) (F : List (List ℕ)) {bs : List Beside} {ys : List Seat} → Pairs Counted bs ys → (T ≡ true → Every (KeepsPages F) ys) → Every (λ (d : DiskSeen). d.live ≡ true → KeptAt d.kept (pages_told T F)) (disks_seen bs ys)
+keeping T F pairs_none f = every_none
+keeping T F (pairs_more {x = b} {y = y} c h) f = every_more (keeps-one T F b y (λ t. first (f t))) (keeping T F h (λ t. rest (f t)))
+
+pub flush-kept : (g : Ground) (q : Bool) (u : List Seat) {w : Bool} → IsGround g → Flushes g.owed g.row (Done w) q u → AllKept (seen_of (ground g.shape q u g.beside)) (seen_of (ground g.shape q u g.beside)).pages
+flush-kept g q u i h =
+    let a = (after-flush g q u i h).whole in
+    let same : all_told g.beside ≡ true → live_pages u ≡ live_pages g.row = λ t. pages-are (keeps-holds (flush_keeps h) (pages-of g i t)) (flush-stay h i.live) in
+    kept-each (pages_told (all_told g.beside) (live_pages u)) (disks_seen g.beside u) (apart a.counts a.differ)
+    (keeping (all_told g.beside) (live_pages u) a.counts (λ t. subst (λ F. Every (KeepsPages F) u) (sym (same t)) (flush-done h (pages-of g i t))))
+
+-- each disk has the ground's pages
+pub has-pages : {D H : Type 0} (shape : ImageShape) (page size : ℕ) (n : Node D H) → Every (λ (b : Beside). b.shape ≡ shape) (beside_in n) → page < shape.pages → size ≡ shape.page_size → calls.HasPages page size n
+has-pages shape page size (Opened m d) (every_more e h) l q = (subst (λ (v : ImageShape). page < v.pages) (sym e) l, q ∙ ap (λ (v : ImageShape). v.page_size) (sym e))
+has-pages shape page size (Shut s) h l q = tt
+has-pages shape page size (Coherency' p t) h l q = has-pages shape page size t h l q
+has-pages shape page size (Mirror' p a r b) h l q = (has-pages shape page size a (every-left (beside_in a) (beside_in b) h) l q, has-pages shape page size b (every-right (beside_in a) (beside_in b) h) l q)
+
+-- the same of a ground that is told in other words
+pub moved : {g h : Ground} {shape : ImageShape} {q : Bool} {u : List Seat} {bs cs : List Beside} (P : Ground → Ground → Type 0) → g ≡ h → cs ≡ bs → P g (ground shape q u bs) → P h (ground shape q u cs)
+moved {g} {h} {shape} {q} {u} {bs} {cs} P e b p = subst (λ v. P v (ground shape q u cs)) e (subst (λ v. P g (ground shape q u v)) (sym b) p)
+
+pub moved-one : {shape : ImageShape} {q : Bool} {u : List Seat} {bs cs : List Beside} → cs ≡ bs → IsGround (ground shape q u bs) → IsGround (ground shape q u cs)
+moved-one {shape} {q} {u} b p = subst (λ v. IsGround (ground shape q u v)) (sym b) p
+
+-- what a write's round said
+pub done-put : {p : ℕ} {x : List ℕ} {o q : Bool} {xs ys : List Seat} → ((s : Says) × (outcome s ≡ Done true) × Puts p x o xs s q ys) → (w : Bool) × Puts p x o xs (Done w) q ys
+done-put {p} {x} {o} {q} {xs} {ys} h = by h.0 h.1 h.2
+  where
+    by : (s : Says) → outcome s ≡ Done true → Puts p x o xs s q ys → (w : Bool) × Puts p x o xs (Done w) q ys
+    by (Done w) e k = (w, k)
+    by (Fault d n) e k = cc
+
+pub fault-put : {p : ℕ} {x : List ℕ} {o q : Bool} {d n : ℕ} {xs ys : List Seat} → ((s : Says) × (outcome s ≡ Fault d n) × Puts p x o xs s q ys) → Puts p x o xs (Fault d n) q ys
+fault-put {p} {x} {o} {q} {d} {n} {xs} {ys} h = by h.0 h.1 h.2
+  where
+    by : (s : Says) → outcome s ≡ Fault d n → Puts p x o xs s q ys → Puts p x o xs (Fault d n) q ys
+    by (Done w) e k = cc
+    by (Fault f m) e k = subst (λ v. Puts p x o xs v q ys) e k
+
+-- which pages the disks guard
+told-is : (T : Bool) (P G : List (List ℕ)) → pages_told T P ≡ Some G → (T ≡ true) × (P ≡ G)
+told-is true P G e = (refl, cc)
+told-is false P G e = cc
+
+ground-pages : (g : Ground) (G : List (List ℕ)) → IsGround g → (seen_of g).pages ≡ Some G → Every (HasPages G) g.row
+ground-pages g G i e = let t = told-is (all_told g.beside) (live_pages g.row) G e in subst (λ v. Every (HasPages v) g.row) t.1 (pages-of g i t.0)
+
+pub guards-flushed : (g : Ground) (q : Bool) (u : List Seat) {s : Says} → IsGround g → Flushes g.owed g.row s q u → (F : List (List ℕ)) (ws : List (ℕ × List ℕ)) (L : ℕ → Bool) (G : List (List ℕ)) → (seen_of g).pages ≡ Some G → Within (Since_then F ws) G
+    → Guarding (Since_then F ws) L g.row → Guarding (Since_then F ws) L u
+guards-flushed g q u i h F ws L G e w k = guards-flush h i.within (ground-pages g G i e) w k
+
+pub guards-begin : (g : Ground) (q : Bool) (u : List Seat) {w : Bool} → IsGround g → Flushes g.owed g.row (Done w) q u → (G : List (List ℕ)) → (seen_of g).pages ≡ Some G → top u < limit → Every (Lower (top u)) u → Guarding (Since_then G []) (live_at u) u
+guards-begin g q u i h G e m lo = guards-found h i.within i.even (ground-pages g G i e) m lo
+
+-- the same, whatever the call answers
+abbrev pub Answer : Type 0
+Answer = Result (Unit {0}) StoreFault
+
+pub read-looks : (r : Answer) (page : ℕ) (out : List ℕ) (t u : Tree) (bs : List Beside) → OnOk r (Taken page out t bs u) → IfErr r (Refused page t u) → (x : List ℕ) × Look page x (seats t) (answered r) (seats u)
+read-looks (Ok v) page out t u bs h k = (h.0, reads-look h.1)
+read-looks (Err e) page out t u bs h k = ([], reads-look (k []))
+
+pub read-bytes : (r : Answer) (shape : ImageShape) (o : Bool) (bs : List Beside) (t u : Tree) (page : ℕ) (out : List ℕ) → IsGround (ground shape o (seats t) bs) → page < shape.pages → OnOk r (Taken page out t bs u)
+    → OnOk r (ReadsPage (seen_of (ground shape o (seats t) bs)).pages page out)
+read-bytes (Ok v) shape o bs t u page out i l h = read-page (ground shape o (seats t) bs) (seats u) page h.0 out i (reads-look h.1) l h.2
+read-bytes (Err e) shape o bs t u page out i l h = tt
+
+pub read-calms : (r : Answer) (shape : ImageShape) (o : Bool) (bs : List Beside) (t u : Tree) (page : ℕ) (out : List ℕ) → IsGround (ground shape o (seats t) bs) → OnOk r (Taken page out t bs u)
+    → OnOk r (IsCalm (seen_of (ground shape o (seats t) bs)) (seen_of (ground shape o (seats u) bs)))
+read-calms (Ok v) shape o bs t u page out i h = read-calm shape o bs t u i h.1
+read-calms (Err e) shape o bs t u page out i h = tt
+
+pub read-faults : (r : Answer) (shape : ImageShape) (o : Bool) (bs : List Beside) (t u : Tree) (page : ℕ) → IsGround (ground shape o (seats t) bs) → IfErr r (Refused page t u)
+    → IfErr r (IsFault (seen_of (ground shape o (seats t) bs)) (seen_of (ground shape o (seats u) bs)))
+read-faults (Ok v) shape o bs t u page i h = tt
+read-faults (Err e) shape o bs t u page i h = read-fault (ground shape o (seats t) bs) (seats u) e i (reads-look (h []))
+
+abbrev Put : Answer → Ground → Bool → List Seat → ℕ → List ℕ → Type 0
+Put r g q u p x = (s : Says) × (outcome s ≡ answered r) × Puts p x g.owed g.row s q u
+
+pub write-oks : (r : Answer) (g : Ground) (q : Bool) (u : List Seat) (p : ℕ) (x : List ℕ) → IsGround g → Put r g q u p x → OnOk r ((seen_of (ground g.shape q u g.beside)).pages ≡ with_page p x (seen_of g).pages)
+write-oks (Ok v) g q u p x i h = write-pages g q u p x i (done-put h).1
+write-oks (Err e) g q u p x i h = tt
+
+pub write-errs : (r : Answer) (g : Ground) (q : Bool) (u : List Seat) (p : ℕ) (x : List ℕ) → IsGround g → Put r g q u p x → OnErr r ((seen_of (ground g.shape q u g.beside)).pages ≡ (seen_of g).pages)
+write-errs (Ok v) g q u p x i h = tt
+write-errs (Err e) g q u p x i h = write-same g q u i (fault-put h)
+
+pub write-calms : (r : Answer) (g : Ground) (q : Bool) (u : List Seat) (p : ℕ) (x : List ℕ) → IsGround g → Put r g q u p x → OnOk r (IsCalm (seen_of g) (seen_of (ground g.shape q u g.beside)))
+write-calms (Ok v) g q u p x i h = write-calm g q u i (done-put h).1
+write-calms (Err e) g q u p x i h = tt
+
+pub write-faults : (r : Answer) (g : Ground) (q : Bool) (u : List Seat) (p : ℕ) (x : List ℕ) → IsGround g → Put r g q u p x → IfErr r (IsFault (seen_of g) (seen_of (ground g.shape q u g.beside)))
+write-faults (Ok v) g q u p x i h = tt
+write-faults (Err e) g q u p x i h = write-fault g q u e i (fault-put h)
+
+pub flush-oks : (r : Answer) (g : Ground) (q : Bool) (u : List Seat) → IsGround g → Flushes g.owed g.row (answered r) q u → OnOk r (AllKept (seen_of (ground g.shape q u g.beside)) (seen_of (ground g.shape q u g.beside)).pages)
+flush-oks (Ok v) g q u i h = flush-kept g q u i h
+flush-oks (Err e) g q u i h = tt
+
+pub flush-calms : (r : Answer) (g : Ground) (q : Bool) (u : List Seat) → IsGround g → Flushes g.owed g.row (answered r) q u → OnOk r (IsCalm (seen_of g) (seen_of (ground g.shape q u g.beside)))
+flush-calms (Ok v) g q u i h = flush-quiet g q u i h
+flush-calms (Err e) g q u i h = tt
+
+pub flush-faults : (r : Answer) (g : Ground) (q : Bool) (u : List Seat) → IsGround g → Flushes g.owed g.row (answered r) q u → IfErr r (IsFault (seen_of g) (seen_of (ground g.shape q u g.beside)))
+flush-faults (Ok v) g q u i h = tt
+flush-faults (Err e) g q u i h = flush-fault g q u e i h
+
+pub flush-begins : (r : Answer) (g : Ground) (q : Bool) (u : List Seat) → IsGround g → Flushes g.owed g.row (answered r) q u
+    → OnOk r ((G : List (List ℕ)) → (seen_of g).pages ≡ Some G → top u < limit → Every (Lower (top u)) u → Guarding (Since_then G []) (live_at u) u)
+flush-begins (Ok v) g q u i h = guards-begin g q u i h
+flush-begins (Err e) g q u i h = tt

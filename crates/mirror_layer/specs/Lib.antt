@@ -1,0 +1,4 @@
+pub mod Shut
+pub mod View
+pub mod Calls
+pub mod Ground

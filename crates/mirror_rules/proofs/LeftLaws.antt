@@ -1,0 +1,198 @@
+-- Which disks an opening leaves out: those alone that refused a call in it.
+use Rattle.std.proofs.Common.{◌≡◌, ℕ, zero, suc, ◌+◌, ◌<◌, ◌≤◌, Bool, true, false, List, ◌∷◌, length, refl, sym, ◌∙◌, subst, arith}
+use Rattle.mirror_rules.specs.Tree.{Image, Cell, Store, Seat, In, Out, generation}
+use Rattle.mirror_rules.specs.Claims.{Pairs, pairs_none, pairs_more, Nth, nth_here, nth_later}
+use Rattle.mirror_rules.specs.Steps.{Raise, Says, is_done, faulted, written, raise_taken, Asked, asked_out, asked_stale, asked_took, asked_lost, asked_none, Looked, looked_out, looked_stale, looked_same, looked_refused}
+use Rattle.mirror_rules.specs.Opening.{formatted, Meets, meets_good, meets_bad, meets_down, Wins, wins_here, wins_later, wins_out, Only, only_here, only_later, settled, Copies, copy_same, copy_differs, copy_left, copy_gone, copy_even, copy_settled, copy_unflushed, copy_unraised, Passed, passed_live, passed_out, Enters, enter_end, enter_next, enter_joins, enter_gone, Readies, ready_higher, ready_raised, Unformatted, unformatted, NotBad, good_in, good_down, Renews, renew_end, renew_next, renew_unraised, renew_refused, renew_joins, renew_gone, Good, Opens, open_good, open_again}
+use Rattle.mirror_rules.specs.Fates.{Excused, excused_live, excused_left}
+use Rattle.mirror_rules.proofs.PageLaws.{pairs-then}
+use Rattle.mirror_rules.proofs.RoundLaws.{pairs-map, refuses-fault}
+use Rattle.mirror_rules.proofs.GivesLaws.{way-meets}
+
+-- counts rise; v: a disk that is left out refused a call; w: none is bad
+data Fine (v w : Bool) (s : Store) : Seat → Type 0 where
+  fine_live : {c : Cell} → s.faults ≤ c.faults → Fine v w s (In true c)
+  fine_left : {c : Cell} → s.faults ≤ c.faults → (v ≡ true → s.faults < c.faults) → Fine v w s (In false c)
+  fine_bad : {t : Store} → s.faults ≤ t.faults → w ≡ false → Fine v w s (Out true t)
+  fine_down : {t : Store} → s.faults < t.faults → Fine v w s (Out false t)
+
+-- P of the first i, Q of the others
+pub data Fines (P Q : Store → Seat → Type 0) : ℕ → List Store → List Seat → Type 0 where
+  fines_rest : {ss : List Store} {xs : List Seat} → Pairs Q ss xs → Fines P Q zero ss xs
+  fines_more : {i : ℕ} {s : Store} {x : Seat} {ss : List Store} {xs : List Seat} → P s x → Fines P Q i ss xs → Fines P Q (suc i) (s ∷ ss) (x ∷ xs)
+
+-- P of the first i, R of the next, Q of the others
+pub data Around (P R Q : Store → Seat → Type 0) : ℕ → List Store → List Seat → Type 0 where
+  around_here : {s : Store} {x : Seat} {ss : List Store} {xs : List Seat} → R s x → Pairs Q ss xs → Around P R Q zero (s ∷ ss) (x ∷ xs)
+  around_later : {i : ℕ} {s : Store} {x : Seat} {ss : List Store} {xs : List Seat} → P s x → Around P R Q i ss xs → Around P R Q (suc i) (s ∷ ss) (x ∷ xs)
+
+look-fine : {v w : Bool} {a : Says} {s : Store} {x y : Seat} → Fine v w s x → Looked a x y → Fine v w s y
+look-fine (fine_live l) (looked_same e) = fine_live l
+look-fine (fine_live l) (looked_refused b) = fine_live (omega arith)
+look-fine (fine_left l f) looked_stale = fine_left l f
+look-fine (fine_bad l e) looked_out = fine_bad l e
+look-fine (fine_down l) looked_out = fine_down l
+
+raise-fine : {g : ℕ} {v w : Bool} {a : Says} {s : Store} {x y : Seat} → Fine v w s x → Asked (Raise g) a x y → Fine v w s y
+raise-fine (fine_live l) (asked_took raise_taken) = fine_live l
+raise-fine (fine_live l) (asked_lost h) = let r = (refuses-fault h).1 in fine_left (omega arith) (λ e. omega arith)
+raise-fine (fine_live l) (asked_none h) = let r = (refuses-fault h).1 in fine_live (omega arith)
+raise-fine (fine_left l f) asked_stale = fine_left l f
+raise-fine (fine_bad l e) asked_out = fine_bad l e
+raise-fine (fine_down l) asked_out = fine_down l
+
+pub fines-step : {T : Seat → Seat → Type 0} {P Q : Store → Seat → Type 0} {i : ℕ} {ss : List Store} {xs ys : List Seat} → ((s : Store) (x y : Seat) → P s x → T x y → P s y) → ((s : Store) (x y : Seat) → Q s x → T x y → Q s y) → Fines P Q i ss xs → Pairs T xs ys → Fines P Q i ss ys
+fines-step f g (fines_rest h) m = fines_rest (pairs-then g h m)
+fines-step f g (fines_more {s = s} {x = x} p h) (pairs_more {y = y} t m) = fines_more (f s x y p t) (fines-step f g h m)
+
+pub around-step : {T : Seat → Seat → Type 0} {P R Q : Store → Seat → Type 0} {i : ℕ} {ss : List Store} {xs ys : List Seat} → ((s : Store) (x y : Seat) → P s x → T x y → P s y) → ((s : Store) (x y : Seat) → R s x → T x y → R s y)
+    → ((s : Store) (x y : Seat) → Q s x → T x y → Q s y) → Around P R Q i ss xs → Pairs T xs ys → Around P R Q i ss ys
+around-step f k g (around_here {s = s} {x = x} r h) (pairs_more {y = y} t m) = around_here (k s x y r t) (pairs-then g h m)
+around-step f k g (around_later {s = s} {x = x} p h) (pairs_more {y = y} t m) = around_later (f s x y p t) (around-step f k g h m)
+
+pub around-only : {P R S Q : Store → Seat → Type 0} {x y : Seat} {i : ℕ} {ss : List Store} {xs ys : List Seat} → Only x y i xs ys → ((s : Store) → R s x → S s y) → Around P R Q i ss xs → Around P S Q i ss ys
+around-only only_here f (around_here {s = s} r h) = around_here (f s r) h
+around-only (only_later k) f (around_later p h) = around_later p (around-only k f h)
+
+-- begin with the next place, and end with it
+pub begin : {P R Q : Store → Seat → Type 0} {x : Seat} {i : ℕ} {ss : List Store} {xs : List Seat} → Nth i xs x → ((s : Store) → Q s x → R s x) → Fines P Q i ss xs → Around P R Q i ss xs
+begin nth_here f (fines_rest (pairs_more {x = s} q h)) = around_here (f s q) h
+begin (nth_later n) f (fines_more p h) = around_later p (begin n f h)
+
+pub only-begin : {P R Q : Store → Seat → Type 0} {x y : Seat} {i : ℕ} {ss : List Store} {xs ys : List Seat} → Only x y i xs ys → ((s : Store) → Q s x → R s y) → Fines P Q i ss xs → Around P R Q i ss ys
+only-begin only_here f (fines_rest (pairs_more {x = s} q h)) = around_here (f s q) h
+only-begin (only_later k) f (fines_more p h) = around_later p (only-begin k f h)
+
+pub end : {P R Q : Store → Seat → Type 0} {i : ℕ} {ss : List Store} {xs : List Seat} → ((s : Store) (x : Seat) → R s x → P s x) → Around P R Q i ss xs → Fines P Q (suc i) ss xs
+end f (around_here {s = s} {x = x} r h) = fines_more (f s x r) (fines_rest h)
+end f (around_later p h) = fines_more p (end f h)
+
+-- a disk joins, or refuses a call
+abbrev Mid : Store → Seat → Type 0
+Mid = Fine false true
+
+abbrev Met : Store → Seat → Type 0
+Met = Fine true true
+
+mid-left : {c : Cell} (d : Cell) → c.faults ≤ d.faults → (s : Store) → Mid s (In false c) → Mid s (In false d)
+mid-left d l s (fine_left k f) = fine_left (omega arith) (λ e. cc)
+
+mid-met : {c : Cell} (d : Cell) → c.faults < d.faults → (s : Store) → Mid s (In false c) → Met s (In false d)
+mid-met d l s (fine_left k f) = fine_left (omega arith) (λ e. omega arith)
+
+mid-live : {c : Cell} (d : Cell) → c.faults ≤ d.faults → (s : Store) → Mid s (In false c) → Met s (In true d)
+mid-live d l s (fine_left k f) = fine_live (omega arith)
+
+copies-met : {v w a b : Bool} {i n p : ℕ} {e : Bool} {s : Says} {ss : List Store} {xs ys : List Seat} → Copies i e n p xs s ys → is_done s ≡ true → Around (Fine v w) Mid (Fine a b) i ss xs → Around (Fine v w) Met (Fine a b) i ss ys
+copies-met (copy_same h k q r) e f = copies-met r e (around-step (λ s x y. look-fine) (λ s x y. look-fine) (λ s x y. look-fine) f h.each)
+copies-met (copy_differs {p = p} {x = x} {c = c} h ne k r) e f = copies-met r e (around-only k (mid-left (written p x c) (omega arith)) (around-step (λ s x y. look-fine) (λ s x y. look-fine) (λ s x y. look-fine) f h.each))
+copies-met (copy_left {m = m} {c = c} h l k) e f = around-only k (mid-met (faulted m c) l) (around-step (λ s x y. look-fine) (λ s x y. look-fine) (λ s x y. look-fine) f h.each)
+copies-met (copy_gone h) e f = cc
+copies-met (copy_even {c = c} k) e f = around-only k (mid-live c (omega arith)) f
+copies-met (copy_settled {c = c} {xs = xs} k) e f = around-only k (mid-live (settled (generation xs) c) (omega arith)) f
+copies-met (copy_unflushed {d = d} h k) e f = let r = (refuses-fault h).1 in around-only k (mid-met d (omega arith)) f
+copies-met (copy_unraised {d = d} h k) e f = let r = (refuses-fault h).1 in around-only k (mid-met d (omega arith)) f
+
+met-any : {w : Bool} (s : Store) (x : Seat) → Met s x → Fine true w s x
+met-any s (In true c) (fine_live l) = fine_live l
+met-any s (In false c) (fine_left l f) = fine_left l f
+met-any s (Out true t) (fine_bad l e) = cc
+met-any s (Out false t) (fine_down l) = fine_down l
+
+left-mid : {v w : Bool} {c : Cell} (s : Store) → Fine v w s (In false c) → Mid s (In false c)
+left-mid s (fine_left l f) = fine_left l (λ e. cc)
+
+passed-met : {x : Seat} → Passed x → (s : Store) → Fine false false s x → Fine true false s x
+passed-met passed_live s (fine_live l) = fine_live l
+passed-met passed_out s (fine_bad l e) = fine_bad l e
+passed-met passed_out s (fine_down l) = fine_down l
+
+-- the place after i
+abbrev Entering : ℕ → List Store → List Seat → Type 0
+Entering i ss xs = Fines (Fine true false) (Fine false false) i ss xs
+
+abbrev Renewing : ℕ → List Store → List Seat → Type 0
+Renewing i ss xs = Fines Met (Fine true false) i ss xs
+
+enters-met : {n i m : ℕ} {s : Says} {ss : List Store} {xs ys : List Seat} → Enters n i m xs s ys → is_done s ≡ true → Entering i ss xs → Entering (i + m) ss ys
+enters-met {i = i} {ss = ss} (enter_end {xs = xs}) e f = let q : i ≡ i + 0 = omega arith in subst (λ v. Entering v ss xs) q f
+enters-met {ss = ss} (enter_next {i = i} {m = m} {xs = xs} {ys = ys} h p r) e f =
+    let q : (i + 1) + m ≡ i + suc m = omega arith in let t : suc i ≡ i + 1 = omega arith in
+    subst (λ v. Entering v ss ys) q (enters-met r e (subst (λ v. Entering v ss xs) t (end {R = Fine true false} (λ s x k. k) (begin h (passed-met p) f))))
+enters-met {ss = ss} (enter_joins {i = i} {m = m} {ys = ys} {zs = zs} h q k r) e f =
+    let o : (i + 1) + m ≡ i + suc m = omega arith in let t : suc i ≡ i + 1 = omega arith in
+    subst (λ v. Entering v ss zs) o (enters-met r e (subst (λ v. Entering v ss ys) t (end met-any (copies-met k refl (begin h left-mid f)))))
+enters-met (enter_gone h q k) e f = cc
+
+-- a round before a format, and the format
+ready-met : {s : Says} {i : ℕ} {ss : List Store} {xs ys : List Seat} → Readies xs s ys → Renewing i ss xs → Renewing i ss ys
+ready-met (ready_higher l) f = f
+ready-met (ready_raised q r) f = fines-step (λ s x y. raise-fine) (λ s x y. raise-fine) f r.each
+
+not-bad-met : {x : Seat} → NotBad x → (s : Store) → Fine true false s x → Met s x
+not-bad-met good_in s (fine_live l) = fine_live l
+not-bad-met good_in s (fine_left l f) = fine_left l f
+not-bad-met good_down s (fine_down l) = fine_down l
+
+bad-met : {size n : ℕ} {b t : Store} → Unformatted size n b t → (s : Store) → Fine true false s (Out true b) → Met s (Out false t)
+bad-met (unformatted d e f) s (fine_bad l q) = fine_down (omega arith)
+
+bad-mid : {b : Store} (d : Cell) → b.faults ≤ d.faults → (s : Store) → Fine true false s (Out true b) → Mid s (In false d)
+bad-mid d m s (fine_bad l q) = fine_left (omega arith) (λ e. cc)
+
+renews-met : {size n i m : ℕ} {s : Says} {ss : List Store} {xs ys : List Seat} → Renews size n i m xs s ys → is_done s ≡ true → Renewing i ss xs → Renewing (i + m) ss ys
+renews-met {i = i} {ss = ss} (renew_end {xs = xs}) e f = let q : i ≡ i + 0 = omega arith in subst (λ v. Renewing v ss xs) q f
+renews-met {ss = ss} (renew_next {i = i} {m = m} {xs = xs} {ys = ys} h p r) e f =
+    let q : (i + 1) + m ≡ i + suc m = omega arith in let t : suc i ≡ i + 1 = omega arith in
+    subst (λ v. Renewing v ss ys) q (renews-met r e (subst (λ v. Renewing v ss xs) t (end {R = Met} (λ s x k. k) (begin h (not-bad-met p) f))))
+renews-met (renew_unraised h q) e f = cc
+renews-met {ss = ss} (renew_refused {i = i} {m = m} {zs = zs} {us = us} q u k r) e f =
+    let o : (i + 1) + m ≡ i + suc m = omega arith in let t : suc i ≡ i + 1 = omega arith in
+    subst (λ v. Renewing v ss us) o (renews-met r e (subst (λ v. Renewing v ss zs) t (end {R = Met} (λ s x k. k) (only-begin k (bad-met u) (ready-met q f)))))
+renews-met {size} {n} {ss = ss} (renew_joins {i = i} {m = m} {b = b} {us = us} {vs = vs} q k c r) e f =
+    let o : (i + 1) + m ≡ i + suc m = omega arith in let t : suc i ≡ i + 1 = omega arith in
+    subst (λ v. Renewing v ss vs) o (renews-met r e (subst (λ v. Renewing v ss us) t (end met-any (copies-met c refl (only-begin k (bad-mid (formatted size n b) (omega arith)) (ready-met q f))))))
+renews-met (renew_gone q k c) e f = cc
+
+-- at the start, and at the end
+started : {w : Image} {ss : List Store} {xs ys : List Seat} → Pairs Meets ss xs → Wins w xs ys → Pairs (Fine false false) ss ys
+started pairs_none h = elim h [ ]
+started (pairs_more (meets_good e) m) (wins_here q a) = pairs_more (fine_live (omega arith)) (all m) where
+  all : {ss : List Store} {xs : List Seat} → Pairs Meets ss xs → Pairs (Fine false false) ss xs
+  all pairs_none = pairs_none
+  all (pairs_more (meets_good e) m) = pairs_more (fine_left (omega arith) (λ q. cc)) (all m)
+  all (pairs_more (meets_bad e) m) = pairs_more (fine_bad (omega arith) refl) (all m)
+  all (pairs_more (meets_down a b f) m) = pairs_more (fine_down (omega arith)) (all m)
+started (pairs_more (meets_good e) m) (wins_later l h) = pairs_more (fine_left (omega arith) (λ q. cc)) (started m h)
+started (pairs_more (meets_bad e) m) (wins_out h) = pairs_more (fine_bad (omega arith) refl) (started m h)
+started (pairs_more (meets_down a b f) m) (wins_out h) = pairs_more (fine_down (omega arith)) (started m h)
+
+pub fines-length : {P Q : Store → Seat → Type 0} {ss : List Store} {xs : List Seat} (i : ℕ) → Fines P Q i ss xs → i ≡ length xs → Pairs P ss xs
+fines-length i (fines_rest pairs_none) e = pairs_none
+fines-length i (fines_rest (pairs_more {xs = ss} {ys = xs} h m)) e = absurd (omega (arith, e))
+fines-length i (fines_more {i = j} {xs = xs} p h) e = pairs_more p (fines-length j h (omega (arith, e)))
+
+pub pairs-length : {A : Type 0} {P : A → Seat → Type 0} {ss : List A} {xs : List Seat} → Pairs P ss xs → length xs ≡ length ss
+pairs-length pairs_none = refl
+pairs-length (pairs_more h m) = omega (arith, pairs-length m)
+
+pub fines-size : {P Q : Store → Seat → Type 0} {i : ℕ} {ss : List Store} {xs : List Seat} → Fines P Q i ss xs → length xs ≡ length ss
+fines-size (fines_rest h) = pairs-length h
+fines-size (fines_more p h) = omega (arith, fines-size h)
+
+met-excused : (s : Store) (x : Seat) → Met s x → Excused s x
+met-excused s (In true c) h = excused_live
+met-excused s (In false c) (fine_left l f) = excused_left (f refl)
+met-excused s (Out true t) (fine_bad l e) = cc
+met-excused s (Out false t) (fine_down l) = excused_left l
+
+-- after an opening that answers Ok each disk is live, or refused a call in it
+pub opens-excused : {size n : ℕ} {owed : Bool} {ss : List Store} {xs us : List Seat} → Opens size n xs (Good owed) us → Pairs Meets ss xs → Pairs Excused ss us
+opens-excused {ss = ss} (open_good {ys = ys} {zs = zs} {us = us} h e r) m =
+    let a = enters-met e refl (fines_rest (started m h)) in
+    let la : length zs ≡ length ys = fines-size a ∙ sym (pairs-length (started m h)) in
+    let b = fines-length (0 + length ys) a (omega (arith, la)) in
+    let c = renews-met r refl (fines_rest b) in
+    let lc : length us ≡ length zs = fines-size c ∙ sym (fines-size a) in
+    pairs-map met-excused (fines-length (0 + length zs) c (omega (arith, lc)))
+opens-excused (open_again h e y r) m = opens-excused r (way-meets m y.way)
