@@ -130,7 +130,7 @@ calm-all (pairs_more (excused_left l) m) (pairs_more (calmly e) k) = absurd (ome
 pub opens-whole : {size n : ℕ} {owed : Bool} {ss : List Store} {xs us : List Seat} → Opens size n xs (Good owed) us → Pairs Meets ss xs → Pairs Calmly ss us → all_live us ≡ true
 opens-whole h m c = calm-all (opens-excused h m) c
 
--- T2 of an opening, also a refused one: a disk that was lower, or is new, stays below the ground until all pages stand on it, and none is above it
+-- an opening, also a refused one: a disk that was lower, or is new, stays below the ground until all pages stand on it, and none is above it
 pub fate-behind : {F : List (List ℕ)} {w g : ℕ} {o : Option Image} {c : Image} → w ≤ g → Fate F w g o c → Behind F g o c
 fate-behind {F} {w} {g} l (fate_old {i = i} {c = c} a b m) = elim (eq-or-lt_of_le b) as (λ _. Behind F g (Some i) c) [
   | inl e ↦ elim (eq-or-lt_of_le l) as (λ _. Behind F g (Some i) c) [ inl q ↦ behind_level a (e ∙ q) | inr q ↦ behind_lower (omega (arith, a, e)) ]
