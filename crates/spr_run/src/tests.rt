@@ -984,9 +984,8 @@ fn refused_beside_good(rt: HostRuntime) -> Result<(), Fail> {
     outside.writes = &[3];
     let (got, sink) = run(&rt, rt.alloc(), RUN, FILES, BESIDE, &outside)?;
     assert_eq!(rt; got, Status::Faulted);
-    let text = sink.bytes();
-    assert!(rt; text.starts_with(BESIDE_FILES));
-    assert_eq!(rt; times(text, A_FIRST) + times(text, B_FIRST), 1);
+    let names = sink.bytes().strip_prefix(BESIDE_FILES);
+    assert!(rt; names == Some(A_FIRST) || names == Some(B_FIRST));
     Ok(())
 }
 
