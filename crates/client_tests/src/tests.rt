@@ -1,0 +1,322 @@
+//! A client over a volume of one file of two pages of 64 bytes, with one layer on its disk. What its lines are answered is worked by
+//! hand.
+
+ghost use Rattle.std.specs.Prelude.{◌≡◌, ◌≤◌, ◌∷◌, [], ℕ, IfOk, IfSome, IsTrue, length, map};
+ghost use Rattle.disk_format.specs.Shape.{IsShape};
+ghost use Rattle.disk_layer.specs.Disk.{seen_of};
+ghost use Rattle.disk_layer.specs.Seen.{faults_in, opened_in};
+ghost use Rattle.tower_tables.specs.Tables.{IsUnderFile};
+ghost use Rattle.stack_names.specs.Views.{names_at_start};
+ghost use Rattle.spr_volume.specs.Passes.{IsOf};
+ghost use Rattle.spr_client.specs.Calls.{AreOfStack};
+ghost use Rattle.spr_client.specs.Lines.{AreCalls, IsCallOf};
+
+use disk_format::ImageShape;
+use disk_layer::Disk;
+use marshal_buf::Buf;
+use page_messages::PagedFile;
+use pager_channel::Ops;
+use run_defs::{file_named, view_of};
+use script_text::{Call, CallLine, Said, Sub, parse_script, put_reply};
+use seen_values::{Items, Path};
+use spr_client::{Client, run_phase};
+use spr_io::{MemStore, OpenGate};
+use spr_volume::{Pass, Volume};
+use stack_accept::{Mounted, accept};
+use stack_engine::Tower;
+use stack_names::start_names;
+use stack_text::{StackText, parse_stack};
+use std::alloc::{AllocError, Global};
+use std::sync::Wait;
+use std::test::Fail;
+use tower_core::Tree;
+
+/// A disk in memory.
+type Ram = Disk<MemStore>;
+
+/// The file `f` of two pages, on the disk `d`, and the layer `c`.
+const STACK: &str = "page 64\nfile f 2\ndisk d m\ncoherency c m d\n";
+
+/// The lines of a client. Under `q` stands an object of a subcontract that the program has not.
+const SCRIPT: &str =
+    "client a m\nphase\na bind t cluster c f\na open x t\na write x 0 0 61\na copy x y\na drop x\n\
+a read y 0 0 2\na read y 0 63 2\na read x 0 0 1\na open y c/f\na open z q\na open z k/f\na list /\n\
+a unbind t\na open z t\na clear y 1\na sync y\n";
+
+/// What they are answered before the last, which is the sync.
+const ANSWERS: [(u32, &str); 15] = [
+    (3, " done"),
+    (4, " life 0"),
+    (5, " done"),
+    (6, " done"),
+    (7, " done"),
+    (8, " 6100"),
+    (9, " not one page"),
+    (10, " no object"),
+    (11, " object exists"),
+    (12, " bad object"),
+    (13, " not bound k"),
+    (14, " names c q t"),
+    (15, " done"),
+    (16, " not bound t"),
+    (17, " done"),
+];
+
+fn stack_of(alloc: Global) -> Result<StackText, Fail>
+    ensures { IfOk result (λ stack. length stack.lines ≤ 128) }
+{
+    match parse_stack(alloc, STACK.as_bytes()) {
+        Ok(stack) => Ok(stack),
+        Err(_) => Err(Fail::from("the text")),
+    }
+}
+
+fn mounted(alloc: Global) -> Result<Mounted, Fail> {
+    match accept(alloc, &stack_of(alloc)?) {
+        Ok(mount) => Ok(mount),
+        Err(_) => Err(Fail::from("the stack")),
+    }
+}
+
+/// Whether it is a call that the program has, whose names the stack has.
+fn is_call(mount: &Mounted, line: &CallLine) -> bool
+    ensures { IsTrue result → IsCallOf mount.now line.now.call }
+{
+    match &line.call {
+        Call::Bind {
+            path,
+            sub: Sub::Cluster,
+            view,
+            file,
+        } => {
+            matches!(path.as_slice().len(), 1..=8)
+                && view_of(mount, view).is_some()
+                && file_named(mount, file).is_some()
+        }
+        Call::Unbind { path } | Call::Open { path, .. } => {
+            matches!(path.as_slice().len(), 1..=8)
+        }
+        Call::List { path } => path.is_none(),
+        Call::Read { .. } | Call::Write { .. } | Call::Clear { .. } | Call::Sync { .. } => true,
+        Call::Copy { .. } | Call::Drop { .. } => true,
+        _ => false,
+    }
+}
+
+fn are_calls(mount: &Mounted, lines: &[CallLine]) -> bool
+    ensures { IsTrue result → AreCalls mount.now lines.now }
+{
+    for line in lines {
+        if !is_call(mount, line) {
+            return false;
+        }
+    }
+    true
+}
+
+/// The lines of the phase.
+fn lines_of(alloc: Global, mount: &Mounted) -> Result<Items<CallLine>, Fail>
+    ensures { IfOk result (AreCalls mount.now) }
+{
+    let Ok(script) = parse_script(alloc, SCRIPT.as_bytes()) else {
+        return Err(Fail::from("the script"));
+    };
+    match script.phases.into_vec().pop() {
+        Some(lines) if are_calls(mount, lines.as_slice()) => Ok(lines),
+        _ => Err(Fail::from("the calls")),
+    }
+}
+
+/// Two pages of 64 bytes, and so four blocks.
+fn small() -> ImageShape
+    ensures shape { result ≡ record { page_size = 64; pages = 2 } }
+    ensures within { IsShape result }
+{
+    ImageShape {
+        page_size: 64,
+        pages: 2,
+    }
+}
+
+/// A disk of a fresh image, whose store fails at one write. The image takes the first two writes.
+fn disk(alloc: Global, fails_at: u64) -> Result<Option<Ram>, AllocError> {
+    let store = MemStore::new(alloc, 64, 4, &[], &[fails_at], &[])?;
+    let small = small();
+    if !store.has_shape(64, 4) {
+        return Ok(None);
+    }
+    Ok(Disk::format(alloc, store, 0, &small).ok())
+}
+
+/// Whether the disk has two pages of 64 bytes.
+fn is_under(disk: &Ram) -> bool
+    ensures under { IsTrue result → IsUnderFile (seen_of disk.now) (record { number = 0; page_size = 64; pages = 2 }) }
+    ensures counts { (n : ℕ) → opened_in (seen_of disk.now).disks n ≤ faults_in (seen_of disk.now).disks n }
+{
+    disk.sound();
+    let shape = disk.shape();
+    shape.page_size == 64 && shape.pages == 2
+}
+
+/// Whether the stack has one file of two pages of 64 bytes.
+fn has_small_file(mount: &Mounted) -> bool
+    ensures { IsTrue result → (mount.now.page_size ≡ 64) × (map (λ f. f.pages) mount.now.files ≡ 2 ∷ []) }
+{
+    let files = mount.files();
+    mount.page_size() == 64 && files.len() == 1 && files[0].pages == 2
+}
+
+/// Whether the stack has one layer on its ground.
+fn has_one_layer(mount: &Mounted) -> bool
+    ensures { IsTrue result → mount.now.tree ≡ record { parents = 0 ∷ 0 ∷ []; frames = 0 ∷ 0 ∷ [] } }
+{
+    let tree = mount.tree();
+    tree.nodes() == 2
+        && tree.parent(0) == 0
+        && tree.parent(1) == 0
+        && tree.frames(0) == 0
+        && tree.frames(1) == 0
+}
+
+/// A tower of the stack's file.
+fn tower(alloc: Global, mount: &Mounted, fails_at: u64) -> Result<Option<Tower<Ram>>, AllocError>
+    ensures { IfOk result (λ found. IfSome found (λ t. AreOfStack mount.now (t ∷ []))) }
+{
+    let Some(disk) = disk(alloc, fails_at)? else {
+        return Ok(None);
+    };
+    if !has_small_file(mount) || !has_one_layer(mount) || !is_under(&disk) {
+        return Ok(None);
+    }
+    let tree = Tree::new(alloc, &[0, 0], &[0, 0])?;
+    let file = PagedFile {
+        number: 0,
+        page_size: 64,
+        pages: 2,
+    };
+    let ops = Ops::new([0, 1, 2, 3, 4], [0, 1, 2, 3, 4, 5], [2, 3, 4, 5, 6, 0, 1]);
+    match Tower::open(alloc, tree, file, disk, ops) {
+        Ok(tower) => Ok(Some(tower)),
+        Err(_) => Ok(None),
+    }
+}
+
+/// A volume of the stack's file and names for one caller, and its pass.
+fn volume(alloc: Global, mount: &Mounted, fails_at: u64) -> Result<(Volume<Ram>, Pass<Ram>), Fail>
+    ensures towers { IfOk result (λ r. AreOfStack mount.now r.0.towers) }
+    ensures names { IfOk result (λ r. r.0.names.began ≡ names_at_start mount.now) }
+    ensures pass { IfOk result (λ r. IsOf r.0 r.1 × (r.1.first ≡ 0) × (r.1.end ≡ 1)) }
+    ensures callers { IfOk result (λ r. r.0.end ≡ 1) }
+{
+    let Some(tower) = tower(alloc, mount, fails_at)? else {
+        return Err(Fail::from(AllocError));
+    };
+    let mut towers = Vec::new(alloc);
+    towers.push(tower)?;
+    let names = start_names(alloc, mount)?;
+    match Volume::mount(alloc, towers, names, 1) {
+        Ok(mounted) => Ok(mounted),
+        Err(_back) => Err(Fail::from(AllocError)),
+    }
+}
+
+/// Binds an object of the subcontract 9, which the program has not, under `q`.
+fn bind_stranger<R: Wait>(
+    rt: &R,
+    alloc: Global,
+    volume: &Volume<Ram>,
+    pass: &mut Pass<Ram>,
+) -> Result<bool, AllocError>
+    requires pass { IsOf volume.now pass.old × (pass.old.first ≡ 0) × (pass.old.end ≡ 1) }
+    ensures pass { IsOf volume.now pass.new × (pass.new.first ≡ 0) × (pass.new.end ≡ 1) }
+{
+    let path = Path::of(alloc, &["q"])?;
+    let mut object = Buf::new(alloc);
+    object.put_u16(9)?;
+    Ok(volume.bind(rt, pass, 0, &path, object).is_ok())
+}
+
+/// A new client does its lines.
+fn client_does<R: Wait>(
+    rt: &R,
+    alloc: Global,
+    mount: &Mounted,
+    volume: &Volume<Ram>,
+    pass: &mut Pass<Ram>,
+    lines: &[CallLine],
+) -> Result<Vec<Said>, AllocError>
+    requires towers { AreOfStack mount.now volume.now.towers }
+    requires names { volume.now.names.began ≡ names_at_start mount.now }
+    requires pass { IsOf volume.now pass.old × (pass.old.first ≡ 0) × (pass.old.end ≡ 1) }
+    requires calls { AreCalls mount.now lines.now }
+    ensures pass { IsOf volume.now pass.new × (pass.new.first ≡ 0) × (pass.new.end ≡ 1) }
+{
+    if mount.machines().is_empty() {
+        return Ok(Vec::new(alloc));
+    }
+    let ops = Ops::new([0, 1, 2, 3, 4], [0, 1, 2, 3, 4, 5], [2, 3, 4, 5, 6, 0, 1]);
+    let mut client = Client::new(alloc, 0, 0);
+    run_phase(
+        rt,
+        alloc,
+        volume,
+        mount,
+        &ops,
+        &mut client,
+        pass,
+        lines,
+        &OpenGate,
+    )
+}
+
+/// Whether a line is answered so.
+fn is_answered(
+    alloc: Global,
+    mount: &Mounted,
+    said: &Said,
+    want: (u32, &str),
+) -> Result<bool, AllocError> {
+    let mut text = Vec::new(alloc);
+    put_reply(alloc, &mut text, mount.disks(), &said.reply)?;
+    Ok(said.line == want.0 && text.as_slice() == want.1.as_bytes())
+}
+
+/// Whether the lines are answered so.
+fn are_answered(
+    alloc: Global,
+    mount: &Mounted,
+    said: &[Said],
+    want: &[(u32, &str)],
+) -> Result<bool, AllocError> {
+    if said.len() != want.len() {
+        return Ok(false);
+    }
+    for (said, want) in said.iter().zip(want) {
+        if !is_answered(alloc, mount, said, *want)? {
+            return Ok(false);
+        }
+    }
+    Ok(true)
+}
+
+/// The sync is done; or the third write of the store fails, after the two of the image, and the sync tells it.
+#[test]
+fn a_client(rt: HostRuntime) -> Result<(), Fail> {
+    let alloc = rt.alloc();
+    let mount = mounted(alloc)?;
+    let lines = lines_of(alloc, &mount)?;
+    for (fails_at, last) in [(0, " done"), (3, " store d 1")] {
+        let (volume, mut pass) = volume(alloc, &mount, fails_at)?;
+        let bound = bind_stranger(&rt, alloc, &volume, &mut pass);
+        let said = client_does(&rt, alloc, &mount, &volume, &mut pass, lines.as_slice());
+        let _back = volume.unmount(pass);
+        let mut said = said?;
+        let Some(sync) = said.pop() else {
+            return Err(Fail::from("no answers"));
+        };
+        assert!(rt; bound?);
+        assert!(rt; is_answered(alloc, &mount, &sync, (18, last))?);
+        assert!(rt; are_answered(alloc, &mount, &said, &ANSWERS)?);
+    }
+    Ok(())
+}
