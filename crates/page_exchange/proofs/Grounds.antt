@@ -1,6 +1,6 @@
 -- An exchange of a node and the ground: what was written, and what was read of it.
 use Rattle.std.specs.Prelude.{IsErrAnd, IfErr}
-use Rattle.std.proofs.Common.{◌⊎◌, inl, inr, Result, Ok, Err, ◌≡◌, ◌≢◌, ℕ, ◌<◌, sym, ◌∙◌, ap, subst, refl, true, List, length, Option, Some, None}
+use Rattle.std.proofs.Common.{◌⊎◌, inl, inr, Result, Ok, Err, ◌≡◌, ℕ, ◌<◌, sym, ◌∙◌, ap, subst, refl, true, List, length, Option, Some, None}
 use Rattle.disk_layer.specs.Seen.{Seen}
 use Rattle.tower_core.specs.declared.right.Right.{Right}
 use Rattle.tower_sides.specs.Side.{Side}
@@ -16,12 +16,13 @@ use Rattle.page_messages.specs.Kinds.{called_in, bytes_up}
 use Rattle.page_messages.specs.Letters.{question, answer, order, reply}
 use Rattle.page_messages.specs.Paged.{about_of}
 use Rattle.page_messages.specs.Rights.{called_right, IsForPage}
-use Rattle.page_messages.specs.Rules.{MayObey, MayAsk}
 use Rattle.page_messages.specs.Sealed.{sealed}
 use Rattle.page_messages.proofs.MeantLaws as meant
 use Rattle.page_messages.proofs.KeptLaws.{write_some}
-use Rattle.coherency_layer.specs.declared.node.Node.{Node}
-use Rattle.coherency_layer.specs.Node.{side, OnPages, about_asked, about_called, MayAskAbout, AllowsFirst, AllowsSecond, IsChange, IsForFirstCopy, reply_to}
+use Rattle.coherency_layer.specs.Node.{about_called}
+use Rattle.vmm_cache.specs.Uses.{uses_called}
+use Rattle.page_exchange.specs.declared.table.Table.{Table}
+use Rattle.page_exchange.specs.Table.{AllowsAnswer, AllowsOrder, IsForFirstCopy, MayAskAbout, MayObeyAbout, Obeys, Takes, file_of, reply_to, side, uses_of}
 use Rattle.page_exchange.specs.declared.ground.GroundErr.{GroundErr}
 use Rattle.page_exchange.specs.declared.ground.GroundErr.TheVariants as errors
 use Rattle.page_exchange.specs.Exchange.{IsOwnChange, LacksCopy}
@@ -29,6 +30,7 @@ use Rattle.page_exchange.specs.Ground.{IsOneCall, IsCalmCall, IsOfGround, IsAnsw
 use Rattle.page_exchange.specs.Wire.{AreSent}
 use Rattle.page_exchange.proofs.Exchanges.{Reads}
 use Rattle.page_exchange.proofs.Frames as frames
+use Rattle.page_exchange.proofs.Owns as owns
 
 -- data are a page
 question_sized : (ops : Ops) (file : PagedFile) (page : ℕ) (s : Side) (what : Asked) → has_data (sealed ops file page (question s what)).head.flags ≡ true → (sealed ops file page (question s what)).head.size ≡ file.page_size
@@ -56,13 +58,13 @@ asks_or_gives s Asked.Sync = inr (λ h. h)
 asks_or_gives s Asked.Done = inl refl
 
 -- who has nothing gives nothing
-gives_nothing : (own : Node) (what : Asked) (page : ℕ) → what ≢ Asked.PageOut → OnPages own (about_asked what page) (λ s. MayAsk s what) → (side own page).right ≡ Right.Nothing → asked_up (side own page) what ≡ None
-gives_nothing own Asked.PageInRead page d on e = refl
-gives_nothing own Asked.PageInWrite page d on e = refl
-gives_nothing own Asked.PageOut page d on e = absurd (d refl)
-gives_nothing own Asked.WriteOut page d on e = absurd (write_some (side own page).right on.0 e)
-gives_nothing own Asked.Sync page d on e = absurd (write_some (side own page).right on e)
-gives_nothing own Asked.Done page d on e = refl
+gives_nothing : (own : Table) (what : Asked) (page : ℕ) → MayAskAbout own what page → (side own page).right ≡ Right.Nothing → asked_up (side own page) what ≡ None
+gives_nothing own Asked.PageInRead page may e = refl
+gives_nothing own Asked.PageInWrite page may e = refl
+gives_nothing own Asked.PageOut page may e = absurd ((owns.may_ask own Asked.PageOut page (λ d. cc) may).0 e)
+gives_nothing own Asked.WriteOut page may e = absurd (write_some (side own page).right (owns.may_ask own Asked.WriteOut page (λ d. cc) may).0 e)
+gives_nothing own Asked.Sync page may e = absurd (write_some (side own page).right (owns.may_ask own Asked.Sync page (λ d. cc) may) e)
+gives_nothing own Asked.Done page may e = refl
 
 given_pages : (page : ℕ) (up up' : Option (List ℕ)) (pages pages' new : Option (List (List ℕ))) → up ≡ up' → pages ≡ pages' → new ≡ pages_given page up pages → new ≡ pages_given page up' pages'
 given_pages page up up' pages pages' new e e' is = is ∙ ap (λ (u : Option (List ℕ)). pages_given page u pages) e ∙ ap (pages_given page up') e'
@@ -71,7 +73,7 @@ pub once_size : (before after : Seen) → IsOneCall before after → after.page_
 once_size before after (inl same) = ap (λ (s : Seen). s.page_size) same
 once_size before after (inr keeps) = keeps.same_size
 
-pub memory_why : {A : Type 0} (r : Result A GroundErr) (before after : Seen) (own : Node) (page : ℕ) → IsErrAnd r (λ e. e ≡ errors.Memory) → LacksCopy own page → IfErr r (IsWhy before after own page)
+pub memory_why : {A : Type 0} (r : Result A GroundErr) (before after : Seen) (own : Table) (page : ℕ) → IsErrAnd r (λ e. e ≡ errors.Memory) → LacksCopy own page → IfErr r (IsWhy before after own page)
 memory_why (Ok x) before after own page is h = tt
 memory_why (Err e) before after own page is h = subst (IsWhy before after own page) (sym is) h
 
@@ -80,15 +82,15 @@ unless_memory {A = A} (Ok x) P is h = h
 unless_memory {A = A} (Err e) P is h = subst (λ (e : GroundErr). UnlessFault {A = A} (Err e) P) (sym is) h
 
 -- A QUESTION of a node, and the ground's answer
-module _ (ops : Ops) (own : Node) (page : ℕ) (what : Asked) (first : List ℕ) (q : FrameSeen) (may : MayAskAbout own what page) (asked : AreSent ops first (sealed ops own.file page (question (side own page) what))) (read : Reads ops first q) where
-  q_is : q ≡ sealed ops own.file page (question (side own page) what)
-  q_is = read (sealed ops own.file page (question (side own page) what)) asked
+module _ (ops : Ops) (own : Table) (page : ℕ) (what : Asked) (first : List ℕ) (q : FrameSeen) (may : MayAskAbout own what page) (asked : AreSent ops first (sealed ops (file_of own) page (question (side own page) what))) (read : Reads ops first q) where
+  q_is : q ≡ sealed ops (file_of own) page (question (side own page) what)
+  q_is = read (sealed ops (file_of own) page (question (side own page) what)) asked
 
-  pub asked_sized : has_data q.head.flags ≡ true → q.head.size ≡ own.file.page_size
-  asked_sized = subst (λ (f : FrameSeen). has_data f.head.flags ≡ true → f.head.size ≡ own.file.page_size) (sym q_is) (question_sized ops own.file page (side own page) what)
+  pub asked_sized : has_data q.head.flags ≡ true → q.head.size ≡ (file_of own).page_size
+  asked_sized = subst (λ (f : FrameSeen). has_data f.head.flags ≡ true → f.head.size ≡ (file_of own).page_size) (sym q_is) (question_sized ops (file_of own) page (side own page) what)
 
   q_up : bytes_up q ≡ asked_up (side own page) what
-  q_up = ap bytes_up q_is ∙ meant.question_up ops own.file page (side own page) what
+  q_up = ap bytes_up q_is ∙ meant.question_up ops (file_of own) page (side own page) what
 
   pub asked_once : (before mid after : Seen) → IsOneCall before mid → ((IsForPage what → ⊥) → mid ≡ before) → IsOneCall mid after → (bytes_up q ≡ None → after ≡ mid) → IsOneCall before after
   asked_once before mid after one idle two still = elim (asks_or_gives (side own page) what) [
@@ -105,51 +107,51 @@ module _ (ops : Ops) (own : Node) (page : ℕ) (what : Asked) (first : List ℕ)
   pub asked_given : (pages pages' new : Option (List (List ℕ))) → pages ≡ pages' → new ≡ pages_given page (bytes_up q) pages → new ≡ pages_given page (asked_up (side own page) what) pages'
   asked_given pages pages' new e is = given_pages page (bytes_up q) (asked_up (side own page) what) pages pages' new q_up e is
 
-  module _ (bytes second : List ℕ) (a : FrameSeen) (answered : AreSent ops second (sealed ops own.file page (answer (side own page).right bytes what))) (heard : Reads ops second a) where
-    a_is : a ≡ sealed ops own.file page (answer (side own page).right bytes what)
-    a_is = heard (sealed ops own.file page (answer (side own page).right bytes what)) answered
+  module _ (bytes second : List ℕ) (a : FrameSeen) (answered : AreSent ops second (sealed ops (file_of own) page (answer (side own page).right bytes what))) (heard : Reads ops second a) where
+    a_is : a ≡ sealed ops (file_of own) page (answer (side own page).right bytes what)
+    a_is = heard (sealed ops (file_of own) page (answer (side own page).right bytes what)) answered
 
-    pub ground_taken : AllowsSecond own None a
-    ground_taken = subst (AllowsSecond own None) (sym a_is) (frames.answer_taken ops own page what bytes may)
+    pub ground_taken : AllowsAnswer own a
+    ground_taken = subst (AllowsAnswer own) (sym a_is) (frames.answer_taken ops own page what bytes may)
 
     pub ground_lacks : IsForFirstCopy own a → LacksCopy own page
-    ground_lacks h = frames.lacks_copy own page a what (ap (about_of own.file) a_is ∙ frames.answers_about ops own page what bytes may) h
+    ground_lacks h = owns.lacks_copy own page a what (ap (about_of (file_of own)) a_is ∙ frames.answers_about ops own page what bytes may) h
 
     -- then the ground was not written
     pub ground_same : (pages pages' new : Option (List (List ℕ))) → pages ≡ pages' → new ≡ pages_given page (bytes_up q) pages → IsForFirstCopy own a → new ≡ pages'
-    ground_same pages pages' new e is h = is ∙ ap (λ (u : Option (List ℕ)). pages_given page u pages) (q_up ∙ gives_nothing own what page may.no_leaf may.may (ground_lacks h).nothing) ∙ e
+    ground_same pages pages' new e is h = is ∙ ap (λ (u : Option (List ℕ)). pages_given page u pages) (q_up ∙ gives_nothing own what page may (ground_lacks h).nothing) ∙ e
 
-    pub ground_answered : (pages : Option (List (List ℕ))) (own' : Node) → length bytes ≡ own.file.page_size → IsOfGround pages own what page bytes → IsChange own own' None a → IsAnswered pages own own' what page
+    pub ground_answered : (pages : Option (List (List ℕ))) (own' : Table) → length bytes ≡ (file_of own).page_size → IsOfGround pages own what page bytes → Takes own own' a → IsAnswered pages own own' what page
     ground_answered pages own' long of c = record {
       bytes = bytes;
       read = of;
-      change = frames.answer_made ops own page what bytes may own' (λ h. long) (subst (IsChange own own' None) a_is c);
+      change = frames.answer_made ops own page what bytes may own' (λ h. long) (subst (Takes own own') a_is c);
     }
 
 -- AN ORDER of the ground, and a node's answer
-module _ (ops : Ops) (own : Node) (page : ℕ) (what : Called) (first : List ℕ) (o : FrameSeen) (inside : page < own.file.pages) (obeys : OnPages own (about_called what page) (λ s. MayObey s what))
-    (called : AreSent ops first (sealed ops own.file page (order what))) (read : Reads ops first o) where
-  o_is : o ≡ sealed ops own.file page (order what)
-  o_is = read (sealed ops own.file page (order what)) called
+module _ (ops : Ops) (own : Table) (page : ℕ) (what : Called) (first : List ℕ) (o : FrameSeen) (inside : page < (file_of own).pages) (obeys : MayObeyAbout own what page)
+    (called : AreSent ops first (sealed ops (file_of own) page (order what))) (read : Reads ops first o) where
+  o_is : o ≡ sealed ops (file_of own) page (order what)
+  o_is = read (sealed ops (file_of own) page (order what)) called
 
-  pub ground_obeyed : AllowsFirst own None o
-  ground_obeyed = subst (AllowsFirst own None) (sym o_is) (frames.order_obeyed ops own page what inside obeys)
+  pub ground_obeyed : AllowsOrder own o
+  ground_obeyed = subst (AllowsOrder own) (sym o_is) (frames.order_obeyed ops own page what inside obeys)
 
-  pub ordered_made : (own' : Node) → IsChange own own' None o → IsOwnChange own own' (about_called what page) (called_right what) None
-  ordered_made own' c = frames.order_made ops own page what inside own' (subst (IsChange own own' None) o_is c)
+  pub ordered_made : (own' : Table) → Obeys own own' o → IsOwnChange own own' (about_called what page) (called_right what) None (uses_called what page (uses_of own))
+  ordered_made own' c = frames.order_made ops own page what inside own' (subst (Obeys own own') o_is c)
 
-  module _ (second : List ℕ) (replied : (what : Called) (about : About) → called_in o ≡ Some what → about_of own.file o ≡ Some about → AreSent ops second (reply_to ops own what about)) where
-    pub ground_reply : AreSent ops second (sealed ops own.file page (reply (side own page) what))
+  module _ (second : List ℕ) (replied : (what : Called) (about : About) → called_in o ≡ Some what → about_of (file_of own) o ≡ Some about → AreSent ops second (reply_to ops own what about)) where
+    pub ground_reply : AreSent ops second (sealed ops (file_of own) page (reply (side own page) what))
     ground_reply = subst (AreSent ops second) (frames.reply_is ops own page what inside)
-        (replied what (about_called what page) (ap called_in o_is ∙ meant.order_is ops own.file page what)
-        (ap (about_of own.file) o_is ∙ frames.orders_about ops own page what inside))
+        (replied what (about_called what page) (ap called_in o_is ∙ meant.order_is ops (file_of own) page what)
+        (ap (about_of (file_of own)) o_is ∙ frames.orders_about ops own page what inside))
 
     module _ (r : FrameSeen) (heard : Reads ops second r) where
-      r_is : r ≡ sealed ops own.file page (reply (side own page) what)
-      r_is = heard (sealed ops own.file page (reply (side own page) what)) ground_reply
+      r_is : r ≡ sealed ops (file_of own) page (reply (side own page) what)
+      r_is = heard (sealed ops (file_of own) page (reply (side own page) what)) ground_reply
 
-      pub reply_is_page : has_data r.head.flags ≡ true → r.head.size ≡ own.file.page_size
-      reply_is_page = subst (λ (f : FrameSeen). has_data f.head.flags ≡ true → f.head.size ≡ own.file.page_size) (sym r_is) (reply_sized ops own.file page (side own page) what)
+      pub reply_is_page : has_data r.head.flags ≡ true → r.head.size ≡ (file_of own).page_size
+      reply_is_page = subst (λ (f : FrameSeen). has_data f.head.flags ≡ true → f.head.size ≡ (file_of own).page_size) (sym r_is) (reply_sized ops (file_of own) page (side own page) what)
 
       pub reply_given : (pages new : Option (List (List ℕ))) → new ≡ pages_given page (bytes_up r) pages → new ≡ pages_given page (called_up (side own page) what) pages
-      reply_given pages new is = given_pages page (bytes_up r) (called_up (side own page) what) pages pages new (ap bytes_up r_is ∙ meant.reply_up ops own.file page (side own page) what) refl is
+      reply_given pages new is = given_pages page (bytes_up r) (called_up (side own page) what) pages pages new (ap bytes_up r_is ∙ meant.reply_up ops (file_of own) page (side own page) what) refl is

@@ -1,3 +1,4 @@
+mod Owns
 pub mod Frames
 pub mod Rooms
 pub mod Exchanges

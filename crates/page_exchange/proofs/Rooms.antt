@@ -15,6 +15,8 @@ use Rattle.pager_channel.specs.Flags.{has_data}
 use Rattle.coherency_layer.specs.declared.node.Node.{Node}
 use Rattle.coherency_layer.specs.Node.{AllowsFirst, OnPages, WritesAnswer, WritesReply, answer_to, reply_to}
 use Rattle.page_messages.specs.Message.{Allows}
+use Rattle.vmm_cache.specs.declared.leaf.Leaf.{Leaf}
+use Rattle.vmm_cache.specs.Leaf as leaves
 use Rattle.page_exchange.specs.Wire.{HasRoom}
 
 -- a frame that is put where an emptied buffer had room leaves the room
@@ -39,3 +41,13 @@ pub reply_room : (ops : Ops) (node : Node) (f : FrameSeen) (old empty new : Held
 reply_room ops node f old empty new allows room none spare writes =
     let t = found (called_in f) (about_of node.file f) Message.Orders (λ m a. OnPages node a (λ s. Allows s m)) allows in
     put_room (reply_to ops node t.0 t.1) old empty new room none spare (writes.puts t.0 t.1 t.2 t.3)
+
+some_two : {A B : Type 0} (o : Option A) (about : Option B) (P : A → B → Type 0) → IsSomeAnd o (λ w. IsSomeAnd about (P w)) → (what : A) × (a : B) × (o ≡ Some what) × (about ≡ Some a)
+some_two None about P h = elim h [ ]
+some_two (Some what) None P h = elim h [ ]
+some_two (Some what) (Some a) P h = (what, a, refl, refl)
+
+pub leaf_room : (ops : Ops) (leaf : Leaf) (f : FrameSeen) (old empty new : Held) → leaves.AllowsFirst leaf f → HasRoom old → empty.bytes ≡ [] → old.spare + length old.bytes ≤ empty.spare → leaves.WritesReply ops leaf f empty new → HasRoom new
+leaf_room ops leaf f old empty new allows room none spare writes =
+    let t = some_two (called_in f) (about_of leaf.file f) (leaves.MayObeyAt leaf) allows in
+    put_room (leaves.reply_to ops leaf t.0 t.1) old empty new room none spare (writes.puts t.0 t.1 t.2 t.3)

@@ -7,16 +7,17 @@ use Rattle.disk_layer.specs.Seen.{Seen, IsCalm, IsFault, Keeps, ReadsPage, with_
 use Rattle.page_messages.specs.declared.kinds.Asked.{Asked}
 use Rattle.page_messages.specs.Carried.{asked_down}
 use Rattle.page_messages.specs.Rights.{IsForPage, asked_right}
-use Rattle.coherency_layer.specs.declared.node.Node.{Node}
-use Rattle.coherency_layer.specs.Node.{file_of, side, about_asked}
+use Rattle.coherency_layer.specs.Node.{about_asked}
+use Rattle.page_exchange.specs.declared.table.Table.{Table}
+use Rattle.page_exchange.specs.Table.{file_of, side, uses_asked, uses_of}
 use Rattle.page_exchange.specs.declared.ground.GroundErr.{GroundErr}
 use Rattle.page_exchange.specs.declared.ground.GroundErr.TheVariants as errors
 use Rattle.page_exchange.specs.Exchange.{IsOwnChange, LacksCopy}
 
 -- the ground has the pages of the node's file
-pub record IsUnder (ground : Seen) (node : Node) : Type 0 where
-  pub size : ground.page_size ≡ (file_of node).page_size
-  pub number : ground.number ≡ (file_of node).pages
+pub record IsUnder (ground : Seen) (table : Table) : Type 0 where
+  pub size : ground.page_size ≡ (file_of table).page_size
+  pub number : ground.number ≡ (file_of table).pages
 
 -- the pages after bytes came up about one of them, or none
 abbrev pub pages_given : ℕ → Option (List ℕ) → Option (List (List ℕ)) → Option (List (List ℕ))
@@ -40,19 +41,19 @@ abbrev pub IsCalmCall : Seen → Seen → Type 0
 IsCalmCall before after = (after ≡ before) ⊎ IsCalm before after
 
 -- a node that has nothing of a page, and asks for it, gets the ground's bytes
-abbrev pub IsOfGround : Option (List (List ℕ)) → Node → Asked → ℕ → List ℕ → Type 0
-IsOfGround pages node what page bytes = IsForPage what → (side node page).right ≡ Right.Nothing → ReadsPage pages page bytes
+abbrev pub IsOfGround : Option (List (List ℕ)) → Table → Asked → ℕ → List ℕ → Type 0
+IsOfGround pages table what page bytes = IsForPage what → (side table page).right ≡ Right.Nothing → ReadsPage pages page bytes
 
 -- the node's own table after the ground's answer, where the page has these bytes
-pub record IsAnswered (pages : Option (List (List ℕ))) (old new : Node) (what : Asked) (page : ℕ) : Type 0 where
+pub record IsAnswered (pages : Option (List (List ℕ))) (old new : Table) (what : Asked) (page : ℕ) : Type 0 where
   pub bytes : List ℕ
   pub read : IsOfGround pages old what page bytes
-  pub change : IsOwnChange old new (about_asked what page) (asked_right what) (asked_down (side old page).right bytes what)
+  pub change : IsOwnChange old new (about_asked what page) (asked_right what) (asked_down (side old page).right bytes what) (uses_asked what page (uses_of old))
 
 -- when each error comes
-abbrev pub IsWhy : Seen → Seen → Node → ℕ → GroundErr → Type 0
-IsWhy before after node page (errors.Store fault) = IsFault before after fault
-IsWhy before after node page errors.Memory = LacksCopy node page
+abbrev pub IsWhy : Seen → Seen → Table → ℕ → GroundErr → Type 0
+IsWhy before after table page (errors.Store fault) = IsFault before after fault
+IsWhy before after table page errors.Memory = LacksCopy table page
 
 -- it holds unless a store failed
 abbrev pub UnlessFault : {A : Type 0} → Result A GroundErr → Type 0 → Type 0

@@ -8,6 +8,7 @@ use Rattle.tower_sides.specs.Sent.{AreSent, AreBrought, pushed_by}
 use Rattle.page_messages.specs.declared.kinds.Asked.{Asked}
 use Rattle.page_messages.specs.declared.kinds.Called.{Called}
 use Rattle.page_exchange.specs.Ground.{Tells}
+use Rattle.page_exchange.specs.Table.{IsLike}
 
 -- the step that a question of a node makes, once it is answered
 abbrev pub step_asked : Asked → ℕ → Step
@@ -38,9 +39,15 @@ given_up shape (Pushes node) sides = up_from shape node sides
 given_up shape (Flushes node) sides = up_from shape node sides
 given_up shape step sides = None
 
--- a step moves the tables of its page, and no other page's
+-- each node keeps what its table of the page became
+abbrev pub AreLike : (ℕ → Side) → (ℕ → Side) → Type 0
+AreLike to sides = (node : ℕ) → IsLike (to node) (sides node)
+
+-- a step moves the tables of its page, as far as they are kept, and no other page's
 pub record AreSentAt (shape : TreeShape) (page : ℕ) (brings : Option (List ℕ)) (step : Step) (old new : ℕ → ℕ → Side) : Type 0 where
-  pub here : AreSent shape brings step (old page) (new page)
+  pub to : ℕ → Side
+  pub here : AreSent shape brings step (old page) to
+  pub kept : AreLike to (new page)
   pub others : (p node : ℕ) → p ≢ page → new p node ≡ old p node
 
 -- A message was sent and answered: it moved the tables by this step, and where the ground tells its pages a grant brought

@@ -1,13 +1,17 @@
 //! An exchange of a node and its parent.
 
-ghost use Rattle.std.specs.Prelude.{◌≡◌, Some, None, OnOk, OnErr, true};
+ghost use Rattle.std.specs.Prelude.{◌≡◌, Some, None, OnOk, OnErr};
 ghost use Rattle.page_messages.specs.Carried.{asked_down, asked_up, called_up};
 ghost use Rattle.page_messages.specs.Rights.{asked_right, called_right};
-ghost use Rattle.page_messages.specs.Rules.{MayServe, MayObey};
-ghost use Rattle.coherency_layer.specs.Node.{side, OnPages, about_asked, about_called, MayAskAbout, MayCallAbout, IsLeft};
-ghost use Rattle.page_exchange.specs.Exchange.{IsPair, IsOwnChange, IsAboveChange, LacksCopy};
+ghost use Rattle.page_messages.specs.Rules.{MayServe};
+ghost use Rattle.coherency_layer.specs.Node as layers;
+ghost use Rattle.coherency_layer.specs.Node.{OnPages, about_asked, about_called};
+ghost use Rattle.vmm_cache.specs.Uses.{uses_called};
+ghost use Rattle.page_exchange.specs.Table.{side, uses_asked, uses_of, MayAskAbout, MayObeyAbout, IsLeft};
+ghost use Rattle.page_exchange.specs.Exchange.{IsPair, IsOwnChange, IsAboveChange, LacksCopy, may_be_full};
 
-use crate::steps::{ask, call, obey, sent, serve, take};
+use crate::steps::{ask, call, hear, obey, sent, serve};
+use crate::table::Table;
 use crate::wire::Wire;
 use coherency_layer::{Asked, Called, Node};
 use std::alloc::AllocError;
@@ -17,7 +21,7 @@ impl Wire {
     /// may lack only for a page of which the node has nothing and kept no copy; then both tables are left.
     pub fn ask_above(
         &mut self,
-        own: &mut Node,
+        own: &mut Table,
         above: &mut Node,
         node: u32,
         what: Asked,
@@ -25,21 +29,21 @@ impl Wire {
     ) -> Result<(), AllocError>
         requires pair { IsPair own.old above.old node }
         requires may { MayAskAbout own.old what page }
-        requires serves { OnPages above.old (about_asked what page) (λ s. MayServe s node true what) }
-        requires known { (side above.old page).kids node ≡ (side own.old page).right }
+        requires serves { OnPages above.old (about_asked what page) (λ s. MayServe s node (may_be_full (side own.old page) what) what) }
+        requires known { (layers.side above.old page).kids node ≡ (side own.old page).right }
         ensures own { OnOk result (IsOwnChange own.old own.new (about_asked what page) (asked_right what)
-            (asked_down (side own.old page).right (side above.old page).copy what)) }
+            (asked_down (side own.old page).right (layers.side above.old page).copy what) (uses_asked what page (uses_of own.old))) }
         ensures above { OnOk result (IsAboveChange above.old above.new node (about_asked what page) (asked_right what)
             (asked_up (side own.old page) what)) }
         ensures memory { OnErr result (LacksCopy own.old page) }
         ensures own_left { OnErr result (IsLeft own.old own.new) }
-        ensures above_left { OnErr result (IsLeft above.old above.new) }
+        ensures above_left { OnErr result (layers.IsLeft above.old above.new) }
     {
         ask(own, &self.ops, what, page, &mut self.first);
         let question = sent(&self.ops, &self.first);
         serve(above, &self.ops, node, &question, &mut self.second);
         let answer = sent(&self.ops, &self.second);
-        take(own, None, &answer)?;
+        own.take(&answer)?;
         above.finish(Some(node), &question);
         Ok(())
     }
@@ -47,16 +51,16 @@ impl Wire {
     /// A node gives a child an order, and takes its answer. Both tables allow it. It takes no memory.
     pub fn call_below(
         &mut self,
-        own: &mut Node,
+        own: &mut Table,
         above: &mut Node,
         node: u32,
         what: Called,
         page: u32,
     )
         requires pair { IsPair own.old above.old node }
-        requires may { MayCallAbout above.old node what page }
-        requires obeys { OnPages own.old (about_called what page) (λ s. MayObey s what) }
-        ensures own { IsOwnChange own.old own.new (about_called what page) (called_right what) None }
+        requires may { layers.MayCallAbout above.old node what page }
+        requires obeys { MayObeyAbout own.old what page }
+        ensures own { IsOwnChange own.old own.new (about_called what page) (called_right what) None (uses_called what page (uses_of own.old)) }
         ensures above { IsAboveChange above.old above.new node (about_called what page) (called_right what)
             (called_up (side own.old page) what) }
     {
@@ -64,10 +68,10 @@ impl Wire {
         let order = sent(&self.ops, &self.first);
         obey(own, &self.ops, &order, &mut self.second);
         let reply = sent(&self.ops, &self.second);
-        match take(above, Some(node), &reply) {
+        match hear(above, node, &reply) {
             Ok(()) => {}
             Err(_) => unreachable!(),
         }
-        own.finish(None, &order);
+        own.finish(&order);
     }
 }

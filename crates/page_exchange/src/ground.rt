@@ -6,14 +6,16 @@ ghost use Rattle.pager_channel.specs.Flags.{has_data};
 ghost use Rattle.page_messages.specs.Carried.{asked_down, asked_up, called_up};
 ghost use Rattle.page_messages.specs.Kinds.{bytes_up};
 ghost use Rattle.page_messages.specs.Rights.{IsForPage, asked_right, called_right};
-ghost use Rattle.page_messages.specs.Rules.{MayObey};
-ghost use Rattle.coherency_layer.specs.Node.{file_of, side, OnPages, about_called, MayAskAbout, IsLeft};
+ghost use Rattle.coherency_layer.specs.Node.{about_called};
+ghost use Rattle.vmm_cache.specs.Uses.{uses_called};
+ghost use Rattle.page_exchange.specs.Table.{file_of, side, uses_of, MayAskAbout, MayObeyAbout, IsLeft};
 ghost use Rattle.page_exchange.specs.Exchange.{IsOwnChange};
 ghost use Rattle.page_exchange.specs.Ground.{IsUnder, pages_given, IsOneCall, IsCalmCall, IsOfGround, IsAnswered, IsWhy, UnlessFault};
 
-use crate::steps::{answer_of_ground, ask, obey, order_of_ground, sent, take};
+use crate::steps::{answer_of_ground, ask, obey, order_of_ground, sent};
+use crate::table::Table;
 use crate::wire::Wire;
-use coherency_layer::{Asked, Called, Node};
+use coherency_layer::{Asked, Called};
 use disk_layer::{Ground, StoreFault};
 use pager_channel::Frame;
 use std::alloc::AllocError;
@@ -54,16 +56,16 @@ impl From<AllocError> for GroundErr {
 /// Reads the page, where the node has nothing of it and asks for it.
 fn read_for<G: Ground>(
     ground: &mut G,
-    node: &Node,
+    table: &Table,
     what: Asked,
     page: u32,
     scratch: &mut [u8],
 ) -> Result<(), StoreFault>
-    requires under { IsUnder (G.seen ground.old) node.now }
-    requires page { page < (file_of node.now).pages }
-    requires scratch { length scratch.old ≡ (file_of node.now).page_size }
-    ensures ok { OnOk result (IsOfGround (G.seen ground.old).pages node.now what page scratch.new) }
-    ensures size { length scratch.new ≡ (file_of node.now).page_size }
+    requires under { IsUnder (G.seen ground.old) table.now }
+    requires page { page < (file_of table.now).pages }
+    requires scratch { length scratch.old ≡ (file_of table.now).page_size }
+    ensures ok { OnOk result (IsOfGround (G.seen ground.old).pages table.now what page scratch.new) }
+    ensures size { length scratch.new ≡ (file_of table.now).page_size }
     ensures pages { (G.seen ground.new).pages ≡ (G.seen ground.old).pages }
     ensures call { IsOneCall (G.seen ground.old) (G.seen ground.new) }
     ensures calm { OnOk result (IsCalmCall (G.seen ground.old) (G.seen ground.new)) }
@@ -71,7 +73,7 @@ fn read_for<G: Ground>(
     ensures idle { (IsForPage what → ⊥) → G.seen ground.new ≡ G.seen ground.old }
 {
     let for_page = matches!(what, Asked::PageInRead | Asked::PageInWrite);
-    if for_page && node.right(page) == Right::Nothing {
+    if for_page && table.right(page) == Right::Nothing {
         ground.read(page, scratch)
     } else {
         Ok(())
@@ -102,7 +104,7 @@ impl Wire {
     /// copy.
     pub fn ask_ground<G: Ground>(
         &mut self,
-        own: &mut Node,
+        own: &mut Table,
         ground: &mut G,
         what: Asked,
         page: u32,
@@ -126,7 +128,7 @@ impl Wire {
         answer_of_ground(own, &self.ops, what, page, scratch, &mut self.second);
         let answer = sent(&self.ops, &self.second);
         write_for(ground, &question, page)?;
-        take(own, None, &answer)?;
+        own.take(&answer)?;
         Ok(())
     }
 
@@ -134,15 +136,15 @@ impl Wire {
     /// error leaves the node's table and the ground's pages.
     pub fn order_by_ground<G: Ground>(
         &mut self,
-        own: &mut Node,
+        own: &mut Table,
         ground: &mut G,
         what: Called,
         page: u32,
     ) -> Result<(), StoreFault>
         requires under { IsUnder (G.seen ground.old) own.old }
         requires page { page < (file_of own.old).pages }
-        requires obeys { OnPages own.old (about_called what page) (λ s. MayObey s what) }
-        ensures own { OnOk result (IsOwnChange own.old own.new (about_called what page) (called_right what) None) }
+        requires obeys { MayObeyAbout own.old what page }
+        ensures own { OnOk result (IsOwnChange own.old own.new (about_called what page) (called_right what) None (uses_called what page (uses_of own.old))) }
         ensures ground { OnOk result ((G.seen ground.new).pages ≡ pages_given page (called_up (side own.old page) what) (G.seen ground.old).pages) }
         ensures fault { IfErr result (IsFault (G.seen ground.old) (G.seen ground.new)) }
         ensures own_left { OnErr result (IsLeft own.old own.new) }
@@ -155,7 +157,7 @@ impl Wire {
         obey(own, &self.ops, &order, &mut self.second);
         let reply = sent(&self.ops, &self.second);
         write_for(ground, &reply, page)?;
-        own.finish(None, &order);
+        own.finish(&order);
         Ok(())
     }
 }

@@ -11,7 +11,10 @@ ghost use Rattle.tower_sides.specs.Side.{Side};
 ghost use Rattle.page_messages.specs.declared.kinds.Asked.{Asked as AQuestion};
 ghost use Rattle.page_messages.specs.declared.kinds.Called.{Called as AnOrder};
 ghost use Rattle.page_messages.specs.declared.paged.About.{About as AnAbout};
-ghost use Rattle.coherency_layer.specs.declared.node.Node.{Node as ATable};
+ghost use Rattle.coherency_layer.specs.declared.node.Node.{Node as ALayer};
+ghost use Rattle.coherency_layer.specs.Node as layers;
+ghost use Rattle.page_exchange.specs.declared.table.Table.{Table as ATable};
+ghost use Rattle.page_exchange.specs.Table.{side};
 ghost use Rattle.page_exchange.specs.Allowed.{AllowAsking, AllowCalling, AllowsReading, AllowsWriting, grant_asked};
 ghost use Rattle.page_exchange.specs.Exchange.{IsAboveChange, IsOwnChange};
 ghost use Rattle.page_exchange.specs.Ground.{Tells, base_given, pages_given};
@@ -60,17 +63,17 @@ pub fn tables_allow_what_the_trail_does()
 /// An exchange about a page, where the other nodes' tables stayed, is one of the tables of all nodes.
 pub fn exchange_is_of_two_tables()
     ensures between { (shape : TreeShape) (node page : ℕ) (right : ARight) (down up : Option (List ℕ))
-        (sides sides' : ℕ → ℕ → Side) (own own' : ATable) →
-        HasTable sides node own → HasTable sides' node own' →
-        IsOwnChange own own' (AnAbout.Page page) right down → (above above' : ATable) →
-        HasTable sides (parent shape node) above → HasTable sides' (parent shape node) above' →
+        (sides sides' : ℕ → ℕ → Side) (own own' : ATable) (listed : List ℕ) →
+        HasTable sides node (side own) → HasTable sides' node (side own') →
+        IsOwnChange own own' (AnAbout.Page page) right down listed → (above above' : ALayer) →
+        HasTable sides (parent shape node) (layers.side above) → HasTable sides' (parent shape node) (layers.side above') →
         IsAboveChange above above' node (AnAbout.Page page) right up →
         ((p m : ℕ) → m ≢ node → m ≢ parent shape node → sides' p m ≡ sides p m) →
         AreExchangedAt shape node page right down up sides sides' }
     ensures ground { (shape : TreeShape) (node page : ℕ) (right : ARight) (down up : Option (List ℕ))
-        (sides sides' : ℕ → ℕ → Side) (own own' : ATable) →
-        HasTable sides node own → HasTable sides' node own' →
-        IsOwnChange own own' (AnAbout.Page page) right down → parent shape node ≡ 0 →
+        (sides sides' : ℕ → ℕ → Side) (own own' : ATable) (listed : List ℕ) →
+        HasTable sides node (side own) → HasTable sides' node (side own') →
+        IsOwnChange own own' (AnAbout.Page page) right down listed → parent shape node ≡ 0 →
         ((p m : ℕ) → m ≢ node → sides' p m ≡ sides p m) →
         AreExchangedAt shape node page right down up sides sides' }
 {}

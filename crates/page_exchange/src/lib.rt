@@ -1,16 +1,20 @@
-//! A message about a page and its answer: between a node and its parent, and between a node and the ground.
+//! A message about a page and its answer: between a node and its parent, and between a node and the ground. A node is a
+//! layer, or a leaf, on which nothing stands.
 #![tactic(auto)]
 
+mod accessing;
 mod between;
 mod ground;
 mod law;
 mod steps;
+mod table;
 mod wire;
 
 pub use ground::GroundErr;
 pub use law::{
     exchange_is_of_two_tables, ground_tells_its_pages, tables_allow_what_the_trail_does,
 };
+pub use table::Table;
 pub use wire::Wire;
 
 #[cfg(test)]

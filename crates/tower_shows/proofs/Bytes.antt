@@ -22,7 +22,8 @@ use Rattle.page_exchange.specs.Ground.{Tells, base_given, pages_given}
 use Rattle.page_exchange.specs.Steps.{AreSentAt, given_up, up_from}
 use Rattle.page_exchange.proofs.Telling.{told_given}
 use Rattle.tower_shows.specs.Began.{ArePagesOf, AreSame, BeganWith, IsNextIn, IsStepOn, IsTrueTo, ground_shown}
-use Rattle.tower_shows.proofs.Rights.{event_moves}
+use Rattle.tower_shows.proofs.Likes.{copies_like, made, made_kept}
+use Rattle.tower_shows.proofs.Rights.{event_moves, made_rights}
 
 pub bytes_start : (shape : TreeShape) (size pages : ℕ) (opening : List ℕ) (sides : ℕ → ℕ → Side) (told : List (List ℕ)) → IsTree shape → AreBare sides → length opening ≡ pages * size → ArePagesOf size pages opening told → BeganWith shape size pages opening [] sides (Some told)
 bytes_start shape size pages opening sides told tree bare sized are = record {
@@ -100,9 +101,13 @@ module _ (shape : TreeShape) (size pages : ℕ) (opening : List ℕ) (trail : Li
     earlier = λ p place le. shown-earlier shape size opening trail (event ∷ []) p place le;
   }
 
-  copies_after : AreAllCopies shape later (page_shown shape size opening later) new base_after
-  copies_after = event_copies shape pages trail event brings old new true_to.tree true_to.run next.allowed true_to.rights (event_moves shape trail event page step brings old new on sent)
+  copies_made : AreAllCopies shape later (page_shown shape size opening later) (made shape page brings step old new sent) base_after
+  copies_made = event_copies shape pages trail event brings old (made shape page brings step old new sent) true_to.tree true_to.run next.allowed true_to.rights (event_moves shape trail event page step brings old new on sent)
       (page_shown shape size opening trail) (page_shown shape size opening later) (ground_shown shape size opening trail) base_after began.copies moved_bytes
+
+  copies_after : AreAllCopies shape later (page_shown shape size opening later) new base_after
+  copies_after p = copies_like shape ((state_of shape later).column p) (page_shown shape size opening later p) (made shape page brings step old new sent p) (new p) (base_after p) (made_kept shape page brings step old new sent p)
+      (made_rights shape size pages trail event page step brings old new true_to next on sent p) (copies_made p)
 
   pub began_after : IsFilled shape size opening trail event → BeganWith shape size pages opening later new (pages_given page (given_up shape step (old page)) told)
   began_after filled = record {

@@ -15,7 +15,7 @@ use Rattle.tower_core.proofs.Frames.{run_coherent}
 use Rattle.tower_core.proofs.Legals.{run_snoc, state_of-snoc}
 use Rattle.tower_core.proofs.Trails.{on_each_page, trail_len}
 use Rattle.tower_sides.specs.Side.{Side, brought}
-use Rattle.tower_sides.specs.Sent.{down_for, page_above}
+use Rattle.tower_sides.specs.Sent.{down_for, granted, page_above}
 use Rattle.tower_pages.specs.Granted.{is_grant_of, is_granted_in}
 use Rattle.tower_pages.proofs.Grants.{AllNothing, never_granted}
 use Rattle.tower_pages.proofs.Newest.{page_at-newest}
@@ -24,6 +24,10 @@ use Rattle.tower_shows.specs.Began.{BeganWith, IsNextIn, IsTrueTo, ground_shown}
 
 write_nothing : Right.Write ≢ Right.Nothing
 write_nothing x = cc
+
+granted_some : (write : Bool) → granted write ≢ Right.Nothing
+granted_some true = write_nothing
+granted_some false = λ x. cc
 
 -- who grants has a right
 pub granted_above : (shape : TreeShape) (col : Column) (node : ℕ) (write : Bool) → MayStep shape col (Grants node write) → col.right (parent shape node) ≢ Right.Nothing
@@ -116,7 +120,9 @@ module _ (shape : TreeShape) (size pages : ℕ) (opening : List ℕ) (trail : Li
       let right : (old page node).right ≡ Right.Nothing = (true_to.rights page).right node upper ∙ none in
       let down : sent.brings ≡ down_for (old page node).right (page_above shape (old page) (ground_shown shape size opening trail page) node) = sent.brought (ground_shown shape size opening trail) [] began.is_told began.ground in
       let whole : sent.brings ≡ Some (page_above shape (old page) (ground_shown shape size opening trail page) node) = down ∙ ap (λ (r : Right). down_for r (page_above shape (old page) (ground_shown shape size opening trail page) node)) right in
-      ap (λ (s : Side). s.copy) sent.sent.here.own
+      let some : (sent.sent.to node).right ≢ Right.Nothing = λ x. granted_some write (sym (ap (λ (s : Side). s.right) sent.sent.here.own) ∙ x) in
+      ap (λ (s : Side). s.copy) ((sent.sent.kept node).whole some)
+      ∙ ap (λ (s : Side). s.copy) sent.sent.here.own
       ∙ ap (λ (b : Option (List ℕ)). brought b (old page node).copy) whole
       ∙ above_is
 

@@ -1,3 +1,4 @@
+pub mod Likes
 pub mod Rights
 pub mod Bytes
 pub mod Firsts

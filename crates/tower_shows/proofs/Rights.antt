@@ -5,14 +5,15 @@ use Rattle.hist_plain.specs.declared.event.Event.{Event}
 use Rattle.tower_core.specs.declared.right.Right.{Right}
 use Rattle.tower_core.specs.declared.step.Step.{Step}
 use Rattle.tower_core.specs.TreeShape.{TreeShape, IsTree}
-use Rattle.tower_core.specs.Trail.{start}
+use Rattle.tower_core.specs.Trail.{start, state_of}
 use Rattle.tower_core.specs.Legal.{FitsFile}
 use Rattle.tower_core.proofs.Legals.{run_snoc}
 use Rattle.tower_sides.specs.Side.{Side}
-use Rattle.tower_sides.specs.Tables.{AreBare, AreMoved}
+use Rattle.tower_sides.specs.Tables.{AreAllRights, AreBare, AreMoved}
 use Rattle.tower_sides.proofs.TrailLaws.{event_rights, moves_page, start_rights}
 use Rattle.page_exchange.specs.Steps.{AreSentAt}
 use Rattle.tower_shows.specs.Began.{AreSame, IsNextIn, IsStepOn, IsTrueTo}
+use Rattle.tower_shows.proofs.Likes.{made, made_here, made_kept, made_others, rights_like}
 
 pub rights_start : (shape : TreeShape) (size pages : ℕ) (sides : ℕ → ℕ → Side) → IsTree shape → AreBare sides → IsTrueTo shape size pages [] sides
 rights_start shape size pages sides tree bare = record { tree = tree; run = tt; fits = tt; rights = start_rights shape sides bare }
@@ -21,9 +22,17 @@ all_append : {A : Type 0} (P : A → Type 0) (xs ys : List A) → AllByRecursion
 all_append P [] ys a b = b
 all_append P (x ∷ xs) ys a b = (a.0, all_append P xs ys a.1 b)
 
--- the tables after an event are moved by its step on its page
-pub event_moves : (shape : TreeShape) (trail : List Event) (event : Event) (page : ℕ) (step : Step) (brings : Option (List ℕ)) (old new : ℕ → ℕ → Side) → IsStepOn shape trail event page step → AreSentAt shape page brings step old new → AreMoved shape trail event brings old new
-event_moves shape trail event page step brings old new on sent = moves_page shape trail event brings old new page step on sent.here sent.others
+-- the tables as an event makes them are moved by its step on its page
+pub event_moves : (shape : TreeShape) (trail : List Event) (event : Event) (page : ℕ) (step : Step) (brings : Option (List ℕ)) (old new : ℕ → ℕ → Side) → IsStepOn shape trail event page step → (sent : AreSentAt shape page brings step old new)
+    → AreMoved shape trail event brings old (made shape page brings step old new sent)
+event_moves shape trail event page step brings old new on sent =
+    moves_page shape trail event brings old (made shape page brings step old new sent) page step on (made_here shape page brings step old new sent) (made_others shape page brings step old new sent)
+
+-- and so are their rights
+pub made_rights : (shape : TreeShape) (size pages : ℕ) (trail : List Event) (event : Event) (page : ℕ) (step : Step) (brings : Option (List ℕ)) (old new : ℕ → ℕ → Side) →
+    IsTrueTo shape size pages trail old → IsNextIn shape size pages trail event → IsStepOn shape trail event page step → (sent : AreSentAt shape page brings step old new) → AreAllRights shape (trail ++ event ∷ []) (made shape page brings step old new sent)
+made_rights shape size pages trail event page step brings old new true_to next on sent =
+    event_rights shape pages trail event brings old (made shape page brings step old new sent) true_to.tree true_to.run next.allowed true_to.rights (event_moves shape trail event page step brings old new on sent)
 
 pub rights_step : (shape : TreeShape) (size pages : ℕ) (trail : List Event) (event : Event) (page : ℕ) (step : Step) (brings : Option (List ℕ)) (old new : ℕ → ℕ → Side) →
     IsTrueTo shape size pages trail old → IsNextIn shape size pages trail event → IsStepOn shape trail event page step → AreSentAt shape page brings step old new → IsTrueTo shape size pages (trail ++ event ∷ []) new
@@ -31,7 +40,8 @@ rights_step shape size pages trail event page step brings old new true_to next o
   tree = true_to.tree;
   run = run_snoc shape pages start trail event true_to.run next.allowed;
   fits = all_append (FitsFile size pages) trail (event ∷ []) true_to.fits (next.fits, tt);
-  rights = event_rights shape pages trail event brings old new true_to.tree true_to.run next.allowed true_to.rights (event_moves shape trail event page step brings old new on sent);
+  rights = λ p. rights_like shape ((state_of shape (trail ++ event ∷ [])).column p) (made shape page brings step old new sent p) (new p) (made_kept shape page brings step old new sent p)
+      (made_rights shape size pages trail event page step brings old new true_to next on sent p);
 }
 
 -- tables that differ nowhere

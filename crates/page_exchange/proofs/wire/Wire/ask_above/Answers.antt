@@ -9,8 +9,8 @@ pub sent-answer-requires : goal.sent-answer-requires
 sent-answer-requires c =
     (_, exchange.answer_sent c.args.self.now.ops c.args.own.now c.args.above.now c.args.node c.args.page c.args.what c.ask.new.buf.bytes c.sent-question.result c.requires.pair c.requires.may c.requires.serves c.requires.known c.ask.ensures.sent c.sent-question.ensures c.serve.new.buf.bytes c.serve.ensures.sent)
 
-pub take-requires-clause-allowed : goal.take-requires-clause-allowed
-take-requires-clause-allowed c =
+pub take-requires : goal.take-requires
+take-requires c =
     exchange.taken c.args.self.now.ops c.args.own.now c.args.above.now c.args.node c.args.page c.args.what c.ask.new.buf.bytes c.sent-question.result c.requires.pair c.requires.may c.requires.serves c.requires.known c.ask.ensures.sent c.sent-question.ensures c.serve.new.buf.bytes c.serve.ensures.sent c.sent-answer.result c.sent-answer.ensures
 
 pub returns-in_err-take-clause-memory : goal.returns-in_err-take-clause-memory
@@ -23,7 +23,7 @@ finish-requires-clause-allowed c =
 
 pub returns-clause-own : goal.returns-clause-own
 returns-clause-own c =
-    exchange.own_made c.args.self.now.ops c.args.own.now c.args.above.now c.args.node c.args.page c.args.what c.ask.new.buf.bytes c.sent-question.result c.requires.pair c.requires.may c.requires.serves c.requires.known c.ask.ensures.sent c.sent-question.ensures c.serve.new.buf.bytes c.serve.ensures.sent c.sent-answer.result c.sent-answer.ensures c.take.new.node (c.in_ok-take.ensures.ok)
+    exchange.own_made c.args.self.now.ops c.args.own.now c.args.above.now c.args.node c.args.page c.args.what c.ask.new.buf.bytes c.sent-question.result c.requires.pair c.requires.may c.requires.serves c.requires.known c.ask.ensures.sent c.sent-question.ensures c.serve.new.buf.bytes c.serve.ensures.sent c.sent-answer.result c.sent-answer.ensures c.take.new.self (c.in_ok-take.ensures.ok)
 
 pub returns-clause-above : goal.returns-clause-above
 returns-clause-above c =

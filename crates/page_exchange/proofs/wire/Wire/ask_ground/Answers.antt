@@ -11,8 +11,8 @@ pub returns-in_err-write_for-clause-call : goal.returns-in_err-write_for-clause-
 returns-in_err-write_for-clause-call g c =
     grounds.asked_once c.args.self.now.ops c.args.own.now c.args.page c.args.what c.ask.new.buf.bytes c.sent-question.result c.requires.may c.ask.ensures.sent c.sent-question.ensures _ _ _ c.in_ok-read_for.ensures.call c.in_ok-read_for.ensures.idle c.in_err-write_for.ensures.call c.in_err-write_for.ensures.idle
 
-pub take-requires-clause-allowed : goal.take-requires-clause-allowed
-take-requires-clause-allowed g c =
+pub take-requires : goal.take-requires
+take-requires g c =
     grounds.ground_taken c.args.self.now.ops c.args.own.now c.args.page c.args.what c.ask.new.buf.bytes c.sent-question.result c.requires.may c.ask.ensures.sent c.sent-question.ensures c.read_for.new.scratch c.answer_of_ground.new.buf.bytes c.sent-answer.result c.answer_of_ground.ensures.sent c.sent-answer.ensures
 
 pub returns-in_err-take-clause-why : goal.returns-in_err-take-clause-why
@@ -29,7 +29,7 @@ returns-in_err-take-clause-call g c =
 
 pub returns-clause-own : goal.returns-clause-own
 returns-clause-own g c =
-    grounds.ground_answered c.args.self.now.ops c.args.own.now c.args.page c.args.what c.ask.new.buf.bytes c.sent-question.result c.requires.may c.ask.ensures.sent c.sent-question.ensures c.read_for.new.scratch c.answer_of_ground.new.buf.bytes c.sent-answer.result c.answer_of_ground.ensures.sent c.sent-answer.ensures _ c.take.new.node c.in_ok-read_for.ensures.size c.in_ok-read_for.ensures.ok c.in_ok-take.ensures.ok
+    grounds.ground_answered c.args.self.now.ops c.args.own.now c.args.page c.args.what c.ask.new.buf.bytes c.sent-question.result c.requires.may c.ask.ensures.sent c.sent-question.ensures c.read_for.new.scratch c.answer_of_ground.new.buf.bytes c.sent-answer.result c.answer_of_ground.ensures.sent c.sent-answer.ensures _ c.take.new.self c.in_ok-read_for.ensures.size c.in_ok-read_for.ensures.ok c.in_ok-take.ensures.ok
 
 pub returns-clause-ground : goal.returns-clause-ground
 returns-clause-ground g c =

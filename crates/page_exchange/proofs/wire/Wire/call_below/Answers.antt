@@ -9,16 +9,16 @@ pub sent-reply-requires : goal.sent-reply-requires
 sent-reply-requires c =
     (_, exchange.reply_sent c.args.self.now.ops c.args.own.now c.args.above.now c.args.node c.args.page c.args.what c.call.new.buf.bytes c.sent-order.result c.requires.pair c.requires.may c.requires.obeys c.call.ensures.sent c.sent-order.ensures c.obey.new.buf.bytes c.obey.ensures.sent)
 
-pub take-requires-clause-allowed : goal.take-requires-clause-allowed
-take-requires-clause-allowed c =
+pub hear-requires-clause-allowed : goal.hear-requires-clause-allowed
+hear-requires-clause-allowed c =
     exchange.hears c.args.self.now.ops c.args.own.now c.args.above.now c.args.node c.args.page c.args.what c.call.new.buf.bytes c.sent-order.result c.requires.pair c.requires.may c.requires.obeys c.call.ensures.sent c.sent-order.ensures c.obey.new.buf.bytes c.obey.ensures.sent c.sent-reply.result c.sent-reply.ensures
 
 pub unreachable-requires : goal.unreachable-requires
 unreachable-requires c =
     exchange.has_copy c.args.self.now.ops c.args.own.now c.args.above.now c.args.node c.args.page c.args.what c.call.new.buf.bytes c.sent-order.result c.requires.pair c.requires.may c.requires.obeys c.call.ensures.sent c.sent-order.ensures c.obey.new.buf.bytes c.obey.ensures.sent c.sent-reply.result c.sent-reply.ensures c.in-Err.ensures.memory
 
-pub finish-requires-clause-allowed : goal.finish-requires-clause-allowed
-finish-requires-clause-allowed c =
+pub finish-requires : goal.finish-requires
+finish-requires c =
     exchange.obeyed c.args.self.now.ops c.args.own.now c.args.above.now c.args.node c.args.page c.args.what c.call.new.buf.bytes c.sent-order.result c.requires.pair c.requires.may c.requires.obeys c.call.ensures.sent c.sent-order.ensures
 
 pub returns-clause-own : goal.returns-clause-own
@@ -27,4 +27,4 @@ returns-clause-own c =
 
 pub returns-clause-above : goal.returns-clause-above
 returns-clause-above c =
-    exchange.caller_made c.args.self.now.ops c.args.own.now c.args.above.now c.args.node c.args.page c.args.what c.call.new.buf.bytes c.sent-order.result c.requires.pair c.requires.may c.requires.obeys c.call.ensures.sent c.sent-order.ensures c.obey.new.buf.bytes c.obey.ensures.sent c.sent-reply.result c.sent-reply.ensures c.take.new.node c.in-Ok.ensures.ok
+    exchange.caller_made c.args.self.now.ops c.args.own.now c.args.above.now c.args.node c.args.page c.args.what c.call.new.buf.bytes c.sent-order.result c.requires.pair c.requires.may c.requires.obeys c.call.ensures.sent c.sent-order.ensures c.obey.new.buf.bytes c.obey.ensures.sent c.sent-reply.result c.sent-reply.ensures c.hear.new.node c.in-Ok.ensures.ok

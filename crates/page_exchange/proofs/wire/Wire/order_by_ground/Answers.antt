@@ -14,8 +14,8 @@ pub write_for-requires-clause-size : goal.write_for-requires-clause-size
 write_for-requires-clause-size g c κs within =
     λ full. grounds.reply_is_page c.args.self.now.ops c.args.own.now c.args.page c.args.what c.order_of_ground.new.buf.bytes c.sent-order.result c.requires.page c.requires.obeys c.order_of_ground.ensures.sent c.sent-order.ensures c.obey.new.buf.bytes c.obey.ensures.sent c.sent-reply.result c.sent-reply.ensures full ∙ sym c.requires.under.size
 
-pub finish-requires-clause-allowed : goal.finish-requires-clause-allowed
-finish-requires-clause-allowed g c =
+pub finish-requires : goal.finish-requires
+finish-requires g c =
     grounds.ground_obeyed c.args.self.now.ops c.args.own.now c.args.page c.args.what c.order_of_ground.new.buf.bytes c.sent-order.result c.requires.page c.requires.obeys c.order_of_ground.ensures.sent c.sent-order.ensures
 
 pub returns-clause-own : goal.returns-clause-own
