@@ -1,4 +1,4 @@
-mod Owns
+pub mod Owns
 pub mod Frames
 pub mod Rooms
 pub mod Exchanges

@@ -152,7 +152,7 @@ layer_pages old new f About.Channel right down to brings c = c
 
 layer_changed : (old new : Node) (f : FrameSeen) (about : About) (right : Right) (down : Option (List ℕ)) (listed : List ℕ) → about_of old.file f ≡ Some about → right_of f.head.access ≡ right → bytes_down old.file.page_size f ≡ down → layers.IsChange old new None f → IsOwnChange (Layer old) (Layer new) about right down listed
 layer_changed old new f about right down listed is to brings c = record {
-  same = record { file = c.same.file; children = c.same.children; frames = refl };
+  same = record { kind = refl; file = c.same.file; children = c.same.children; frames = refl };
   pages = layer_pages old new f about right down to brings (subst (layers.ChangesAbout old new None f) is c.pages);
   uses = λ some. absurd (some refl);
 }
@@ -164,7 +164,7 @@ leaf_page old new f page right down moves listed to brings lists c =
     let made : after_pager old.file.page_size f (leaves.side old page) ≡ own_after right down (leaves.side old page) =
         ap (λ (r : Right). own_after r (bytes_down old.file.page_size f) (leaves.side old page)) to ∙ ap (λ (x : Option (List ℕ)). own_after right x (leaves.side old page)) brings in
     record {
-      same = record { file = c.same.file; children = refl; frames = c.same.frames };
+      same = record { kind = refl; file = c.same.file; children = refl; frames = c.same.frames };
       pages = record {
         here = subst (IsLike (own_after right down (leaves.side old page))) (sym (c.here ∙ ap framed made)) (framed_like right (own_after right down (leaves.side old page)) refl (λ child. leaf_kids old page child));
         others = c.others;
@@ -174,7 +174,7 @@ leaf_page old new f page right down moves listed to brings lists c =
 
 leaf_channel : (old new : LeafTable) (right : Right) (down : Option (List ℕ)) → leaves.IsLeft old new → IsOwnChange (Leaf old) (Leaf new) About.Channel right down (leaves.uses_of old)
 leaf_channel old new right down left = record {
-  same = record { file = left.same.file; children = refl; frames = left.same.frames };
+  same = record { kind = refl; file = left.same.file; children = refl; frames = left.same.frames };
   pages = left.sides;
   uses = λ some. left.uses;
 }

@@ -1,5 +1,5 @@
 -- A node's own table, that of a layer or of a leaf: what contracts see of it, what it allows, and what a frame makes of it.
-use Rattle.std.specs.Prelude.{◌≡◌, ◌≢◌, ℕ, None, List, []}
+use Rattle.std.specs.Prelude.{◌≡◌, ◌≢◌, ℕ, Bool, true, false, None, List, []}
 use Rattle.tower_core.specs.declared.right.Right.{Right}
 use Rattle.tower_sides.specs.Side.{Side, written}
 use Rattle.pager_channel.specs.declared.numbers.Ops.{Ops}
@@ -26,6 +26,10 @@ abbrev pub file_of : Table → PagedFile
 file_of (Layer node) = layers.file_of node
 file_of (Leaf leaf) = leaves.file_of leaf
 
+abbrev pub is_layer : Table → Bool
+is_layer (Layer node) = true
+is_layer (Leaf leaf) = false
+
 abbrev pub children_of : Table → ℕ
 children_of (Layer node) = node.children
 children_of (Leaf leaf) = 0
@@ -47,6 +51,7 @@ uses_of (Leaf leaf) = leaves.uses_of leaf
 
 -- what no call changes
 pub record IsSameTable (old new : Table) : Type 0 where
+  pub kind : is_layer new ≡ is_layer old
   pub file : file_of new ≡ file_of old
   pub children : children_of new ≡ children_of old
   pub frames : frames_of new ≡ frames_of old

@@ -9,10 +9,11 @@ use crate::pair::{ask_in, call_in};
 use crate::starting::fresh_nodes;
 use coherency_layer::{Asked, Called, Node, PagedFile};
 use disk_layer::{Ground, StoreFault};
-use page_exchange::{GroundErr, Wire};
+use page_exchange::{GroundErr, Table, Wire};
 use pager_channel::Ops;
 use std::alloc::{AllocError, Global};
 use tower_core::{Right, Tree};
+use vmm_cache::Leaf;
 
 /// The tables of a file's nodes, by the nodes' numbers, over the tree; and the room for the frames between them. The
 /// first is the ground's: it is empty, and nobody reads it.
@@ -20,7 +21,7 @@ use tower_core::{Right, Tree};
 pub struct Tables {
     pub(crate) tree: Tree,
     pub(crate) file: PagedFile,
-    pub(crate) nodes: Vec<Node>,
+    pub(crate) nodes: Vec<Table>,
     pub(crate) wire: Wire,
     pub(crate) scratch: Vec<u8>,
     ghost paged: { IsPagedFile file },
@@ -29,28 +30,35 @@ pub struct Tables {
 }
 
 impl Tables {
-    ghost use Rattle.std.specs.Prelude.{◌≡◌, ◌≢◌, ◌+◌, ◌<◌, ◌≤◌, ℕ, IfErr, IfOk, List, OnErr, OnOk, Option, drop, length, replicate, take, true};
+    ghost use Rattle.std.specs.Prelude.{◌≡◌, ◌≢◌, ◌+◌, ◌<◌, ◌≤◌, ℕ, [], IfErr, IfOk, List, OnErr, OnOk, Option, drop, length, replicate, take, true};
     ghost use Rattle.hist_plain.specs.Plain.{overwritten};
     ghost use Rattle.disk_layer.specs.Seen.{IsFault};
-    ghost use Rattle.tower_core.specs.TreeShape.{IsTree, IsUpper, parent};
+    ghost use Rattle.tower_core.specs.TreeShape.{IsTree, IsUpper, frames_of, parent};
     ghost use Rattle.tower_core.specs.declared.step.Step.TheVariants.{Writes};
     ghost use Rattle.tower_sides.specs.Tables.{AreBare};
     ghost use Rattle.page_exchange.specs.declared.ground.GroundErr.{GroundErr as AnErr};
     ghost use Rattle.page_messages.specs.declared.kinds.Asked.{Asked as AQuestion};
     ghost use Rattle.page_messages.specs.declared.kinds.Called.{Called as AnOrder};
-    ghost use Rattle.coherency_layer.specs.Node.{side, file_of};
+    ghost use Rattle.coherency_layer.specs.Node as layers;
+    ghost use Rattle.vmm_cache.specs.Leaf as leaves;
+    ghost use Rattle.vmm_cache.specs.Uses.{oldest};
+    ghost use Rattle.page_exchange.specs.Table.{side, file_of, uses_of};
+    ghost use Rattle.page_exchange.specs.Exchange.{may_be_full};
+    ghost use Rattle.tower_core.specs.declared.step.Step.TheVariants.{Reads};
     ghost use Rattle.page_exchange.specs.Allowed.{AllowAsking, AllowCalling, AllowsReading, AllowsWriting};
     ghost use Rattle.page_exchange.specs.Ground.{IsCalmCall, IsOneCall, UnlessFault, pages_given};
     ghost use Rattle.page_exchange.specs.Steps.{AreSentAt, IsSent, given_up, step_asked, step_called};
     ghost use Rattle.tower_tables.specs.Listed.{LacksRoom};
-    ghost use Rattle.tower_tables.specs.Tables.{tree_of, paged_of, sides, AreLeft, IsCause, IsSameFile, IsUnderFile};
+    ghost use Rattle.tower_tables.specs.Tables.{tree_of, paged_of, sides, uses, AreLeft, Follow, IsCause, IsSameFile, IsUnderFile, MayAskFrames};
 
     /// The tables of the nodes of a tree for a file, of which nobody has anything. An error is want of memory.
     pub fn new(alloc: Global, tree: Tree, file: PagedFile, ops: Ops) -> Result<Tables, AllocError>
         requires paged { IsPagedFile file }
+        requires frames { (node : ℕ) → frames_of tree node ≤ 1024 }
         ensures tree { IfOk result (λ t. tree_of t ≡ tree) }
         ensures file { IfOk result (λ t. paged_of t ≡ file) }
         ensures bare { IfOk result (λ t. AreBare (sides t)) }
+        ensures unused { IfOk result (λ t. (node : ℕ) → uses t node ≡ []) }
     {
         let nodes = fresh_nodes(alloc, &tree, file)?;
         let wire = Wire::new(alloc, ops)?;
@@ -83,12 +91,48 @@ impl Tables {
     }
 
     /// A node's own table.
-    pub fn node(&self, node: u32) -> &Node
+    pub fn table(&self, node: u32) -> &Table
         requires { IsUpper (tree_of self.now) node }
         ensures file { file_of result.now ≡ paged_of self.now }
         ensures sides { (page : ℕ) → side result.now page ≡ sides self.now page node }
+        ensures uses { uses_of result.now ≡ uses self.now node }
     {
         &self.nodes[node as usize]
+    }
+
+    /// A layer's own table.
+    pub fn node(&self, node: u32) -> &Node
+        requires upper { IsUpper (tree_of self.now) node }
+        requires layer { frames_of (tree_of self.now) node ≡ 0 }
+        ensures file { layers.file_of result.now ≡ paged_of self.now }
+        ensures sides { (page : ℕ) → layers.side result.now page ≡ sides self.now page node }
+    {
+        match &self.nodes[node as usize] {
+            Table::Layer { node } => node,
+            Table::Leaf { .. } => unreachable!(),
+        }
+    }
+
+    /// A leaf's own table.
+    pub fn leaf(&self, node: u32) -> &Leaf
+        requires upper { IsUpper (tree_of self.now) node }
+        requires leaf { frames_of (tree_of self.now) node ≢ 0 }
+        ensures file { leaves.file_of result.now ≡ paged_of self.now }
+        ensures sides { (page : ℕ) → leaves.side result.now page ≡ sides self.now page node }
+        ensures uses { leaves.uses_of result.now ≡ uses self.now node }
+    {
+        match &self.nodes[node as usize] {
+            Table::Leaf { leaf } => leaf,
+            Table::Layer { .. } => unreachable!(),
+        }
+    }
+
+    /// The page that goes out of a leaf first, by its own table. None if it holds none, or if the node is a layer.
+    pub fn victim(&self, node: u32) -> Option<u32>
+        requires { IsUpper (tree_of self.now) node }
+        ensures { result ≡ oldest (uses self.now node) }
+    {
+        self.table(node).victim()
     }
 
     /// What a node may do with a page.
@@ -97,7 +141,7 @@ impl Tables {
         requires page { page < (paged_of self.now).pages }
         ensures { result ≡ (sides self.now page node).right }
     {
-        self.node(node).right(page)
+        self.table(node).right(page)
     }
 
     /// A node whose parent is the ground asks.
@@ -112,10 +156,11 @@ impl Tables {
         requires upper { IsUpper (tree_of self.old) node }
         requires on_ground { parent (tree_of self.old) node ≡ 0 }
         requires page { page < (paged_of self.old).pages }
-        requires no_leaf { what ≢ AQuestion.PageOut }
         requires about_page { what ≢ AQuestion.Done }
-        requires may { AllowAsking (tree_of self.old) (sides self.old page) node true what }
+        requires may { AllowAsking (tree_of self.old) (sides self.old page) node (may_be_full (sides self.old page node) what) what }
+        requires frames { MayAskFrames self.old node what page }
         ensures sent { OnOk result (IsSent (tree_of self.old) (G.seen ground.old).pages page (step_asked what node) (sides self.old) (sides self.new)) }
+        ensures follows { OnOk result (Follow page (step_asked what node) self.old self.new) }
         ensures ground { OnOk result ((G.seen ground.new).pages ≡
             pages_given page (given_up (tree_of self.old) (step_asked what node) (sides self.old page)) (G.seen ground.old).pages) }
         ensures cause { IfErr result (IsCause (G.seen ground.old) (G.seen ground.new) (sides self.old page node)) }
@@ -135,11 +180,12 @@ impl Tables {
         requires upper { IsUpper (tree_of self.old) node }
         requires above { IsUpper (tree_of self.old) (parent (tree_of self.old) node) }
         requires page { page < (paged_of self.old).pages }
-        requires no_leaf { what ≢ AQuestion.PageOut }
         requires about_page { what ≢ AQuestion.Done }
-        requires may { AllowAsking (tree_of self.old) (sides self.old page) node true what }
+        requires may { AllowAsking (tree_of self.old) (sides self.old page) node (may_be_full (sides self.old page node) what) what }
+        requires frames { MayAskFrames self.old node what page }
         requires known { (sides self.old page (parent (tree_of self.old) node)).kids node ≡ (sides self.old page node).right }
         ensures sent { (told : Option (List (List ℕ))) → OnOk result (IsSent (tree_of self.old) told page (step_asked what node) (sides self.old) (sides self.new)) }
+        ensures follows { OnOk result (Follow page (step_asked what node) self.old self.new) }
         ensures ground { given_up (tree_of self.old) (step_asked what node) (sides self.old page) ≡ None }
         ensures memory { IfErr result (λ e. e ≡ AnErr.Memory) }
         ensures cause { OnErr result (LacksRoom (sides self.old page node)) }
@@ -153,6 +199,7 @@ impl Tables {
             node,
             what,
             page,
+            self.file.pages,
         ) {
             Ok(()) => Ok(()),
             Err(AllocError) => Err(GroundErr::Memory),
@@ -172,12 +219,13 @@ impl Tables {
         requires under { IsUnderFile (G.seen ground.old) (paged_of self.old) }
         requires upper { IsUpper (tree_of self.old) node }
         requires page { page < (paged_of self.old).pages }
-        requires no_leaf { what ≢ AQuestion.PageOut }
         requires about_page { what ≢ AQuestion.Done }
-        requires may { AllowAsking (tree_of self.old) (sides self.old page) node true what }
+        requires may { AllowAsking (tree_of self.old) (sides self.old page) node (may_be_full (sides self.old page node) what) what }
+        requires frames { MayAskFrames self.old node what page }
         requires known { IsUpper (tree_of self.old) (parent (tree_of self.old) node) →
             (sides self.old page (parent (tree_of self.old) node)).kids node ≡ (sides self.old page node).right }
         ensures sent { OnOk result (IsSent (tree_of self.old) (G.seen ground.old).pages page (step_asked what node) (sides self.old) (sides self.new)) }
+        ensures follows { OnOk result (Follow page (step_asked what node) self.old self.new) }
         ensures ground { OnOk result ((G.seen ground.new).pages ≡
             pages_given page (given_up (tree_of self.old) (step_asked what node) (sides self.old page)) (G.seen ground.old).pages) }
         ensures cause { IfErr result (IsCause (G.seen ground.old) (G.seen ground.new) (sides self.old page node)) }
@@ -209,6 +257,7 @@ impl Tables {
         requires about_page { what ≢ AnOrder.Destroy }
         requires may { AllowCalling (tree_of self.old) (sides self.old page) node what }
         ensures sent { OnOk result (IsSent (tree_of self.old) (G.seen ground.old).pages page (step_called what node) (sides self.old) (sides self.new)) }
+        ensures follows { OnOk result (Follow page (step_called what node) self.old self.new) }
         ensures ground { OnOk result ((G.seen ground.new).pages ≡
             pages_given page (given_up (tree_of self.old) (step_called what node) (sides self.old page)) (G.seen ground.old).pages) }
         ensures fault { IfErr result (IsFault (G.seen ground.old) (G.seen ground.new)) }
@@ -230,6 +279,7 @@ impl Tables {
         requires about_page { what ≢ AnOrder.Destroy }
         requires may { AllowCalling (tree_of self.old) (sides self.old page) node what }
         ensures sent { (told : Option (List (List ℕ))) → IsSent (tree_of self.old) told page (step_called what node) (sides self.old) (sides self.new) }
+        ensures follows { Follow page (step_called what node) self.old self.new }
         ensures ground { given_up (tree_of self.old) (step_called what node) (sides self.old page) ≡ None }
         ensures same { IsSameFile self.old self.new }
     {
@@ -240,6 +290,7 @@ impl Tables {
             node,
             what,
             page,
+            self.file.pages,
         )
     }
 
@@ -258,6 +309,7 @@ impl Tables {
         requires about_page { what ≢ AnOrder.Destroy }
         requires may { AllowCalling (tree_of self.old) (sides self.old page) node what }
         ensures sent { OnOk result (IsSent (tree_of self.old) (G.seen ground.old).pages page (step_called what node) (sides self.old) (sides self.new)) }
+        ensures follows { OnOk result (Follow page (step_called what node) self.old self.new) }
         ensures ground { OnOk result ((G.seen ground.new).pages ≡
             pages_given page (given_up (tree_of self.old) (step_called what node) (sides self.old page)) (G.seen ground.old).pages) }
         ensures fault { IfErr result (IsFault (G.seen ground.old) (G.seen ground.new)) }
@@ -284,7 +336,7 @@ impl Tables {
         ensures bytes { result.now ≡ take len (drop off (sides self.now page node).copy) }
         ensures len { length result.now ≡ len }
     {
-        self.node(node).lend(page, off, len)
+        self.table(node).lend(page, off, len)
     }
 
     /// Lends a node's whole copy of a page.
@@ -298,25 +350,40 @@ impl Tables {
         self.lend(node, page, 0, self.file.page_size)
     }
 
-    /// A node writes bytes to its copy of a page.
+    /// A leaf that read a page used it. It takes no memory.
+    pub fn touch(&mut self, node: u32, page: u32)
+        requires upper { IsUpper (tree_of self.old) node }
+        requires page { page < (paged_of self.old).pages }
+        requires may { AllowsReading (sides self.old page node) }
+        ensures sides { (p m : ℕ) → sides self.new p m ≡ sides self.old p m }
+        ensures follows { Follow page (Reads node) self.old self.new }
+        ensures same { IsSameFile self.old self.new }
+    {
+        let own = &mut self.nodes[node as usize];
+        own.touch(page);
+    }
+
+    /// A node writes bytes to its copy of a page. It is a use of the page by a leaf.
     pub fn change(&mut self, node: u32, page: u32, off: u32, bytes: &[u8])
         requires upper { IsUpper (tree_of self.old) node }
         requires page { page < (paged_of self.old).pages }
         requires may { AllowsWriting (sides self.old page node) }
         requires range { off + length bytes.now ≤ (paged_of self.old).page_size }
         ensures written { AreSentAt (tree_of self.old) page (Some (overwritten (sides self.old page node).copy off bytes.now)) (Writes node) (sides self.old) (sides self.new) }
+        ensures follows { Follow page (Writes node) self.old self.new }
         ensures same { IsSameFile self.old self.new }
     {
         let own = &mut self.nodes[node as usize];
         own.change(page, off, bytes);
     }
 
-    /// A node makes its copy of a page zeros.
+    /// A node makes its copy of a page zeros. It is a use of the page by a leaf.
     pub fn blank(&mut self, node: u32, page: u32)
         requires upper { IsUpper (tree_of self.old) node }
         requires page { page < (paged_of self.old).pages }
         requires may { AllowsWriting (sides self.old page node) }
         ensures written { AreSentAt (tree_of self.old) page (Some (replicate (paged_of self.old).page_size 0)) (Writes node) (sides self.old) (sides self.new) }
+        ensures follows { Follow page (Writes node) self.old self.new }
         ensures same { IsSameFile self.old self.new }
     {
         let own = &mut self.nodes[node as usize];
