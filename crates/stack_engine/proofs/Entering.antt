@@ -1,5 +1,5 @@
 -- An engine with one thing more in its log: what holds of it still.
-use Rattle.std.proofs.Common.{◌≡◌, ◌⊎◌, inl, inr, ℕ, ◌+◌, ◌<◌, ◌≤◌, ◌||◌, ◌==◌, Bool, true, false, cond, nat_lt, List, [], ◌∷◌, ◌++◌, length, take, Option, Some, None, IfSome, IsSome, refl, sym, ap, subst, ◌∙◌, arith, length-append}
+use Rattle.std.proofs.Common.{◌≡◌, ◌≢◌, ◌⊎◌, inl, inr, ℕ, ◌+◌, ◌<◌, ◌≤◌, ◌||◌, ◌==◌, Bool, true, false, cond, nat_lt, List, [], ◌∷◌, ◌++◌, length, take, Option, Some, None, IfSome, IsSome, refl, sym, ap, subst, ◌∙◌, arith, length-append}
 use Rattle.std.specs.Prelude.{slice_get, slice_index_or, Contains}
 use Rattle.std.proofs.lemmas.List.{append-nil, take-append-le, take_all}
 use Rattle.std.proofs.lemmas.Bool.Decides.{nat_tests, eqb_tells}
@@ -33,7 +33,8 @@ use Rattle.tower_shows.specs.Since.{AreSince, GroundIsSince}
 use Rattle.tower_shows.proofs.Rights.{rights_same}
 use Rattle.tower_shows.proofs.Bytes.{bytes_same}
 use Rattle.tower_shows.proofs.Stays.{ground_stays, told_later, told_stays}
-use Rattle.stack_engine.specs.Engine.{AreGranted, EngineSeen, IsNext, IsSheetOf, IsSound, NotesRise, events_in, file_in, log_in, sides_in, state_in, tree_in}
+use Rattle.vmm_cache.specs.Used.{AreUses}
+use Rattle.stack_engine.specs.Engine.{AreGranted, EngineSeen, IsNext, IsSheetOf, IsSound, NotesRise, events_in, file_in, log_in, sides_in, state_in, tree_in, uses_in}
 use Rattle.stack_engine.specs.Opened.{AreAnswers, IsOf, IsSynced, KeepsPagesOf, KeepsSince, from_after, last_from}
 use Rattle.stack_engine.proofs.Logs.{at-end, at-last, counts_of-append, counts_of-entered, entries_of-entered, granted-entered, kept-entered, last_from-entered, length-entries_of, not-kept, numbered-entered, rises-later, rises-more, trail_of-entered}
 
@@ -114,12 +115,14 @@ module _ (old new : EngineSeen) (entry : Entry) (sound : IsSound old) (file : Is
   place_is : place_of (log_in new) ≡ place_of (log_in old) + 1
   place_is = ap (λ (es : List Event). length es) events_are ∙ length-append (events_in old) (entry.event ∷ [])
 
-  pub sound_entered : new.trail.page_size ≡ old.trail.page_size → ((c : ℕ) → caller_of entry.event ≡ Some c → number_of entry.event ≡ length (mine (events_in old) c)) → IsSound new
-  sound_entered size number = record {
+  pub sound_entered : new.trail.page_size ≡ old.trail.page_size → ((c : ℕ) → caller_of entry.event ≡ Some c → number_of entry.event ≡ length (mine (events_in old) c))
+      → ((leaf : ℕ) → 0 < leaf → frames_of (tree_in old) leaf ≢ 0 → AreUses (state_of (tree_in old) (events_in old ++ entry.event ∷ [])) leaf (uses_in new leaf)) → IsSound new
+  sound_entered size number listed = record {
     true_to = at_same (λ (t : TreeShape) (f : PagedFile). IsTrueTo t f.page_size f.pages (events_in new) (sides_in new)) old.tables new.tables file
         (subst (λ (es : List Event). IsTrueTo (tree_in old) (file_in old).page_size (file_in old).pages es (sides_in new)) (sym events_are) true_to);
     under = at_same (λ (t : TreeShape) (f : PagedFile). IsUnderFile new.ground f) old.tables new.tables file (once_under old.ground new.ground (file_in old) call sound.under);
-    leafless = at_same (λ (t : TreeShape) (f : PagedFile). (node : ℕ) → frames_of t node ≡ 0) old.tables new.tables file sound.leafless;
+    listed = at_same (λ (t : TreeShape) (f : PagedFile). (leaf : ℕ) → 0 < leaf → frames_of t leaf ≢ 0 → AreUses (state_of t (events_in new)) leaf (uses_in new leaf)) old.tables new.tables file
+        (subst (λ (es : List Event). (leaf : ℕ) → 0 < leaf → frames_of (tree_in old) leaf ≢ 0 → AreUses (state_of (tree_in old) es) leaf (uses_in new leaf)) (sym events_are) listed);
     few = omega (arith, place_is, few);
     numbered = subst IsNumbered (sym events_are) (numbered-entered (events_in old) entry.event sound.numbered number);
     notes = subst (NotesRise new.ground.disks) (sym log) (notes_entered old.ground new.ground (log_in old) entry call sound.notes);
@@ -265,14 +268,16 @@ module _ (old new : EngineSeen) (entry : Entry) (sound : IsSound old) (file : Is
 module _ (old new : EngineSeen) (sound : IsSound old) (file : IsSameFile old.tables new.tables) (left : AreLeft old.tables new.tables) (call : IsOneCall old.ground new.ground) (pages : new.ground.pages ≡ old.ground.pages)
     (size : new.trail.page_size ≡ old.trail.page_size) (events_are : events_in new ≡ events_in old) where
   left_true : IsTrueTo (tree_in old) (file_in old).page_size (file_in old).pages (events_in old) (sides_in new)
-  left_true = rights_same (tree_in old) (file_in old).page_size (file_in old).pages (events_in old) (sides_in old) (sides_in new) sound.true_to left
+  left_true = rights_same (tree_in old) (file_in old).page_size (file_in old).pages (events_in old) (sides_in old) (sides_in new) sound.true_to left.sides
 
   pub sound_left : NotesRise new.ground.disks (log_in new) → IsSound new
   sound_left notes = record {
     true_to = at_same (λ (t : TreeShape) (f : PagedFile). IsTrueTo t f.page_size f.pages (events_in new) (sides_in new)) old.tables new.tables file
         (subst (λ (es : List Event). IsTrueTo (tree_in old) (file_in old).page_size (file_in old).pages es (sides_in new)) (sym events_are) left_true);
     under = at_same (λ (t : TreeShape) (f : PagedFile). IsUnderFile new.ground f) old.tables new.tables file (once_under old.ground new.ground (file_in old) call sound.under);
-    leafless = at_same (λ (t : TreeShape) (f : PagedFile). (node : ℕ) → frames_of t node ≡ 0) old.tables new.tables file sound.leafless;
+    listed = at_same (λ (t : TreeShape) (f : PagedFile). (leaf : ℕ) → 0 < leaf → frames_of t leaf ≢ 0 → AreUses (state_of t (events_in new)) leaf (uses_in new leaf)) old.tables new.tables file
+        (subst (λ (es : List Event). (leaf : ℕ) → 0 < leaf → frames_of (tree_in old) leaf ≢ 0 → AreUses (state_of (tree_in old) es) leaf (uses_in new leaf)) (sym events_are)
+        (λ leaf above some. subst (AreUses (state_in old) leaf) (sym (left.uses leaf)) (sound.listed leaf above some)));
     few = subst (λ (es : List Event). length es ≤ MAX_EVENTS) (sym events_are) sound.few;
     numbered = subst IsNumbered (sym events_are) sound.numbered;
     notes = notes;
@@ -312,7 +317,7 @@ module _ (old new : EngineSeen) (sound : IsSound old) (file : IsSameFile old.tab
       began = at_same (λ (t : TreeShape) (f : PagedFile). BeganWith t f.page_size f.pages opening (events_in new) (sides_in new) new.ground.pages) old.tables new.tables file
           (subst (λ (es : List Event). BeganWith (tree_in old) (file_in old).page_size (file_in old).pages opening es (sides_in new) new.ground.pages) (sym events_are)
           (subst (BeganWith (tree_in old) (file_in old).page_size (file_in old).pages opening (events_in old) (sides_in new)) (sym pages)
-          (bytes_same (tree_in old) (file_in old).page_size (file_in old).pages opening (events_in old) (sides_in old) (sides_in new) old.ground.pages of.began left)));
+          (bytes_same (tree_in old) (file_in old).page_size (file_in old).pages opening (events_in old) (sides_in old) (sides_in new) old.ground.pages of.began left.sides)));
       keeps = at_same (λ (t : TreeShape) (f : PagedFile). KeepsPagesOf f.page_size opening (log_in new)) old.tables new.tables file
           (λ page bytes is. of.keeps page bytes (sym (kept_same page) ∙ is));
       answers = at_same (λ (t : TreeShape) (f : PagedFile). AreAnswers t f.page_size opening (log_in new)) old.tables new.tables file

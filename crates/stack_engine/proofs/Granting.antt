@@ -17,14 +17,14 @@ use Rattle.page_messages.specs.declared.kinds.Asked.{Asked}
 use Rattle.page_exchange.specs.Allowed.{AllowsReading, grant_asked}
 use Rattle.page_exchange.specs.Ground.{IsCalmCall, IsOneCall, pages_given}
 use Rattle.page_exchange.specs.Steps.{IsSent, given_up, step_asked}
-use Rattle.tower_tables.specs.Tables.{IsSameFile}
+use Rattle.tower_tables.specs.Tables.{Follow, IsSameFile}
 use Rattle.tower_log.specs.declared.logged.Logged.TheVariants.{Entered}
 use Rattle.tower_log.specs.Log.{place_of}
 use Rattle.stack_engine.specs.Engine.{EngineSeen, IsNext, IsSound, column_in, events_in, file_in, log_in, sides_in, tree_in}
 use Rattle.stack_engine.specs.Messages.{event_granted, kept_size}
 use Rattle.stack_engine.specs.Moves.{FindsZeros, bytes_kept}
 use Rattle.stack_engine.proofs.Asking.{grant_step}
-use Rattle.stack_engine.proofs.Planning.{coherent_in}
+use Rattle.stack_engine.proofs.States.{coherent_in}
 use Rattle.stack_engine.proofs.Rooms.{roomy}
 use Rattle.stack_engine.proofs.Sending.{IsMessage, grant_next, grant_no_answer, grant_no_sync, grant_on, grant_quiet}
 
@@ -57,8 +57,8 @@ module _ (e : EngineSeen) (sound : IsSound e) (node page : ℕ) (write : Bool) (
 
   pub grant_reads : (told : Option (List (List ℕ))) (asked : Asked) (new : ℕ → ℕ → Side) → asked ≡ grant_asked write → IsSent (tree_in e) told page (step_asked asked node) (sides_in e) new → AllowsReading (new page node)
   grant_reads told asked new is s = let sent = (grant_sent (tree_in e) told page asked node write (sides_in e) new is s).sent in record {
-    right = λ none. granted_some write (sym (ap (λ (s : Side). s.right) sent.here.own) ∙ none);
-    kids = λ child w. no_kid child (sym (ap (λ (s : Side). s.kids child) sent.here.own) ∙ w);
+    right = λ none. granted_some write (sym (ap (λ (s : Side). s.right) sent.here.own) ∙ sym (sent.kept node).right ∙ none);
+    kids = λ child w. no_kid child (sym (ap (λ (s : Side). s.kids child) sent.here.own) ∙ sym ((sent.kept node).kids child) ∙ w);
   }
 
   own_right : (sides_in e page node).right ≡ (column_in e page).right node
@@ -92,15 +92,16 @@ grant_ground : (shape : TreeShape) (page : ℕ) (asked : Asked) (node : ℕ) (wr
 grant_ground shape page asked node write sides told told' is h = subst (λ (s : Step). told' ≡ pages_given page (given_up shape s sides) told) (ap (λ (a : Asked). step_asked a node) is ∙ grant_step write node) h
 
 pub granted_message : (old mid new : EngineSeen) (r : ℕ) → mid ≡ roomy old r → (node page : ℕ) (write zeros : Bool) (asked : Asked) → asked ≡ grant_asked write → (event : Event) → event ≡ event_granted zeros node page write → (bytes : List ℕ)
-    → IsSameFile mid.tables new.tables → IsOneCall mid.ground new.ground → IsCalmCall mid.ground new.ground → (sent : IsSent (tree_in mid) mid.ground.pages page (step_asked asked node) (sides_in mid) (sides_in new))
+    → IsSameFile mid.tables new.tables → IsOneCall mid.ground new.ground → IsCalmCall mid.ground new.ground → (sent : IsSent (tree_in mid) mid.ground.pages page (step_asked asked node) (sides_in mid) (sides_in new)) → Follow page (step_asked asked node) mid.tables new.tables
     → new.ground.pages ≡ pages_given page (given_up (tree_in mid) (step_asked asked node) (sides_in mid page)) mid.ground.pages
     → new.trail.log ≡ mid.trail.log ++ Entered (record { event = event; answer = None; bytes = bytes }) ∷ [] → new.trail.page_size ≡ mid.trail.page_size → place_of (log_in old) < MAX_EVENTS
     → IsNext mid (events.PageIn node page write) → (zeros ≡ true → (column_in mid page).right node ≡ Right.Nothing) → IsMessage mid new (event_granted zeros node page write) bytes page (Grants node write)
-granted_message old mid new r is node page write zeros asked asked_is event event_is bytes file call calm sent ground log size few next nothing = record {
+granted_message old mid new r is node page write zeros asked asked_is event event_is bytes file call calm sent follows ground log size few next nothing = record {
   file = file;
   call = call;
   calm = calm;
   sent = grant_sent (tree_in mid) mid.ground.pages page asked node write (sides_in mid) (sides_in new) asked_is sent;
+  follows = subst (λ (s : Step). Follow page s mid.tables new.tables) (ap (λ (a : Asked). step_asked a node) asked_is ∙ grant_step write node) follows;
   ground = grant_ground (tree_in mid) page asked node write (sides_in mid page) mid.ground.pages new.ground.pages asked_is ground;
   log = log ∙ ap (λ (x : Event). mid.trail.log ++ Entered (record { event = x; answer = None; bytes = bytes }) ∷ []) event_is;
   size = size;

@@ -1,3 +1,5 @@
+pub mod States
+pub mod Victims
 pub mod Logs
 pub mod Asking
 pub mod Planning

@@ -19,7 +19,7 @@ use Rattle.tower_core.specs.declared.step.Step.TheVariants.{Reads, Untouched, Wr
 use Rattle.std.specs.Prelude.{slice_index_or}
 use Rattle.tower_core.specs.Sheet.{nodes_of, pages_of, seen}
 use Rattle.tower_core.specs.Legal.{IsFilled, file_after, plain_shape}
-use Rattle.tower_core.specs.TreeShape.{TreeShape}
+use Rattle.tower_core.specs.TreeShape.{TreeShape, frames_of}
 use Rattle.tower_core.proofs.Trails.{trail_len}
 use Rattle.tower_core.specs.Trail.{of_page, state_after, state_of, step_of, step_of_access}
 use Rattle.tower_sides.specs.Sent.{AreBrought}
@@ -28,17 +28,20 @@ use Rattle.tower_pages.specs.Granted.{is_grant_of}
 use Rattle.tower_pages.specs.Shown.{access_next, answer_next, page_next, told_bytes}
 use Rattle.page_exchange.specs.Ground.{IsCalmCall, IsOneCall, Tells, pages_given}
 use Rattle.page_exchange.specs.Steps.{AreSentAt, given_up}
-use Rattle.tower_tables.specs.Tables.{IsSameFile}
+use Rattle.vmm_cache.specs.Used.{AreUses}
+use Rattle.vmm_cache.proofs.TrailLaws.{uses_follow}
+use Rattle.tower_tables.specs.Tables.{Follow, IsSameFile}
 use Rattle.tower_log.specs.declared.logged.Entry.{Entry}
 use Rattle.tower_log.specs.declared.logged.Logged.TheVariants.{Entered}
 use Rattle.tower_log.specs.Log.{place_of, told_by}
 use Rattle.tower_shows.specs.Began.{BeganWith, IsStepOn, IsTrueTo}
+use Rattle.tower_shows.proofs.Likes.{like_same}
 use Rattle.tower_shows.proofs.Rights.{rights_step}
 use Rattle.tower_shows.proofs.Bytes.{bytes_step}
 use Rattle.tower_shows.proofs.Stays.{ground_synced}
 use Rattle.tower_shows.proofs.Tells.{tells_done, tells_life, tells_revoked, told_clear, told_read, told_write}
 use Rattle.stack_engine.specs.Accesses.{IsStill}
-use Rattle.stack_engine.specs.Engine.{EngineSeen, IsEngine, IsNext, IsSound, events_in, file_in, log_in, sides_in, state_in, tree_in}
+use Rattle.stack_engine.specs.Engine.{EngineSeen, IsEngine, IsNext, IsSound, events_in, file_in, log_in, sides_in, state_in, tree_in, uses_in}
 use Rattle.stack_engine.specs.Moves.{Enters, Makes, answer_to, bytes_to}
 use Rattle.stack_engine.specs.Opened.{IsOf, from_after, last_from}
 use Rattle.stack_engine.proofs.Entering.{granted_entered, of_entered, of_synced, sheet_entered, sound_entered}
@@ -50,6 +53,7 @@ pub record IsMade (old new : EngineSeen) (entry : Entry) (caller page : ℕ) (st
   pub file : IsSameFile old.tables new.tables
   pub call : IsOneCall old.ground new.ground
   pub sent : AreSentAt (tree_in old) page brings step (sides_in old) (sides_in new)
+  pub follows : Follow page step old.tables new.tables
   pub log : log_in new ≡ log_in old ++ Entered entry ∷ []
   pub size : new.trail.page_size ≡ old.trail.page_size
   pub few : place_of (log_in old) < MAX_EVENTS
@@ -65,9 +69,13 @@ module _ (old new : EngineSeen) (entry : Entry) (caller page : ℕ) (step : Step
   made_number : (c : ℕ) → caller_of entry.event ≡ Some c → number_of entry.event ≡ length (mine (events_in old) c)
   made_number c is = m.number ∙ ap (λ (k : ℕ). length (mine (events_in old) k)) (let both : Some caller ≡ Some c = sym m.by ∙ is in cc)
 
+  made_listed : (leaf : ℕ) → 0 < leaf → frames_of (tree_in old) leaf ≢ 0 → AreUses (state_of (tree_in old) (events_in old ++ entry.event ∷ [])) leaf (uses_in new leaf)
+  made_listed leaf above some = subst (AreUses (state_of (tree_in old) (events_in old ++ entry.event ∷ [])) leaf) (sym (m.follows leaf some))
+      (uses_follow (tree_in old) (file_in old).pages (events_in old) entry.event leaf page step (uses_in old leaf) sound.true_to.tree m.next.allowed m.on (sound.listed leaf above some))
+
   pub made_engine : (sheet sheet' : Sheet) (granted granted' : List Bool) → IsEngine old sheet granted → IsBooked new entry.event sheet sheet' granted granted' → IsEngine new sheet' granted'
   made_engine sheet sheet' granted granted' is book = record {
-    sound = sound_entered old new entry sound m.file m.log m.next m.few m.call made_true m.size made_number;
+    sound = sound_entered old new entry sound m.file m.log m.next m.few m.call made_true m.size made_number made_listed;
     sheet_is = sheet_entered old new entry sound m.file m.log m.next m.few m.call made_true sheet sheet' is.sheet_is book.nodes book.pages book.state;
     granted_are = granted_entered old new entry sound m.file m.log m.next m.few m.call made_true granted granted' is.granted_are book.len
         (λ p inside. book.flags p (subst (λ (n : ℕ). p < n) (sym is.sheet_is.pages_are) inside));
@@ -267,6 +275,13 @@ synced_enters old new caller number node from keep sound m calm pages kept = rec
 
 -- FROM WHAT THE CODE DID
 
+-- a step that moves no table
+pub still_sent : (shape : TreeShape) (page : ℕ) (brings : Option (List ℕ)) (old new : ℕ → ℕ → Side) → ((p m : ℕ) → new p m ≡ old p m) → AreSentAt shape page brings Untouched old new
+still_sent shape page brings old new same = record { to = old page; here = λ node. refl; kept = λ node. like_same (old page node) (new page node) (same page node); others = λ p node d. same p node }
+
+pub read_sent : (shape : TreeShape) (page node : ℕ) (brings : Option (List ℕ)) (old new : ℕ → ℕ → Side) → ((p m : ℕ) → new p m ≡ old p m) → AreSentAt shape page brings (Reads node) old new
+read_sent shape page node brings old new same = record { to = old page; here = λ m. refl; kept = λ m. like_same (old page m) (new page m) (same page m); others = λ p m d. same p m }
+
 abbrev pub entry_of : Event → Option Answer → List ℕ → Entry
 entry_of event answer bytes = record { event = event; answer = answer; bytes = bytes }
 
@@ -286,14 +301,15 @@ booked new tree sheet sheet' granted granted' entry entry' same tree_is nodes pa
 }
 
 pub made_of : (old mid new : EngineSeen) (r : ℕ) → mid ≡ roomy old r → (entry entry' : Entry) → entry ≡ entry' → (caller page : ℕ) (step : Step) (brings : Option (List ℕ))
-    → IsSameFile mid.tables new.tables → IsOneCall mid.ground new.ground → AreSentAt (tree_in mid) page brings step (sides_in mid) (sides_in new)
+    → IsSameFile mid.tables new.tables → IsOneCall mid.ground new.ground → AreSentAt (tree_in mid) page brings step (sides_in mid) (sides_in new) → Follow page step mid.tables new.tables
     → new.trail.log ≡ mid.trail.log ++ Entered entry ∷ [] → new.trail.page_size ≡ mid.trail.page_size → place_of (log_in old) < MAX_EVENTS → IsNext old entry'.event
     → caller_of entry'.event ≡ Some caller → number_of entry'.event ≡ length (mine (events_in old) caller) → IsStepOn (tree_in old) (events_in old) entry'.event page step
     → IsMade mid new entry' caller page step brings
-made_of old mid new r is entry entry' same caller page step brings file call sent log size few next by number on = record {
+made_of old mid new r is entry entry' same caller page step brings file call sent follows log size few next by number on = record {
   file = file;
   call = call;
   sent = sent;
+  follows = follows;
   log = log ∙ ap (λ (x : Entry). mid.trail.log ++ Entered x ∷ []) same;
   size = size;
   few = subst (λ (e : EngineSeen). place_of (log_in e) < MAX_EVENTS) (sym is) few;

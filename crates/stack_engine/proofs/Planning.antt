@@ -1,5 +1,5 @@
 -- What a plan asks of an engine's sheet, and what its answer says of the engine.
-use Rattle.std.proofs.Common.{◌≡◌, ℕ, ◌<◌, ◌==◌, Bool, true, false, cond, nat_le, List, Some, sym, ap, subst, ◌∙◌}
+use Rattle.std.proofs.Common.{◌≡◌, ◌≢◌, ◌≤◌, ℕ, ◌<◌, ◌==◌, Bool, true, false, cond, nat_le, List, Some, sym, ap, subst, ◌∙◌}
 use Rattle.hist_plain.specs.declared.event.Event.{Event}
 use Rattle.hist_plain.specs.declared.event.Keep.{Keep}
 use Rattle.tower_core.specs.declared.right.Right.{Right}
@@ -7,7 +7,7 @@ use Rattle.tower_core.specs.declared.sheet.Sheet.{Sheet}
 use Rattle.tower_core.specs.Column.{IsCoherent}
 use Rattle.tower_core.specs.Legal.{FitsFile}
 use Rattle.tower_core.specs.Sheet.{pages_of, seen}
-use Rattle.tower_core.specs.TreeShape.{TreeShape, frames_of, is_within}
+use Rattle.tower_core.specs.TreeShape.{TreeShape, frames_of, is_within, IsUpper}
 use Rattle.tower_core.specs.Trail.{IsAllowed, IsCoherentState, State, holds, held_below}
 use Rattle.tower_core.proofs.Frames.{run_coherent}
 use Rattle.tower_core.proofs.Trails.{trail_ground}
@@ -15,6 +15,7 @@ use Rattle.tower_plan.specs.Plan.{IsNext as IsNextOfPlan, Revoke, Evict, Grant, 
 use Rattle.tower_plan.specs.Sync.{IsNextOfSync, Push, pushing}
 use Rattle.stack_engine.specs.Engine.{EngineSeen, IsEngine, IsNext, IsSheetOf, IsSound, events_in, file_in, state_in, tree_in}
 use Rattle.stack_engine.specs.Messages.{IsPageMessage}
+use Rattle.stack_engine.proofs.States.{coherent_in, ground_in}
 
 -- what is said of the engine is said of its sheet
 pub sheet_told : (e : EngineSeen) (sheet : Sheet) (tree : TreeShape) (P : TreeShape → ℕ → State → Type 0) → tree ≡ tree_in e → IsSheetOf e sheet → P (tree_in e) (file_in e).pages (state_in e) → P tree (pages_of sheet) (seen sheet)
@@ -28,12 +29,6 @@ sheet_says e sheet tree P same is h =
     subst (λ (t : TreeShape). P t (file_in e).pages (state_in e)) same
     (subst (λ (n : ℕ). P tree n (state_in e)) is.pages_are (subst (λ (s : State). P tree (pages_of sheet) s) is.state_is h))
 
-pub coherent_in : (e : EngineSeen) → IsSound e → IsCoherentState (tree_in e) (file_in e).pages (state_in e)
-coherent_in e sound = run_coherent (tree_in e) (file_in e).pages (events_in e) sound.true_to.tree sound.true_to.run
-
-pub ground_in : (e : EngineSeen) → IsSound e → (page : ℕ) → ((state_in e).column page).right 0 ≡ Right.Write
-ground_in e sound page = trail_ground (tree_in e) (file_in e).pages (events_in e) sound.true_to.tree sound.true_to.run page
-
 module _ (e : EngineSeen) (sheet : Sheet) (granted : List Bool) (tree : TreeShape) (is : IsEngine e sheet granted) (same : tree ≡ tree_in e) where
   pub planned_coherent : (page : ℕ) → IsCoherent tree (seen sheet).len ((seen sheet).column page)
   planned_coherent page = sheet_told e sheet tree (λ (t : TreeShape) (n : ℕ) (s : State). IsCoherent t s.len (s.column page)) same is.sheet_is ((coherent_in e is.sound).columns page)
@@ -44,8 +39,8 @@ module _ (e : EngineSeen) (sheet : Sheet) (granted : List Bool) (tree : TreeShap
   pub planned_next : (event : Event) → FitsFile (file_in e).page_size (file_in e).pages event → IsAllowed tree (pages_of sheet) (seen sheet) event → IsNext e event
   planned_next event fits may = record { fits = fits; allowed = sheet_says e sheet tree (λ (t : TreeShape) (n : ℕ) (s : State). IsAllowed t n s event) same is.sheet_is may }
 
-  pub planned_leafless : (node : ℕ) → frames_of tree node ≡ 0
-  planned_leafless node = ap (λ (t : TreeShape). frames_of t node) same ∙ is.sound.leafless node
+  pub planned_framed : (node : ℕ) → IsUpper tree node → frames_of tree node ≢ 0 → held_below (seen sheet) node (pages_of sheet) ≤ frames_of tree node
+  planned_framed node upper = sheet_told e sheet tree (λ (t : TreeShape) (n : ℕ) (s : State). frames_of t node ≢ 0 → held_below s node n ≤ frames_of t node) same is.sheet_is ((coherent_in e is.sound).framed node upper.above)
 
 -- a fact of a page number
 at_page : (P : ℕ → Type 0) (page : ℕ) → P page → (p : ℕ) → Some page ≡ Some p → P p
@@ -85,20 +80,12 @@ revoke_fits size pages Right.Write Right.Nothing node page inside = at_page (λ 
 revoke_fits size pages Right.Read have node page inside = at_page (λ p. p < pages) page inside
 revoke_fits size pages Right.Nothing have node page inside = at_page (λ p. p < pages) page inside
 
--- a node without frames is never full
-full_cond : (held : Bool) (n : ℕ) (b : Bool) → n ≡ 0 → cond held false (cond (n == 0) false b) ≡ true → ⊥
-full_cond true n b e h = absurd cc
-full_cond false n b e h = let h' : cond (0 == 0) false b ≡ true = subst (λ (k : ℕ). cond (k == 0) false b ≡ true) e h in absurd cc
+pub plan_kind : (shape : TreeShape) (pages : ℕ) (s : State) (node page : ℕ) (want : Right) (event : Event) → IsNextOfPlan shape pages s node page want event → IsPageMessage event
+plan_kind shape pages s node page want event (Revoke other first) = revoke_kind want ((s.column page).right other) other page
+plan_kind shape pages s node page want event (Evict victim free is) = tt
+plan_kind shape pages s node page want event (Grant other free roomy first) = tt
 
-never_full : (shape : TreeShape) (pages : ℕ) (s : State) (node page : ℕ) → frames_of shape node ≡ 0 → is_full shape pages s node page ≡ true → ⊥
-never_full shape pages s node page none full = full_cond (holds ((s.column page).right node)) (frames_of shape node) (nat_le (frames_of shape node) (held_below s node pages)) none full
-
-pub plan_kind : (shape : TreeShape) (pages : ℕ) (s : State) (node page : ℕ) (want : Right) (event : Event) → ((n : ℕ) → frames_of shape n ≡ 0) → IsNextOfPlan shape pages s node page want event → IsPageMessage event
-plan_kind shape pages s node page want event none (Revoke other first) = revoke_kind want ((s.column page).right other) other page
-plan_kind shape pages s node page want event none (Evict victim free is) = absurd (never_full shape pages s node page (none node) is.full)
-plan_kind shape pages s node page want event none (Grant other free roomy first) = tt
-
-pub plan_fits : (shape : TreeShape) (pages : ℕ) (s : State) (node page size n : ℕ) (want : Right) (event : Event) → ((n : ℕ) → frames_of shape n ≡ 0) → page < n → IsNextOfPlan shape pages s node page want event → FitsFile size n event
-plan_fits shape pages s node page size n want event none inside (Revoke other first) = revoke_fits size n want ((s.column page).right other) other page inside
-plan_fits shape pages s node page size n want event none inside (Evict victim free is) = absurd (never_full shape pages s node page (none node) is.full)
-plan_fits shape pages s node page size n want event none inside (Grant other free roomy first) = at_page (λ p. p < n) page inside
+pub plan_fits : (shape : TreeShape) (pages : ℕ) (s : State) (node page size n : ℕ) (want : Right) (event : Event) → pages ≡ n → page < n → IsNextOfPlan shape pages s node page want event → FitsFile size n event
+plan_fits shape pages s node page size n want event same inside (Revoke other first) = revoke_fits size n want ((s.column page).right other) other page inside
+plan_fits shape pages s node page size n want event same inside (Evict victim free is) = at_page (λ p. p < n) victim (subst (λ (k : ℕ). victim < k) same is.oldest.inside)
+plan_fits shape pages s node page size n want event same inside (Grant other free roomy first) = at_page (λ p. p < n) page inside

@@ -99,7 +99,7 @@ module _ (old mid new : EngineSeen) (r : ℕ) (is : mid ≡ roomy old r) where
 pub full_refused : (caller : ℕ) (old new : EngineSeen) (r : ℕ) (err : StepErr) → new ≡ roomy old r → IsFullOrNoMemory old err → IsRefused caller old new err
 full_refused caller old new r err is h = subst (λ (e : EngineSeen). IsRefused caller old e err) (sym is) (record {
   goes = record { file = record { tree = refl; file = refl }; call = inl refl; of = λ opening of. of_roomy opening old r of };
-  tables = λ page node. refl;
+  tables = record { sides = λ page node. refl; uses = λ node. refl };
   pages = refl;
   why = why err h;
   spare = refl;
@@ -130,7 +130,7 @@ lacking_read caller old mid new is ground tables trail no_spare none few =
           synced = λ from last. let s = of.synced from last in record { reached = s.reached; ground = s.ground; disks = s.disks };
         };
       };
-      tables = λ page node. refl;
+      tables = record { sides = λ page node. refl; uses = λ node. refl };
       pages = refl;
       why = (refl, few, inl refl);
       spare = same_spare;

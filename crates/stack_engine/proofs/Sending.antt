@@ -13,8 +13,8 @@ use Rattle.tower_core.specs.declared.step.Step.{Step}
 use Rattle.tower_core.specs.declared.step.Step.TheVariants.{Grants}
 use Rattle.tower_core.specs.Legal.{IsFilled, file_after, plain_shape}
 use Rattle.tower_core.specs.Sheet.{nodes_of, pages_of, seen}
-use Rattle.tower_core.specs.TreeShape.{TreeShape}
-use Rattle.tower_core.specs.Trail.{state_after}
+use Rattle.tower_core.specs.TreeShape.{TreeShape, frames_of}
+use Rattle.tower_core.specs.Trail.{state_after, state_of}
 use Rattle.std.proofs.lemmas.Bool.Decides.{nat_tests}
 use Rattle.tower_sides.specs.Side.{Side}
 use Rattle.tower_sides.specs.Sent.{AreBrought}
@@ -24,7 +24,9 @@ use Rattle.page_messages.specs.declared.kinds.Asked.{Asked}
 use Rattle.page_messages.specs.declared.kinds.Called.{Called}
 use Rattle.page_exchange.specs.Ground.{IsCalmCall, IsOneCall, pages_given}
 use Rattle.page_exchange.specs.Steps.{IsSent, given_up, step_asked, step_called}
-use Rattle.tower_tables.specs.Tables.{IsSameFile}
+use Rattle.vmm_cache.specs.Used.{AreUses}
+use Rattle.vmm_cache.proofs.TrailLaws.{uses_follow}
+use Rattle.tower_tables.specs.Tables.{Follow, IsSameFile}
 use Rattle.tower_log.specs.declared.logged.Entry.{Entry}
 use Rattle.tower_log.specs.declared.logged.Logged.TheVariants.{Entered}
 use Rattle.tower_log.specs.Log.{place_of}
@@ -32,7 +34,7 @@ use Rattle.tower_shows.specs.Began.{IsStepOn, IsTrueTo}
 use Rattle.tower_shows.proofs.Rights.{rights_step}
 use Rattle.tower_shows.proofs.Bytes.{bytes_step}
 use Rattle.tower_shows.proofs.Firsts.{grant_kept, grant_others, grant_zeros}
-use Rattle.stack_engine.specs.Engine.{EngineSeen, IsEngine, IsNext, IsSound, column_in, events_in, file_in, log_in, sides_in, tree_in}
+use Rattle.stack_engine.specs.Engine.{EngineSeen, IsEngine, IsNext, IsSound, column_in, events_in, file_in, log_in, sides_in, tree_in, uses_in}
 use Rattle.stack_engine.specs.Messages.{IsPush, event_asked, event_called, event_granted}
 use Rattle.stack_engine.specs.Moves.{Enters, FindsZeros, Sends, StandsFor, bytes_kept}
 use Rattle.stack_engine.specs.Opened.{IsOf, from_after, last_from}
@@ -53,6 +55,7 @@ pub record IsMessage (old new : EngineSeen) (event : Event) (bytes : List ℕ) (
   pub call : IsOneCall old.ground new.ground
   pub calm : IsCalmCall old.ground new.ground
   pub sent : IsSent (tree_in old) old.ground.pages page step (sides_in old) (sides_in new)
+  pub follows : Follow page step old.tables new.tables
   pub ground : new.ground.pages ≡ pages_given page (given_up (tree_in old) step (sides_in old page)) old.ground.pages
   pub log : log_in new ≡ log_in old ++ Entered (record { event = event; answer = None; bytes = bytes }) ∷ []
   pub size : new.trail.page_size ≡ old.trail.page_size
@@ -75,9 +78,13 @@ module _ (old new : EngineSeen) (event : Event) (bytes : List ℕ) (page : ℕ) 
   number : (c : ℕ) → caller_of event ≡ Some c → number_of event ≡ length (mine (events_in old) c)
   number c is = absurd (let both : None ≡ Some c = sym m.quiet ∙ is in cc)
 
+  listed : (leaf : ℕ) → 0 < leaf → frames_of (tree_in old) leaf ≢ 0 → AreUses (state_of (tree_in old) (events_in old ++ event ∷ [])) leaf (uses_in new leaf)
+  listed leaf above some = subst (AreUses (state_of (tree_in old) (events_in old ++ event ∷ [])) leaf) (sym (m.follows leaf some))
+      (uses_follow (tree_in old) (file_in old).pages (events_in old) event leaf page step (uses_in old leaf) sound.true_to.tree m.next.allowed m.on (sound.listed leaf above some))
+
   pub sent_engine : (sheet sheet' : Sheet) (granted granted' : List Bool) → IsEngine old sheet granted → IsBooked new event sheet sheet' granted granted' → IsEngine new sheet' granted'
   sent_engine sheet sheet' granted granted' is book = record {
-    sound = sound_entered old new entry sound m.file m.log m.next m.few m.call true_to m.size number;
+    sound = sound_entered old new entry sound m.file m.log m.next m.few m.call true_to m.size number listed;
     sheet_is = sheet_entered old new entry sound m.file m.log m.next m.few m.call true_to sheet sheet' is.sheet_is book.nodes book.pages book.state;
     granted_are = granted_entered old new entry sound m.file m.log m.next m.few m.call true_to granted granted' is.granted_are book.len
         (λ p inside. book.flags p (subst (λ (n : ℕ). p < n) (sym is.sheet_is.pages_are) inside));
@@ -117,7 +124,7 @@ push_plain Asked.WriteOut node page push = record { quiet = refl; no_answer = λ
 push_plain Asked.Sync node page push = record { quiet = refl; no_answer = λ s n o t. refl; no_sync = λ f. refl; filled = λ s n o t. tt; no_grant = λ p. refl; stands = λ o n. refl; no_bytes = λ o n. refl }
 push_plain Asked.PageInRead node page push = absurd push
 push_plain Asked.PageInWrite node page push = absurd push
-push_plain Asked.PageOut node page push = absurd push
+push_plain Asked.PageOut node page push = record { quiet = refl; no_answer = λ s n o t. refl; no_sync = λ f. refl; filled = λ s n o t. tt; no_grant = λ p. refl; stands = λ o n. refl; no_bytes = λ o n. refl }
 push_plain Asked.Done node page push = absurd push
 
 pub order_plain : (what : Called) (node page : ℕ) → what ≢ Called.Destroy → IsPlain (event_called what node page)
@@ -133,7 +140,7 @@ push_brings Asked.WriteOut node push shape brings sides base next' next'' h = h
 push_brings Asked.Sync node push shape brings sides base next' next'' h = h
 push_brings Asked.PageInRead node push shape brings sides base next' next'' h = absurd push
 push_brings Asked.PageInWrite node push shape brings sides base next' next'' h = absurd push
-push_brings Asked.PageOut node push shape brings sides base next' next'' h = absurd push
+push_brings Asked.PageOut node push shape brings sides base next' next'' h = h
 push_brings Asked.Done node push shape brings sides base next' next'' h = absurd push
 
 pub order_brings : (what : Called) (node : ℕ) (shape : TreeShape) (brings : Option (List ℕ)) (sides : ℕ → Side) (base next' next'' : List ℕ) → AreBrought shape brings (step_called what node) sides base next' → AreBrought shape brings (step_called what node) sides base next''
@@ -216,16 +223,17 @@ module _ (old new : EngineSeen) (sound : IsSound old) (node page : ℕ) (write z
 -- FROM WHAT THE CODE DID
 
 pub message_of : (old mid new : EngineSeen) (r : ℕ) → mid ≡ roomy old r → (event : Event) (entry : Entry) → entry ≡ record { event = event; answer = None; bytes = [] } → (page : ℕ) (step : Step)
-    → IsSameFile mid.tables new.tables → IsOneCall mid.ground new.ground → IsCalmCall mid.ground new.ground → (sent : IsSent (tree_in mid) mid.ground.pages page step (sides_in mid) (sides_in new))
+    → IsSameFile mid.tables new.tables → IsOneCall mid.ground new.ground → IsCalmCall mid.ground new.ground → (sent : IsSent (tree_in mid) mid.ground.pages page step (sides_in mid) (sides_in new)) → Follow page step mid.tables new.tables
     → new.ground.pages ≡ pages_given page (given_up (tree_in mid) step (sides_in mid page)) mid.ground.pages
     → new.trail.log ≡ mid.trail.log ++ Entered entry ∷ [] → new.trail.page_size ≡ mid.trail.page_size → place_of (log_in old) < MAX_EVENTS → IsNext old event → IsPlain event
     → IsStepOn (tree_in old) (events_in old) event page step
     → ((shape : TreeShape) (brings : Option (List ℕ)) (sides : ℕ → Side) (base next' next'' : List ℕ) → AreBrought shape brings step sides base next' → AreBrought shape brings step sides base next'') → IsMessage mid new event [] page step
-message_of old mid new r is event given same page step file call calm sent ground log size few next plain on brings = record {
+message_of old mid new r is event given same page step file call calm sent follows ground log size few next plain on brings = record {
   file = file;
   call = call;
   calm = calm;
   sent = sent;
+  follows = follows;
   ground = ground;
   log = log ∙ ap (λ (x : Entry). mid.trail.log ++ Entered x ∷ []) same;
   size = size;

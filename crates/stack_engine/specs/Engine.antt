@@ -1,5 +1,5 @@
 -- What contracts see of a file's engine: the ground, the tables of the nodes above it, and the log.
-use Rattle.std.specs.Prelude.{◌≡◌, ℕ, ◌<◌, ◌≤◌, List, length, slice_index_or, Bool, false}
+use Rattle.std.specs.Prelude.{◌≡◌, ◌≢◌, ℕ, ◌<◌, ◌≤◌, List, length, slice_index_or, Bool, false}
 use Rattle.hist_plain.specs.declared.TheConstants.{MAX_EVENTS}
 use Rattle.hist_plain.specs.declared.event.Event.{Event}
 use Rattle.hist_plain.specs.History.{IsNumbered}
@@ -13,7 +13,8 @@ use Rattle.tower_pages.specs.Granted.{is_granted_in}
 use Rattle.disk_layer.specs.Seen.{DiskSeen, Seen, faults_in, opened_in}
 use Rattle.page_messages.specs.declared.paged.PagedFile.{PagedFile}
 use Rattle.tower_tables.specs.declared.tables.Tables.{Tables}
-use Rattle.tower_tables.specs.Tables.{IsUnderFile, paged_of, sides, tree_of}
+use Rattle.vmm_cache.specs.Used.{AreUses}
+use Rattle.tower_tables.specs.Tables.{IsUnderFile, paged_of, sides, tree_of, uses}
 use Rattle.tower_log.specs.declared.logged.Logged.{Logged}
 use Rattle.tower_log.specs.Log.{place_of, trail_of}
 use Rattle.tower_log.specs.Notes.{Rises, counts_of}
@@ -33,6 +34,9 @@ file_in e = paged_of e.tables
 
 abbrev pub sides_in : EngineSeen → ℕ → ℕ → Side
 sides_in e = sides e.tables
+
+abbrev pub uses_in : EngineSeen → ℕ → List ℕ
+uses_in e = uses e.tables
 
 abbrev pub log_in : EngineSeen → List Logged
 log_in e = e.trail.log
@@ -58,7 +62,8 @@ NotesRise disks log = (disk : ℕ) → Rises (opened_in disks disk) (faults_in d
 pub record IsSound (e : EngineSeen) : Type 0 where
   pub true_to : IsTrueTo (tree_in e) (file_in e).page_size (file_in e).pages (events_in e) (sides_in e)
   pub under : IsUnderFile e.ground (file_in e)
-  pub leafless : (node : ℕ) → frames_of (tree_in e) node ≡ 0
+  -- each leaf lists the pages that it holds by their last uses
+  pub listed : (leaf : ℕ) → 0 < leaf → frames_of (tree_in e) leaf ≢ 0 → AreUses (state_in e) leaf (uses_in e leaf)
   pub few : place_of (log_in e) ≤ MAX_EVENTS
   pub numbered : IsNumbered (events_in e)
   pub notes : NotesRise e.ground.disks (log_in e)

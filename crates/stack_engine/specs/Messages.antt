@@ -13,9 +13,10 @@ use Rattle.stack_engine.specs.declared.refusal.StepErr.{StepErr}
 use Rattle.stack_engine.specs.declared.refusal.StepErr.TheVariants as errors
 use Rattle.stack_engine.specs.Engine.{EngineSeen, events_in, file_in}
 
--- a message that a plan may name, over layers of which none is a leaf. A grant is asked for as a PageIn, whatever it finds
+-- a message that a plan may name. A grant is asked for as a PageIn, whatever it finds
 abbrev pub IsPageMessage : Event → Type 0
 IsPageMessage (events.PageIn node page write) = Unit {0}
+IsPageMessage (events.PageOut node page) = Unit {0}
 IsPageMessage (events.WriteOut node page) = Unit {0}
 IsPageMessage (events.SyncOut node page) = Unit {0}
 IsPageMessage (events.FlushBack node page) = Unit {0}
@@ -24,8 +25,9 @@ IsPageMessage (events.WriteBack node page) = Unit {0}
 IsPageMessage (events.DeleteRange node page) = Unit {0}
 IsPageMessage event = ⊥
 
--- a question that sends a copy up, and keeps a right
+-- a question that sends a copy up where it is changed: a page that goes out of a leaf, or one of which a right is kept
 abbrev pub IsPush : Asked → Type 0
+IsPush Asked.PageOut = Unit {0}
 IsPush Asked.WriteOut = Unit {0}
 IsPush Asked.Sync = Unit {0}
 IsPush what = ⊥

@@ -9,7 +9,7 @@ use Rattle.tower_core.specs.TreeShape.{TreeShape, nodes}
 use Rattle.tower_sides.specs.Tables.{AreBare}
 use Rattle.tower_log.specs.Log.{place_of}
 use Rattle.tower_tables.specs.declared.tables.Tables.{Tables}
-use Rattle.tower_tables.specs.Tables.{paged_of, sides, tree_of}
+use Rattle.tower_tables.specs.Tables.{paged_of, sides, tree_of, uses}
 use Rattle.stack_engine.specs.declared.book.Book.{Book}
 use Rattle.stack_engine.specs.declared.refusal.StepErr.{StepErr}
 use Rattle.stack_engine.specs.declared.refusal.StepErr.TheVariants as errors
@@ -20,6 +20,7 @@ pub record Starts (tree : TreeShape) (file : PagedFile) (tables : Tables) (book 
   pub tree_is : tree_of tables ≡ tree
   pub file_is : paged_of tables ≡ file
   pub bare : AreBare (sides tables)
+  pub unused : (node : ℕ) → uses tables node ≡ []
   pub state : seen book.sheet ≡ start
   pub nodes_are : nodes_of book.sheet ≡ nodes tree
   pub pages_are : pages_of book.sheet ≡ file.pages
@@ -33,6 +34,7 @@ pub record Opens (tree : TreeShape) (file : PagedFile) (ground : Seen) (e : Engi
   pub file_is : file_in e ≡ file
   pub ground_is : e.ground ≡ ground
   pub bare : AreBare (sides e.tables)
+  pub unused : (node : ℕ) → uses e.tables node ≡ []
   pub no_log : log_in e ≡ []
   pub no_spare : e.trail.spare ≡ 0
 

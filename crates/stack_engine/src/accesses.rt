@@ -108,7 +108,7 @@ impl<G: Ground> Engine<G> {
         Ok(answer)
     }
 
-    /// A node reads bytes of its copy of a page.
+    /// A node reads bytes of its copy of a page. A leaf thereby uses it.
     fn read(
         &mut self,
         at: Place,
@@ -133,6 +133,7 @@ impl<G: Ground> Engine<G> {
         let lent = self.tables.lend(at.node, page, off, len);
         bytes.copy_from_slice(lent);
         out.copy_from_slice(lent);
+        self.tables.touch(at.node, page);
         let entry = Entry {
             event: at.event(Op::Read { page, off, len }),
             answer: Some(Answer::Bytes),

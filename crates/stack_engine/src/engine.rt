@@ -1,6 +1,6 @@
 //! A file's engine: its ground, the tables of the layers above it, and its book.
 
-ghost use Rattle.std.specs.Prelude.{◌≡◌, ◌<◌, ◌≤◌, ◌↔◌, ℕ, IfErr, IfOk, IsTrue, List, OnErr, OnOk, length};
+ghost use Rattle.std.specs.Prelude.{◌≡◌, ◌≢◌, ◌<◌, ◌≤◌, ◌↔◌, ℕ, IfErr, IfOk, IsTrue, List, OnErr, OnOk, length};
 ghost use Rattle.hist_plain.specs.History.{mine};
 ghost use Rattle.hist_plain.specs.declared.TheConstants.{MAX_EVENTS};
 ghost use Rattle.disk_layer.specs.Seen.{faults_in, opened_in};
@@ -8,9 +8,10 @@ ghost use Rattle.page_messages.specs.Paged.{IsPagedFile};
 ghost use Rattle.tower_core.specs.TreeShape.{IsUpper, frames_of, nodes};
 ghost use Rattle.tower_log.specs.Log.{place_of};
 ghost use Rattle.tower_tables.specs.Tables.{IsUnderFile};
-ghost use Rattle.stack_engine.specs.Engine.{EngineSeen, IsSound, events_in, file_in, log_in, sides_in, state_in, tree_in};
+ghost use Rattle.stack_engine.specs.Engine.{EngineSeen, IsSound, events_in, file_in, log_in, sides_in, state_in, tree_in, uses_in};
 ghost use Rattle.stack_engine.specs.Opened.{IsOf};
-ghost use Rattle.coherency_layer.specs.Node.{file_of, side};
+ghost use Rattle.coherency_layer.specs.Node as layers;
+ghost use Rattle.vmm_cache.specs.Leaf as leaves;
 ghost use Rattle.stack_engine.specs.Start.{IsFullOrNoMemory, Opens, Starts};
 
 use crate::book::Book;
@@ -24,6 +25,7 @@ use std::marker::Model;
 use tower_core::{Sheet, Tree};
 use tower_log::Trail;
 use tower_tables::Tables;
+use vmm_cache::Leaf;
 
 /// A file's ground, the tables of the layers above it, and what is written down of it.
 #[derive(Drop)]
@@ -47,6 +49,7 @@ impl<G: Ground> Model for Engine<G> {
 /// The tables and the book of a file without events.
 fn start(alloc: Global, tree: Tree, file: PagedFile, ops: Ops) -> Result<(Tables, Book), AllocError>
     requires paged { IsPagedFile file }
+    requires frames { (node : ℕ) → frames_of tree node ≤ 1024 }
     ensures { IfOk result (λ parts. Starts tree file parts.0 parts.1) }
 {
     let sheet = Sheet::new(alloc, &tree, file.pages)?;
@@ -74,7 +77,7 @@ impl<G: Ground> Engine<G> {
         ops: Ops,
     ) -> Result<Engine<G>, G>
         requires paged { IsPagedFile file }
-        requires leafless { (node : ℕ) → frames_of tree node ≡ 0 }
+        requires frames { (node : ℕ) → frames_of tree node ≤ 1024 }
         requires under { IsUnderFile (G.seen ground) file }
         requires counts { (disk : ℕ) → opened_in (G.seen ground).disks disk ≤ faults_in (G.seen ground).disks disk }
         ensures opened { IfOk result (Opens tree file (G.seen ground)) }
@@ -120,13 +123,25 @@ impl<G: Ground> Engine<G> {
         self.book.trail.number(caller)
     }
 
-    /// A node's own table.
+    /// A layer's own table.
     pub(crate) fn node(&self, node: u32) -> &Node
-        requires { IsUpper (tree_in self.now) node }
-        ensures file { file_of result.now ≡ file_in self.now }
-        ensures sides { (page : ℕ) → side result.now page ≡ sides_in self.now page node }
+        requires upper { IsUpper (tree_in self.now) node }
+        requires layer { frames_of (tree_in self.now) node ≡ 0 }
+        ensures file { layers.file_of result.now ≡ file_in self.now }
+        ensures sides { (page : ℕ) → layers.side result.now page ≡ sides_in self.now page node }
     {
         self.tables.node(node)
+    }
+
+    /// A leaf's own table.
+    pub(crate) fn leaf(&self, node: u32) -> &Leaf
+        requires upper { IsUpper (tree_in self.now) node }
+        requires leaf { frames_of (tree_in self.now) node ≢ 0 }
+        ensures file { leaves.file_of result.now ≡ file_in self.now }
+        ensures sides { (page : ℕ) → leaves.side result.now page ≡ sides_in self.now page node }
+        ensures uses { leaves.uses_of result.now ≡ uses_in self.now node }
+    {
+        self.tables.leaf(node)
     }
 
     /// The life of a layer.

@@ -30,6 +30,7 @@ fn event_asked(what: Asked, node: u32, page: u32) -> Event
     ensures { result ≡ event_asked what node page }
 {
     match what {
+        Asked::PageOut => Event::PageOut { node, page },
         Asked::WriteOut => Event::WriteOut { node, page },
         Asked::Sync => Event::SyncOut { node, page },
         _ => unreachable!(),
@@ -146,6 +147,7 @@ impl<G: Ground> Engine<G> {
     {
         match event {
             Event::PageIn { node, page, write } => self.grant(caller, node, page, write),
+            Event::PageOut { node, page } => self.push(caller, Asked::PageOut, node, page),
             Event::WriteOut { node, page } => self.push(caller, Asked::WriteOut, node, page),
             Event::SyncOut { node, page } => self.push(caller, Asked::Sync, node, page),
             Event::FlushBack { node, page } => self.order(caller, Called::FlushBack, node, page),
@@ -158,7 +160,7 @@ impl<G: Ground> Engine<G> {
         }
     }
 
-    /// A node sends its copy of a page to its parent.
+    /// A node sends its copy of a page to its parent, where it is changed.
     fn push(&mut self, caller: u32, what: Asked, node: u32, page: u32) -> Result<Event, StepErr>
         requires push { IsPush what }
         requires next { IsNext self.old (event_asked what node page) }

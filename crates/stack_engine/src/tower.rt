@@ -1,19 +1,20 @@
 //! One file over its ground, driven by tries.
 
-ghost use Rattle.std.specs.Prelude.{◌≡◌, ◌≤◌, ◌<◌, ◌*◌, [], ℕ, IfErr, IfOk, IsTrue, List, OnOk, OnErr, None, Some, length};
+ghost use Rattle.std.specs.Prelude.{◌≡◌, ◌≢◌, ◌≤◌, ◌<◌, ◌*◌, [], ℕ, IfErr, IfOk, IsTrue, List, OnOk, OnErr, None, Some, length};
 ghost use Rattle.hist_plain.specs.declared.event.Answer.TheVariants.{Bytes as ABytes};
 ghost use Rattle.hist_plain.specs.Event.{fits_page};
 ghost use Rattle.hist_plain.specs.History.{mine};
 ghost use Rattle.hist_plain.specs.Plain.{asked_by};
 ghost use Rattle.disk_layer.specs.Seen.{faults_in, opened_in};
-ghost use Rattle.coherency_layer.specs.Node.{file_of, side};
+ghost use Rattle.coherency_layer.specs.Node as layers;
+ghost use Rattle.vmm_cache.specs.Leaf as leaves;
 ghost use Rattle.page_messages.specs.Paged.{IsPagedFile};
 ghost use Rattle.tower_core.specs.TreeShape.{IsTree, IsUpper, frames_of};
 ghost use Rattle.tower_log.specs.Log.{place_of};
 ghost use Rattle.tower_shows.specs.Began.{ArePagesOf};
 ghost use Rattle.tower_tables.specs.Tables.{IsUnderFile};
 ghost use Rattle.tower_core.specs.Trail.{IsSettled};
-ghost use Rattle.stack_engine.specs.Engine.{IsNext, IsSound, column_in, events_in, file_in, log_in, sides_in, state_in, tree_in};
+ghost use Rattle.stack_engine.specs.Engine.{IsNext, IsSound, column_in, events_in, file_in, log_in, sides_in, state_in, tree_in, uses_in};
 ghost use Rattle.stack_engine.specs.Moves.{IsRefused, bytes_to};
 ghost use Rattle.stack_engine.specs.Opened.{IsOf};
 ghost use Rattle.stack_engine.specs.Plans.{IsLowestUnsettled, IsMissed};
@@ -35,6 +36,7 @@ use std::alloc::{AllocError, Global};
 use std::marker::Model;
 use tower_core::Tree;
 use tower_log::Trail;
+use vmm_cache::Leaf;
 
 /// A file over its ground: the layers above it, each with a table and copies of its own, the log of all that happened, and
 /// whose turn it is. Calls try an access or a sync, and enter one event at most, so that other callers may act between
@@ -55,7 +57,7 @@ impl<G: Ground> Model for Tower<G> {
 
 impl<G: Ground> Tower<G> {
     /// A file without events, over a ground that has its pages. No layer has anything yet, and no page is read. For want of
-    /// memory the ground is handed back. The layers are coherency layers, none of them a leaf with frames.
+    /// memory the ground is handed back. A leaf has at most 1024 frames.
     pub fn open(
         alloc: Global,
         tree: Tree,
@@ -64,7 +66,7 @@ impl<G: Ground> Tower<G> {
         ops: Ops,
     ) -> Result<Tower<G>, G>
         requires paged { IsPagedFile file }
-        requires leafless { (node : ℕ) → frames_of tree node ≡ 0 }
+        requires frames { (node : ℕ) → frames_of tree node ≤ 1024 }
         requires under { IsUnderFile (G.seen ground) file }
         requires counts { (disk : ℕ) → opened_in (G.seen ground).disks disk ≤ faults_in (G.seen ground).disks disk }
         ensures opened { IfOk result (λ t. Opens tree file (G.seen ground) t.engine) }
@@ -138,11 +140,23 @@ impl<G: Ground> Tower<G> {
 
     /// A layer's own table.
     pub fn node(&self, node: u32) -> &Node
-        requires { IsUpper (tree_in self.now.engine) node }
-        ensures file { file_of result.now ≡ file_in self.now.engine }
-        ensures sides { (page : ℕ) → side result.now page ≡ sides_in self.now.engine page node }
+        requires upper { IsUpper (tree_in self.now.engine) node }
+        requires layer { frames_of (tree_in self.now.engine) node ≡ 0 }
+        ensures file { layers.file_of result.now ≡ file_in self.now.engine }
+        ensures sides { (page : ℕ) → layers.side result.now page ≡ sides_in self.now.engine page node }
     {
         self.engine.node(node)
+    }
+
+    /// A leaf's own table: that of a virtual memory manager.
+    pub fn leaf(&self, node: u32) -> &Leaf
+        requires upper { IsUpper (tree_in self.now.engine) node }
+        requires leaf { frames_of (tree_in self.now.engine) node ≢ 0 }
+        ensures file { leaves.file_of result.now ≡ file_in self.now.engine }
+        ensures sides { (page : ℕ) → leaves.side result.now page ≡ sides_in self.now.engine page node }
+        ensures uses { leaves.uses_of result.now ≡ uses_in self.now.engine node }
+    {
+        self.engine.leaf(node)
     }
 
     /// Makes room for so many reads that are allowed, so that they can be made without memory.

@@ -31,7 +31,7 @@ enter-requires-clause-count g c = rooms.counted _ c.self.inside.book.sheet c.sel
 
 pub invariant_of-self-2 : goal.invariant_of-self-2
 invariant_of-self-2 g c = sending.sent_engine _ _ (event_called c.args.what c.args.node c.args.page) [] c.args.page (step_called c.args.what c.args.node) c.self.invariant.sound
-    (sending.message_of c.args.self.now _ _ c.make_room.new.self.trail.room (c.self.view_is ∙ c.make_room.ensures.same) _ c.plain_entry-entry.result (c.plain_entry-entry.ensures ∙ ap (λ (x : Event). making.entry_of x None []) c.event_called.ensures) c.args.page _ c.order.ensures.same c.order.ensures.call c.in-Ok.ensures.calm c.in-Ok.ensures.sent c.in-Ok.ensures.ground c.enter.ensures.log (ap (λ (t : TrailSeen). t.page_size) c.enter.ensures.trail) c.in_ok-make_room.ensures.few c.requires.next (sending.order_plain c.args.what c.args.node c.args.page c.requires.about_page) (asking.order_step (tree_in c.args.self.now) (events_in c.args.self.now) c.args.what c.args.node c.args.page c.requires.about_page) (sending.order_brings c.args.what c.args.node))
+    (sending.message_of c.args.self.now _ _ c.make_room.new.self.trail.room (c.self.view_is ∙ c.make_room.ensures.same) _ c.plain_entry-entry.result (c.plain_entry-entry.ensures ∙ ap (λ (x : Event). making.entry_of x None []) c.event_called.ensures) c.args.page _ c.order.ensures.same c.order.ensures.call c.in-Ok.ensures.calm c.in-Ok.ensures.sent c.in-Ok.ensures.follows c.in-Ok.ensures.ground c.enter.ensures.log (ap (λ (t : TrailSeen). t.page_size) c.enter.ensures.trail) c.in_ok-make_room.ensures.few c.requires.next (sending.order_plain c.args.what c.args.node c.args.page c.requires.about_page) (asking.order_step (tree_in c.args.self.now) (events_in c.args.self.now) c.args.what c.args.node c.args.page c.requires.about_page) (sending.order_brings c.args.what c.args.node))
     c.self.inside.book.sheet c.enter.new.self.sheet c.self.inside.book.granted.items c.enter.new.self.granted.items c.self.invariant
     (making.booked _ c.tree.result.now c.self.inside.book.sheet c.enter.new.self.sheet c.self.inside.book.granted.items c.enter.new.self.granted.items
     c.plain_entry-entry.result (making.entry_of (event_called c.args.what c.args.node c.args.page) None []) (c.plain_entry-entry.ensures ∙ ap (λ (x : Event). making.entry_of x None []) c.event_called.ensures) c.tree.ensures.value c.enter.ensures.nodes c.enter.ensures.pages c.enter.ensures.state c.enter.ensures.len c.enter.ensures.granted)
@@ -39,4 +39,4 @@ invariant_of-self-2 g c = sending.sent_engine _ _ (event_called c.args.what c.ar
 pub returns-clause-sends : goal.returns-clause-sends
 returns-clause-sends g c = rooms.sends_room c.args.self.now _ _ c.make_room.new.self.trail.room (c.self.view_is ∙ c.make_room.ensures.same) (event_called c.args.what c.args.node c.args.page) c.event_called-2.result
     (sending.plain_sends _ _ (event_called c.args.what c.args.node c.args.page) c.args.page (step_called c.args.what c.args.node) c.self.invariant.sound (sending.order_plain c.args.what c.args.node c.args.page c.requires.about_page)
-    (sending.message_of c.args.self.now _ _ c.make_room.new.self.trail.room (c.self.view_is ∙ c.make_room.ensures.same) _ c.plain_entry-entry.result (c.plain_entry-entry.ensures ∙ ap (λ (x : Event). making.entry_of x None []) c.event_called.ensures) c.args.page _ c.order.ensures.same c.order.ensures.call c.in-Ok.ensures.calm c.in-Ok.ensures.sent c.in-Ok.ensures.ground c.enter.ensures.log (ap (λ (t : TrailSeen). t.page_size) c.enter.ensures.trail) c.in_ok-make_room.ensures.few c.requires.next (sending.order_plain c.args.what c.args.node c.args.page c.requires.about_page) (asking.order_step (tree_in c.args.self.now) (events_in c.args.self.now) c.args.what c.args.node c.args.page c.requires.about_page) (sending.order_brings c.args.what c.args.node)) c.event_called-2.result c.event_called-2.ensures (ap (λ (t : TrailSeen). t.spare) c.enter.ensures.trail))
+    (sending.message_of c.args.self.now _ _ c.make_room.new.self.trail.room (c.self.view_is ∙ c.make_room.ensures.same) _ c.plain_entry-entry.result (c.plain_entry-entry.ensures ∙ ap (λ (x : Event). making.entry_of x None []) c.event_called.ensures) c.args.page _ c.order.ensures.same c.order.ensures.call c.in-Ok.ensures.calm c.in-Ok.ensures.sent c.in-Ok.ensures.follows c.in-Ok.ensures.ground c.enter.ensures.log (ap (λ (t : TrailSeen). t.page_size) c.enter.ensures.trail) c.in_ok-make_room.ensures.few c.requires.next (sending.order_plain c.args.what c.args.node c.args.page c.requires.about_page) (asking.order_step (tree_in c.args.self.now) (events_in c.args.self.now) c.args.what c.args.node c.args.page c.requires.about_page) (sending.order_brings c.args.what c.args.node)) c.event_called-2.result c.event_called-2.ensures (ap (λ (t : TrailSeen). t.spare) c.enter.ensures.trail))
