@@ -1,5 +1,5 @@
 -- What a plan asks of an engine's sheet, and what its answer says of the engine.
-use Rattle.std.proofs.Common.{◌≡◌, ◌≢◌, ◌≤◌, ℕ, ◌<◌, ◌==◌, Bool, true, false, cond, nat_le, List, Some, sym, ap, subst, ◌∙◌}
+use Rattle.std.proofs.Common.{◌≡◌, ◌≢◌, ◌≤◌, ◌+◌, ℕ, ◌<◌, Bool, true, false, List, Some, sym, subst}
 use Rattle.hist_plain.specs.declared.event.Event.{Event}
 use Rattle.hist_plain.specs.declared.event.Keep.{Keep}
 use Rattle.tower_core.specs.declared.right.Right.{Right}
@@ -8,13 +8,12 @@ use Rattle.tower_core.specs.Column.{IsCoherent}
 use Rattle.tower_core.specs.Legal.{FitsFile}
 use Rattle.tower_core.specs.Sheet.{pages_of, seen}
 use Rattle.tower_core.specs.TreeShape.{TreeShape, frames_of, is_within, IsUpper}
-use Rattle.tower_core.specs.Trail.{IsAllowed, IsCoherentState, State, holds, held_below}
-use Rattle.tower_core.proofs.Frames.{run_coherent}
-use Rattle.tower_core.proofs.Trails.{trail_ground}
-use Rattle.tower_plan.specs.Plan.{IsNext as IsNextOfPlan, Revoke, Evict, Grant, is_full, revoking}
+use Rattle.tower_core.specs.Trail.{IsAllowed, State, held_below, state_after}
+use Rattle.tower_plan.specs.Plan.{IsNext as IsNextOfPlan, Revoke, Evict, Grant, revoking, MayAccessFor, cost_of}
 use Rattle.tower_plan.specs.Sync.{IsNextOfSync, Push, pushing}
-use Rattle.stack_engine.specs.Engine.{EngineSeen, IsEngine, IsNext, IsSheetOf, IsSound, events_in, file_in, state_in, tree_in}
+use Rattle.stack_engine.specs.Engine.{EngineSeen, IsEngine, IsNext, IsSheetOf, file_in, state_in, tree_in}
 use Rattle.stack_engine.specs.Messages.{IsPageMessage}
+use Rattle.stack_engine.specs.Plans.{StepsTo}
 use Rattle.stack_engine.proofs.States.{coherent_in, ground_in}
 
 -- what is said of the engine is said of its sheet
@@ -41,6 +40,14 @@ module _ (e : EngineSeen) (sheet : Sheet) (granted : List Bool) (tree : TreeShap
 
   pub planned_framed : (node : ℕ) → IsUpper tree node → frames_of tree node ≢ 0 → held_below (seen sheet) node (pages_of sheet) ≤ frames_of tree node
   planned_framed node upper = sheet_told e sheet tree (λ (t : TreeShape) (n : ℕ) (s : State). frames_of t node ≢ 0 → held_below s node n ≤ frames_of t node) same is.sheet_is ((coherent_in e is.sound).framed node upper.above)
+
+  pub planned_steps : (node page : ℕ) (want : Right) (event : Event) → (MayAccessFor tree ((seen sheet).column page) node want → ⊥) → IsNextOfPlan tree (pages_of sheet) (seen sheet) node page want event
+      → cost_of tree (pages_of sheet) (state_after tree (seen sheet) event) node page want + 1 ≡ cost_of tree (pages_of sheet) (seen sheet) node page want → StepsTo e node page want event
+  planned_steps node page want event never rule cheaper = record {
+    not_yet = sheet_says e sheet tree (λ (t : TreeShape) (n : ℕ) (s : State). MayAccessFor t (s.column page) node want → ⊥) same is.sheet_is never;
+    plan = sheet_says e sheet tree (λ (t : TreeShape) (n : ℕ) (s : State). IsNextOfPlan t n s node page want event) same is.sheet_is rule;
+    cheaper = sheet_says e sheet tree (λ (t : TreeShape) (n : ℕ) (s : State). cost_of t n (state_after t s event) node page want + 1 ≡ cost_of t n s node page want) same is.sheet_is cheaper;
+  }
 
 -- a fact of a page number
 at_page : (P : ℕ → Type 0) (page : ℕ) → P page → (p : ℕ) → Some page ≡ Some p → P p

@@ -1,6 +1,6 @@
 -- The page that the trail lets go out of a leaf is the first of the leaf's list.
 use Rattle.std.specs.Prelude.{Contains}
-use Rattle.std.proofs.Common.{◌≡◌, ◌≢◌, ℕ, zero, suc, ◌<◌, ◌≤◌, sym, ap, subst, refl, arith, List, [], ◌∷◌, Some, length, get_or}
+use Rattle.std.proofs.Common.{◌≡◌, ◌≢◌, ℕ, zero, suc, ◌<◌, ◌≤◌, ap, subst, refl, arith, List, [], ◌∷◌, Some, length, get_or}
 use Rattle.tower_core.specs.declared.right.Right.{Right}
 use Rattle.tower_core.specs.Trail.{IsLeastRecentlyUsed, State}
 use Rattle.vmm_cache.specs.Used.{AreUses}

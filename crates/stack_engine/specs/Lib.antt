@@ -7,3 +7,4 @@ pub mod Accesses
 pub mod Plans
 pub mod Turns
 pub mod Tower
+pub mod Sight

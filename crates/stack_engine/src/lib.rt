@@ -9,6 +9,7 @@ mod messages;
 mod moved;
 mod plans;
 mod refusal;
+mod sight;
 mod syncs;
 mod tower;
 mod turns;

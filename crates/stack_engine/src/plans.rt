@@ -13,6 +13,7 @@ ghost use Rattle.stack_engine.specs.Messages.{IsPageMessage};
 ghost use Rattle.stack_engine.specs.Plans.{IsLowest, IsLowestUnsettled, IsMissed, SettlesBy, StepsTo};
 
 use crate::engine::Engine;
+use crate::sight::Sight;
 use disk_layer::Ground;
 use hist_plain::{Event, Keep, Op};
 use tower_core::{Right, Sheet};
@@ -86,7 +87,11 @@ impl<G: Ground> Engine<G> {
         ensures next { IfSome result (IsNext self.now) }
         ensures steps { IfSome result (StepsTo self.now node page want) }
     {
-        match next_for(self.tables.tree(), &self.book.sheet, node, page, want) {
+        let sight = Sight {
+            sheet: &self.book.sheet,
+            tables: &self.tables,
+        };
+        match next_for(self.tables.tree(), &sight, node, page, want) {
             Next::Ready => None,
             Next::Do { event } => Some(event),
         }
