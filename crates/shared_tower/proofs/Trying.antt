@@ -31,6 +31,7 @@ quiet_zeros P event zeros other (Some caller) is z o found not_found =
 
 stands_quiet : (old new : EngineSeen) (asked event : Event) → IsPageMessage asked → StandsFor old new asked event → caller_of event ≡ None
 stands_quiet old new (events.PageIn node page write) event kind stands = quiet_zeros (FindsZeros old new node page) event (events.ZeroFill node page write) (events.PageIn node page write) (caller_of event) refl refl refl stands.0 stands.1
+stands_quiet old new (events.PageOut node page) event kind stands = ap caller_of stands
 stands_quiet old new (events.WriteOut node page) event kind stands = ap caller_of stands
 stands_quiet old new (events.SyncOut node page) event kind stands = ap caller_of stands
 stands_quiet old new (events.FlushBack node page) event kind stands = ap caller_of stands
@@ -72,7 +73,7 @@ module _ (caller number node life : ℕ) (op : Op) (old new : TowerSeen) (out : 
     moves = (_, refl, record { event_is = ap (λ (n : ℕ). events.Access caller n node life op) number_is; answer_is = refl; bytes = λ read. sym (bytes read) });
   }
   tried_access (Ok (Stepped message)) steps bytes fails =
-      sent caller _ old.engine new.engine out steps.asked message (plan_kind _ _ _ node steps.page steps.want steps.asked sound.leafless steps.steps.plan) steps.sends
+      sent caller _ old.engine new.engine out steps.asked message (plan_kind _ _ _ node steps.page steps.want steps.asked steps.steps.plan) steps.sends
   tried_access (Ok (Busy holder)) waits bytes fails = record { last = []; is_try = try_none old.engine new.engine (ap (λ (t : TowerSeen). t.engine) waits.same); moves = refl }
   tried_access (Err err) advances bytes fails = refused_so caller _ old.engine new.engine out err fails.refused
 
