@@ -1,6 +1,7 @@
 //! What a client has between two lines of a script.
 
 use crate::objects::Objects;
+use vmm_space::Space;
 
 /// The state of a client.
 #[derive(Debug, Drop)]
@@ -9,4 +10,6 @@ pub struct ClientState {
     pub machine: u32,
     /// Its open objects, in the order in which they were opened.
     pub objects: Objects,
+    /// Its address space: the regions that it has mapped.
+    pub regions: Space,
 }

@@ -30,6 +30,7 @@ use std::alloc::{AllocError, Global};
 use std::sync::Wait;
 use std::test::Fail;
 use tower_core::Tree;
+use vmm_space::MAX_ADDRESS;
 
 /// A disk in memory.
 type Ram = Disk<MemStore>;
@@ -39,27 +40,36 @@ const STACK: &str = "page 64\nfile f 2\ndisk d m\ncoherency c m d\n";
 
 /// The lines of a client. Under `q` stands an object of a subcontract that the program has not.
 const SCRIPT: &str =
-    "client a m\nphase\na bind t cluster c f\na open x t\na write x 0 0 61\na copy x y\na drop x\n\
+    "client a m\nphase\na bind t cluster c f\na open x t\na clean x\na write x 0 0 61\na copy x y\na drop x\n\
 a read y 0 0 2\na read y 0 63 2\na read x 0 0 1\na open y c/f\na open z q\na open z k/f\na list /\n\
-a unbind t\na open z t\na clear y 1\na sync y\n";
+a unbind t\na open z t\na clear y 1\na map p x 0 1 w\na map p y 65 0 w\na map p y 64 3 r\na map p y 64 1 r\na unmap p\n\
+a load 64 1\na store 63 61\na sync y\n";
 
 /// What they are answered before the last, which is the sync.
-const ANSWERS: [(u32, &str); 15] = [
+const ANSWERS: [(u32, &str); 23] = [
     (3, " done"),
     (4, " life 0"),
     (5, " done"),
     (6, " done"),
     (7, " done"),
-    (8, " 6100"),
-    (9, " not one page"),
-    (10, " no object"),
-    (11, " object exists"),
-    (12, " bad object"),
-    (13, " not bound k"),
-    (14, " names c q t"),
-    (15, " done"),
-    (16, " not bound t"),
-    (17, " done"),
+    (8, " done"),
+    (9, " 6100"),
+    (10, " not one page"),
+    (11, " no object"),
+    (12, " object exists"),
+    (13, " bad object"),
+    (14, " not bound k"),
+    (15, " names c q t"),
+    (16, " done"),
+    (17, " not bound t"),
+    (18, " done"),
+    (19, " no object"),
+    (20, " unaligned"),
+    (21, " too long"),
+    (22, " no manager"),
+    (23, " no region"),
+    (24, " unmapped 64"),
+    (25, " unmapped 63"),
 ];
 
 fn stack_of(alloc: Global) -> Result<StackText, Fail>
@@ -97,8 +107,12 @@ fn is_call(mount: &Mounted, line: &CallLine) -> bool
             matches!(path.as_slice().len(), 1..=8)
         }
         Call::List { path } => path.is_none(),
-        Call::Read { .. } | Call::Write { .. } | Call::Clear { .. } | Call::Sync { .. } => true,
-        Call::Copy { .. } | Call::Drop { .. } => true,
+        Call::Read { .. } | Call::Write { .. } | Call::Clear { .. } => true,
+        Call::Sync { .. } | Call::Clean { .. } => true,
+        Call::Copy { .. } | Call::Drop { .. } | Call::Unmap { .. } => true,
+        Call::Map { address, .. } | Call::Load { address, .. } | Call::Store { address, .. } => {
+            *address <= MAX_ADDRESS
+        }
         _ => false,
     }
 }
@@ -255,7 +269,7 @@ fn client_does<R: Wait>(
         return Ok(Vec::new(alloc));
     }
     let ops = Ops::new([0, 1, 2, 3, 4], [0, 1, 2, 3, 4, 5], [2, 3, 4, 5, 6, 0, 1]);
-    let mut client = Client::new(alloc, 0, 0);
+    let mut client = Client::new(alloc, mount, 0, 0)?;
     run_phase(
         rt,
         alloc,
@@ -315,7 +329,7 @@ fn a_client(rt: HostRuntime) -> Result<(), Fail> {
             return Err(Fail::from("no answers"));
         };
         assert!(rt; bound?);
-        assert!(rt; is_answered(alloc, &mount, &sync, (18, last))?);
+        assert!(rt; is_answered(alloc, &mount, &sync, (26, last))?);
         assert!(rt; are_answered(alloc, &mount, &said, &ANSWERS)?);
     }
     Ok(())

@@ -166,9 +166,9 @@ AreAnswered phases client (line ∷ lines) (said ∷ more) = IsAnswered phases c
 abbrev pub EachAnswered : Script → List (List Said) → Type 0
 EachAnswered script said = AreAnswered script.phases 0 script.clients said
 
--- the caller `mount` is no client: it has no object
+-- the caller `mount` is no client: it has no object, and no address space
 abbrev pub no_client : ClientState
-no_client = record { machine = 0; objects = [] }
+no_client = record { machine = 0; objects = []; regions = record { page_size = 0; files = []; regions = [] } }
 
 -- the closing sync of a file, at the layer above the ground
 abbrev pub plan_closing : ℕ → Plan

@@ -1,5 +1,5 @@
 -- What a line of a script does: the calls that it makes, one after another, and its answer.
-use Rattle.std.specs.Prelude.{◌≡◌, ℕ, List, [], ◌∷◌, if◌then◌else◌, slice_index_or, Option, Some, None}
+use Rattle.std.specs.Prelude.{◌≡◌, ℕ, List, [], ◌∷◌, length, Bool, true, false, if◌then◌else◌, slice_index_or, Option, Some, None, Result, Ok, Err}
 use Rattle.std.specs.Option.{option_map}
 use Rattle.hist_plain.specs.declared.event.Op.{Op}
 use Rattle.hist_plain.specs.declared.event.Op.TheVariants as ops
@@ -13,7 +13,7 @@ use Rattle.hist_plain.specs.Event.{fits_page}
 use Rattle.hist_plain.specs.Plain.{Told}
 use Rattle.script_text.specs.declared.script.Call.{Call}
 use Rattle.script_text.specs.declared.script.ClientLine.{ClientLine}
-use Rattle.script_text.specs.declared.script.Call.TheVariants.{Context, Bind, Unbind, List as ListNames, Open, Copy, Drop, Read, Write, Clear, Sync}
+use Rattle.script_text.specs.declared.script.Call.TheVariants.{Context, Bind, Unbind, List as ListNames, Open, Copy, Drop, Read, Write, Clear, Sync, Clean, Map, Unmap, Load, Store}
 use Rattle.script_text.specs.declared.script.Sub.{Sub}
 use Rattle.script_text.specs.declared.script.Sub.TheVariants.{Singleton, Cluster}
 use Rattle.script_text.specs.declared.script.Reply.{Reply}
@@ -31,6 +31,15 @@ use Rattle.client_objects.specs.declared.state.ClientState.{ClientState}
 use Rattle.client_objects.specs.declared.target.Target.{Target}
 use Rattle.client_objects.specs.Objects.{OpenObject, object_of, with_object, without}
 use Rattle.client_objects.specs.Stored.{bound_object, received}
+use Rattle.memory_object.specs.declared.binding.CacheRights.{CacheRights}
+use Rattle.memory_object.specs.Managers.{rights_of}
+use Rattle.vmm_space.specs.declared.regions.Region.{Region}
+use Rattle.vmm_space.specs.declared.regions.Place.{Place}
+use Rattle.vmm_space.specs.declared.why.SpaceErr.{SpaceErr}
+use Rattle.vmm_space.specs.declared.why.SpaceErr.TheVariants as spaces
+use Rattle.vmm_space.specs.declared.why.TranslateErr.{TranslateErr}
+use Rattle.vmm_space.specs.declared.why.TranslateErr.TheVariants as places
+use Rattle.vmm_space.specs.Spaces.{SpaceShape, blank_of, with_region, without_region, has_region, refusal, translation}
 use Rattle.run_defs.specs.Stack.{pages_of, view_of, file_named}
 use Rattle.run_defs.specs.Log.{Item, NameItem, entered, noted}
 
@@ -65,13 +74,25 @@ pub data Plan : Type 0 where
   asks_names : NamesAsk → ClientState → (NamesTold → Plan) → Plan
   unknown : Plan
 
--- a client at the start: it is on its machine, with no object open
+-- a client at the start: it is on its machine, with no object open and nothing mapped
 abbrev pub start_state : Mount → ClientLine → ClientState
-start_state mount line = record { machine = number_in mount.machines line.machine; objects = [] }
+start_state mount line = record { machine = number_in mount.machines line.machine; objects = []; regions = blank_of mount }
 
 -- the state with these objects open
 abbrev pub holding : ClientState → List OpenObject → ClientState
 holding state objects = record state { objects = objects }
+
+-- the state with this address space
+abbrev pub mapping : ClientState → SpaceShape → ClientState
+mapping state space = record state { regions = space }
+
+-- the node to which the calls of an open object go, for a client in this state
+abbrev pub node_at : Mount → ClientState → Target → ℕ
+node_at mount state target = target.node
+
+-- the view of an open object, which the client may map
+abbrev pub view_at : Target → ℕ
+view_at target = target.node
 
 -- what a call on a file answers a line of the script
 abbrev pub reply_of : Told → Reply
@@ -137,11 +158,11 @@ plan_named state (Some target) go_on = go_on target
 abbrev pub plan_access : Mount → ClientState → Op → Target → Plan
 plan_access mount state op target =
     if fits_page mount.page_size (pages_of mount target.file) op
-    then plan_call state (asking target.file (access target.node target.life op))
+    then plan_call state (asking target.file (access (node_at mount state target) target.life op))
     else ends replies.NotOnePage state
 
-abbrev pub plan_sync : ClientState → Keep → Target → Plan
-plan_sync state keep target = plan_call state (asking target.file (sync target.node keep))
+abbrev pub plan_sync : Mount → ClientState → Keep → Target → Plan
+plan_sync mount state keep target = plan_call state (asking target.file (sync (node_at mount state target) keep))
 
 -- another name for an open object
 abbrev pub plan_copy : ClientState → List ℕ → Option Target → Target → Plan
@@ -161,16 +182,85 @@ abbrev pub opened : Target → Told → Target
 opened target told = record target { life = life_in told.answer }
 
 -- an Open of what a path leads to; the object is kept where it is answered
-abbrev pub plan_found : ClientState → List ℕ → Option Target → Plan
-plan_found state name None = ends replies.BadObject state
-plan_found state name (Some target) =
-    calls (asking target.file (access target.node 0 ops.Open)) state (λ told. ends (reply_of told) (holding state (with_object state.objects name (opened target told))))
+abbrev pub plan_found : Mount → ClientState → List ℕ → Option Target → Plan
+plan_found mount state name None = ends replies.BadObject state
+plan_found mount state name (Some target) =
+    calls (asking target.file (access (node_at mount state target) 0 ops.Open)) state (λ told. ends (reply_of told) (holding state (with_object state.objects name (opened target told))))
 
 -- a path is resolved, and what stands there is opened, if it is an object that the stack has
 abbrev pub plan_open : Mount → ClientState → List ℕ → List (List ℕ) → Option Target → Plan
 plan_open mount state name path (Some taken) = ends replies.ObjectExists state
 plan_open mount state name path None =
-    plan_names state (asking_names names_calls.Resolve (Some path)) (λ names. plan_found state name (received mount (kept_at names path)))
+    plan_names state (asking_names names_calls.Resolve (Some path)) (λ names. plan_found mount state name (received mount (kept_at names path)))
+
+-- why a region is not mapped, as an answer to a line
+abbrev pub unmappable : SpaceErr → Reply
+unmappable spaces.RegionExists = replies.RegionExists
+unmappable spaces.Unaligned = replies.Unaligned
+unmappable spaces.TooLong = replies.TooLong
+unmappable spaces.Overlap = replies.Overlap
+unmappable spaces.Memory = replies.Memory
+
+-- the region of another life
+abbrev pub living : Region → ℕ → Region
+living region life = record region { life = life }
+
+-- an Open at the leaf of a region's manager; the region is kept where it is answered, with the life that it was answered
+abbrev pub plan_mapped : ClientState → Region → Plan
+plan_mapped state region =
+    calls (asking region.file (access region.leaf 0 ops.Open)) state (λ told. ends (reply_of told) (mapping state (with_region state.regions (living region (life_in told.answer)))))
+
+-- what is mapped under a name: a file's first pages in a manager's cache, from an address on, of life 0 until they are opened
+abbrev pub region_of : List ℕ → ℕ → ℕ → Bool → CacheRights → Region
+region_of name address pages write rights =
+    record { name = name; file = rights.file; leaf = rights.leaf; life = 0; address = address; pages = pages; write = write }
+
+-- the manager that holds the pages of an open object for the client, if its machine has one
+abbrev pub rights_at : Mount → ClientState → Target → Option CacheRights
+rights_at mount state target = rights_of mount (record { view = view_at target; file = target.file }) state.machine
+
+-- a region that the space does not refuse is mapped, if there is a manager
+abbrev pub plan_bound : ClientState → Option CacheRights → (CacheRights → Region) → Plan
+plan_bound state None region = ends replies.NoManager state
+plan_bound state (Some rights) region = plan_mapped state (region rights)
+
+-- unless the space refuses the region
+abbrev pub unless_unmappable : ClientState → Option SpaceErr → Plan → Plan
+unless_unmappable state (Some why) onward = ends (unmappable why) state
+unless_unmappable state None onward = onward
+
+-- the first pages of an open object's file are mapped
+abbrev pub plan_map : Mount → ClientState → List ℕ → ℕ → ℕ → Bool → Target → Plan
+plan_map mount state name address pages write target =
+    unless_unmappable state (refusal state.regions name target.file address pages) (plan_bound state (rights_at mount state target) (region_of name address pages write))
+
+abbrev pub plan_unmap : ClientState → List ℕ → Plan
+plan_unmap state name = if has_region name state.regions then ends replies.Done (mapping state (without_region name state.regions)) else ends replies.NoRegion state
+
+-- why an address leads to no page, as an answer to a line
+abbrev pub untranslated : TranslateErr → Reply
+untranslated (places.Unmapped address) = replies.Unmapped address
+untranslated places.CrossesPage = replies.CrossesPage
+untranslated places.NotWritable = replies.NotWritable
+
+-- a line on the page to which an address leads
+abbrev pub plan_place : ClientState → Result Place TranslateErr → (Place → Request) → Plan
+plan_place state (Err why) request = ends (untranslated why) state
+plan_place state (Ok place) request = plan_call state (request place)
+
+-- so many bytes are read where an address leads, at the manager's leaf and with the life of the region
+abbrev pub loading : ℕ → Place → Request
+loading len place = asking place.file (access place.leaf place.life (ops.Read place.page place.off len))
+
+-- and these bytes are written there
+abbrev pub storing : List ℕ → Place → Request
+storing bytes place = asking place.file (access place.leaf place.life (ops.Write place.page place.off bytes))
+
+abbrev pub plan_load : ClientState → ℕ → ℕ → Plan
+plan_load state address len = plan_place state (translation state.regions address len false) (loading len)
+
+abbrev pub plan_store : ClientState → ℕ → List ℕ → Plan
+plan_store state address bytes = plan_place state (translation state.regions address (length bytes) true) (storing bytes)
 
 -- the identifier of a subcontract that the program has
 abbrev pub sub_id : Sub → Option ℕ
@@ -194,7 +284,12 @@ plan mount state (Drop name) = plan_named state (object_of name state.objects) (
 plan mount state (Read name page off len) = plan_named state (object_of name state.objects) (plan_access mount state (ops.Read page off len))
 plan mount state (Write name page off bytes) = plan_named state (object_of name state.objects) (plan_access mount state (ops.Write page off bytes))
 plan mount state (Clear name page) = plan_named state (object_of name state.objects) (plan_access mount state (ops.Clear page))
-plan mount state (Sync name) = plan_named state (object_of name state.objects) (plan_sync state keeps.Write)
+plan mount state (Sync name) = plan_named state (object_of name state.objects) (plan_sync mount state keeps.Write)
+plan mount state (Clean name) = plan_named state (object_of name state.objects) (plan_sync mount state keeps.Read)
+plan mount state (Map region name address pages write) = plan_named state (object_of name state.objects) (plan_map mount state region address pages write)
+plan mount state (Unmap region) = plan_unmap state region
+plan mount state (Load address len) = plan_load state address len
+plan mount state (Store address bytes) = plan_store state address bytes
 plan mount state call = unknown
 
 -- what a caller did: at a file, or with the names

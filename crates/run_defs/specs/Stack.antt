@@ -1,6 +1,5 @@
 -- A mounted stack as a run sees it.
 use Rattle.std.specs.Prelude.{◌≡◌, ℕ, List, [], ◌&&◌, length, map, slice_get, slice_index_or, position, Option, Some, None}
-use Rattle.std.specs.List.{AllByRecursion}
 use Rattle.std.specs.Str.{bytes_eq}
 use Rattle.hist_plain.specs.File.{Shape}
 use Rattle.stack_accept.specs.declared.entries.FileEntry.{FileEntry}
@@ -12,11 +11,10 @@ use Rattle.stack_accept.specs.Plan.{OnDisk}
 abbrev pub shape_of : Mount → Shape
 shape_of mount = record { page_size = mount.page_size; parents = mount.tree.parents }
 
--- a stack that a run can build so far: its ground is its one disk, and no layer has frames
+-- a stack that a run can build so far: its ground is its one disk
 pub record IsBuilt (mount : Mount) : Type 0 where
   pub disk : length mount.disks ≡ 1
   pub ground : mount.ground ≡ OnDisk 0
-  pub bare : AllByRecursion (λ node. node.frames ≡ 0) mount.nodes
 
 -- the name of a number, by a list of names; a number that has none has the empty name
 abbrev pub name_in : List (List ℕ) → ℕ → List ℕ

@@ -5,3 +5,6 @@ pub mod LinesLaws
 pub mod Frames
 pub mod Lists
 pub mod Targets
+pub mod Spaces
+pub mod MapLaws
+pub mod Translated

@@ -173,7 +173,7 @@ pub open-exists : (mount : Mount) (state : ClientState) (name : List ℕ) (path 
 open-exists mount state name path o object some = ap (λ (x : Option Target). plan_open mount state name path x) some
 
 pub open-new : (mount : Mount) (state : ClientState) (name : List ℕ) (path : List (List ℕ)) (o : Option Target) → o ≡ None
-    → plan_open mount state name path o ≡ plan_names state (asking_names calls_of.Resolve (Some path)) (λ names. plan_found state name (received mount (kept_at names path)))
+    → plan_open mount state name path o ≡ plan_names state (asking_names calls_of.Resolve (Some path)) (λ names. plan_found mount state name (received mount (kept_at names path)))
 open-new mount state name path o none = ap (λ (x : Option Target). plan_open mount state name path x) none
 
 -- the same line, with the plan written otherwise
@@ -194,7 +194,7 @@ pub clone-is : (xs ys : List ℕ) → AllZip (λ x y. y ≡ x) xs ys → ys ≡ 
 clone-is xs ys each = AllZip-map (λ n. n) xs ys each ∙ map-id xs
 
 -- what is received makes no call where memory lacks
-pub found-lacks : (mount : Mount) (caller : ℕ) (state : ClientState) (name : List ℕ) (found : Option Target) (pass : Knows) → IsSome found → PlanDone mount caller (plan_found state name found) pass pass replies.Memory state
+pub found-lacks : (mount : Mount) (caller : ℕ) (state : ClientState) (name : List ℕ) (found : Option Target) (pass : Knows) → IsSome found → PlanDone mount caller (plan_found mount state name found) pass pass replies.Memory state
 found-lacks mount caller state name None pass some = absurd cc
 found-lacks mount caller state name (Some target) pass some =
-    plan-lacks mount caller (plan_found state name (Some target)) (asking target.file (access target.node 0 ops.Open)) state (λ told. ends (reply_of told) (holding state (with_object state.objects name (opened target told)))) pass refl
+    plan-lacks mount caller (plan_found mount state name (Some target)) (asking target.file (access target.node 0 ops.Open)) state (λ told. ends (reply_of told) (holding state (with_object state.objects name (opened target told)))) pass refl

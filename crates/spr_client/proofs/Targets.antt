@@ -17,6 +17,7 @@ use Rattle.client_objects.specs.Objects.{OpenObject, IsOnStack, object_of, with_
 use Rattle.client_objects.specs.Stored.{received}
 use Rattle.client_objects.proofs.OpenLaws.{on_stack-object_of, on_stack-with_object}
 use Rattle.client_objects.proofs.ReceivedLaws.{received_leads}
+use Rattle.run_defs.specs.Plan.{holding}
 use Rattle.spr_client.specs.Lines.{IsOnMachine, IsTarget}
 
 storage_unseen : (kind : Kind) → IsStorageKind kind → is_view kind ≡ false
@@ -46,6 +47,7 @@ target_is mount target name sound on =
     record {
       built = on.built;
       file = on.file;
+      view = on.view;
       above = view_above mount.machines mount.nodes target.node sound.ground_node on.view;
       node = omega (arith, counted, inside);
     }
@@ -61,34 +63,29 @@ received_target mount kept target sound is =
     let leads = received_leads mount kept target is in
     target_is mount target [] sound (record { built = leads.built; view = leads.view; file = leads.file })
 
+-- the same client with these objects
+on_machine-holding : (mount : Mount) (state : ClientState) (new : List OpenObject) → IsOnMachine mount state → AllByRecursion (IsOnStack mount) new → IsOnMachine mount (holding state new)
+on_machine-holding mount state new on all = record { machine = on.machine; objects = all; regions = on.regions }
+
 -- a client with one more object of the stack
-pub on_machine-with : (mount : Mount) (machine : ℕ) (objects new : List OpenObject) (name : List ℕ) (target : Target) (kept : Option Kept) (life : ℕ) → machine < length mount.machines → AllByRecursion (IsOnStack mount) objects
-    → received mount kept ≡ Some target → new ≡ with_object objects name (record target { life = life }) → IsOnMachine mount (record { machine = machine; objects = new })
-on_machine-with mount machine objects new name target kept life low on is new_is =
+pub on_machine-with : (mount : Mount) (state : ClientState) (name : List ℕ) (target : Target) (kept : Option Kept) (life : ℕ) → IsOnMachine mount state → received mount kept ≡ Some target
+    → IsOnMachine mount (holding state (with_object state.objects name (record target { life = life })))
+on_machine-with mount state name target kept life on is =
     let leads = received_leads mount kept target is in
-    record {
-      machine = low;
-      objects = subst (λ (os : List OpenObject). AllByRecursion (IsOnStack mount) os) (sym new_is) (on_stack-with_object mount objects name (record target { life = life }) on leads.built leads.view leads.file);
-    }
+    on_machine-holding mount state (with_object state.objects name (record target { life = life })) on
+    (on_stack-with_object mount state.objects name (record target { life = life }) on.objects leads.built leads.view leads.file)
 
-pub on_machine-same : (mount : Mount) (machine : ℕ) (objects new : List OpenObject) → machine < length mount.machines → AllByRecursion (IsOnStack mount) objects → new ≡ objects → IsOnMachine mount (record { machine = machine; objects = new })
-on_machine-same mount machine objects new low on is = record { machine = low; objects = subst (λ (os : List OpenObject). AllByRecursion (IsOnStack mount) os) (sym is) on }
-
-pub on_machine-copy : (mount : Mount) (machine : ℕ) (objects new : List OpenObject) (name other : List ℕ) (target : Target) → machine < length mount.machines → AllByRecursion (IsOnStack mount) objects → object_of name objects ≡ Some target
-    → new ≡ with_object objects other target → IsOnMachine mount (record { machine = machine; objects = new })
-on_machine-copy mount machine objects new name other target low on found is =
-    let leads = on_stack-object_of mount objects name target on found in
-    record {
-      machine = low;
-      objects = subst (λ (os : List OpenObject). AllByRecursion (IsOnStack mount) os) (sym is) (on_stack-with_object mount objects other target on leads.built leads.view leads.file);
-    }
+pub on_machine-copy : (mount : Mount) (state : ClientState) (new : List OpenObject) (name other : List ℕ) (target : Target) → IsOnMachine mount state → object_of name state.objects ≡ Some target
+    → new ≡ with_object state.objects other target → IsOnMachine mount (holding state new)
+on_machine-copy mount state new name other target on found is =
+    let leads = on_stack-object_of mount state.objects name target on.objects found in
+    on_machine-holding mount state new on
+    (subst (λ (os : List OpenObject). AllByRecursion (IsOnStack mount) os) (sym is) (on_stack-with_object mount state.objects other target on.objects leads.built leads.view leads.file))
 
 -- a client whose last object was kept, of some life, or given up
-pub on_machine-either : (mount : Mount) (state : ClientState) (machine : ℕ) (objects : List OpenObject) (name : List ℕ) (target : Target) (kept : Option Kept) → machine < length mount.machines → AllByRecursion (IsOnStack mount) objects
-    → received mount kept ≡ Some target → state.machine ≡ machine → (state.objects ≡ objects) ⊎ ((life : ℕ) × (state.objects ≡ with_object objects name (record target { life = life }))) → IsOnMachine mount state
-on_machine-either mount state machine objects name target kept low on is same either = record {
-  machine = subst (λ (n : ℕ). n < length mount.machines) (sym same) low;
-  objects = ⊎_elim
-      (λ gone. subst (λ (os : List OpenObject). AllByRecursion (IsOnStack mount) os) (sym gone) on)
-      (λ held. (on_machine-with mount machine objects state.objects name target kept held.0 low on is held.1).objects) either;
-}
+pub on_machine-either : (mount : Mount) (left state : ClientState) (name : List ℕ) (target : Target) (kept : Option Kept) → IsOnMachine mount state
+    → received mount kept ≡ Some target → (left ≡ state) ⊎ ((life : ℕ) × (left ≡ holding state (with_object state.objects name (record target { life = life })))) → IsOnMachine mount left
+on_machine-either mount left state name target kept on is either =
+    ⊎_elim
+    (λ gone. subst (λ (s : ClientState). IsOnMachine mount s) (sym gone) on)
+    (λ held. subst (λ (s : ClientState). IsOnMachine mount s) (sym held.1) (on_machine-with mount state name target kept held.0 on is)) either

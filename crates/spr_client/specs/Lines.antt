@@ -1,40 +1,65 @@
 -- What a client's lines did.
-use Rattle.std.specs.Prelude.{◌≡◌, ◌≢◌, ℕ, ◌<◌, ◌≤◌, List, [], length, true, IsSome}
+use Rattle.std.specs.Prelude.{◌≡◌, ◌≢◌, ℕ, ◌+◌, ◌<◌, ◌≤◌, List, [], length, map, All, true, IsSome}
 use Rattle.std.specs.List.{AllByRecursion}
 use Rattle.script_text.specs.declared.script.Call.{Call}
-use Rattle.script_text.specs.declared.script.Call.TheVariants.{Context, Bind, Unbind, List as ListNames, Open, Copy, Drop, Read, Write, Clear, Sync}
+use Rattle.script_text.specs.declared.script.Call.TheVariants.{Context, Bind, Unbind, List as ListNames, Open, Copy, Drop, Read, Write, Clear, Sync, Clean, Map, Unmap, Load, Store}
 use Rattle.script_text.specs.declared.script.CallLine.{CallLine}
 use Rattle.script_text.specs.declared.script.Reply.{Reply}
 use Rattle.script_text.specs.declared.script.Said.{Said}
-use Rattle.stack_accept.specs.Mount.{Mount}
+use Rattle.stack_accept.specs.Mount.{Mount, is_view_in}
+use Rattle.vmm_space.specs.declared.TheConstants.{MAX_ADDRESS}
+use Rattle.vmm_space.specs.declared.regions.Region.{Region}
+use Rattle.vmm_space.specs.declared.regions.Place.{Place}
+use Rattle.vmm_space.specs.Spaces.{SpaceShape}
 use Rattle.name_context.specs.declared.entry.NameCall.TheVariants as names_calls
 use Rattle.name_context.specs.History.{IsPathOf}
 use Rattle.name_context.specs.Names.{HasParts}
 use Rattle.client_objects.specs.declared.state.ClientState.{ClientState}
 use Rattle.client_objects.specs.declared.target.Target.{Target}
-use Rattle.client_objects.specs.Objects.{IsOnStack, OpenObject}
+use Rattle.client_objects.specs.Objects.{IsOnStack}
 use Rattle.client_objects.specs.Stored.{is_built}
-use Rattle.run_defs.specs.Stack.{view_of, file_named}
-use Rattle.run_defs.specs.Plan.{Plan, sub_id}
+use Rattle.run_defs.specs.Stack.{file_named, pages_of, view_of}
+use Rattle.run_defs.specs.Plan.{Plan, sub_id, view_at}
 use Rattle.run_defs.specs.Fits.{Did, Gone, Went, Worked}
 use Rattle.spr_volume.specs.Passes.{Knows, as_known}
 use Rattle.spr_client.specs.Calls.{histories}
 
--- calls that go to a layer of the stack above the ground, and to a file of it, as frames of a subcontract that the program has
+-- calls that go to a view of the stack, a layer above the ground, and to a file of it, as frames of a subcontract that the program has
 pub record IsTarget (mount : Mount) (target : Target) : Type 0 where
   pub built : is_built target.sub ≡ true
   pub file : target.file < length mount.files
+  pub view : is_view_in mount.nodes (view_at target) ≡ true
   pub above : 0 < target.node
   pub node : target.node < length mount.tree.parents
 
--- the client runs on a machine of the stack, and its objects lead to views and files of it
+-- calls that go to a layer of the stack above the ground, and to a file of it
+pub record IsLeafOf (mount : Mount) (leaf number : ℕ) : Type 0 where
+  pub file : number < length mount.files
+  pub above : 0 < leaf
+  pub node : leaf < length mount.tree.parents
+
+-- a region leads to a layer above the ground, and to a file of the stack
+abbrev pub IsMappedOn : Mount → Region → Type 0
+IsMappedOn mount region = IsLeafOf mount region.leaf region.file
+
+-- the address space is of the mounted stack, and each region leads into it
+pub record IsSpaceOf (mount : Mount) (space : SpaceShape) : Type 0 where
+  pub page_size : space.page_size ≡ mount.page_size
+  pub files : space.files ≡ map (λ file. file.pages) mount.files
+  pub regions : All (IsMappedOn mount) space.regions
+
+-- so many bytes at a place are within one page of a file of the stack, at a layer above the ground
+pub record IsPlaceOf (mount : Mount) (len : ℕ) (place : Place) : Type 0 where
+  pub leads : IsLeafOf mount place.leaf place.file
+  pub page : place.page < pages_of mount place.file
+  pub some : 1 ≤ len
+  pub within : place.off + len ≤ mount.page_size
+
+-- the client runs on a machine of the stack, its objects lead to views and files of it, and so do its regions to managers and files
 pub record IsOnMachine (mount : Mount) (state : ClientState) : Type 0 where
   pub machine : state.machine < length mount.machines
   pub objects : AllByRecursion (IsOnStack mount) state.objects
-
--- the state of a client on a machine with these objects open
-abbrev pub state_with : ℕ → List OpenObject → ClientState
-state_with machine objects = record { machine = machine; objects = objects }
+  pub regions : IsSpaceOf mount state.regions
 
 -- the other callers of a pass did nothing
 abbrev pub OthersIdle : Mount → ℕ → Knows → Knows → Type 0
@@ -72,6 +97,11 @@ IsCallOf mount (Read name page off len) = Unit {0}
 IsCallOf mount (Write name page off bytes) = Unit {0}
 IsCallOf mount (Clear name page) = Unit {0}
 IsCallOf mount (Sync name) = Unit {0}
+IsCallOf mount (Clean name) = Unit {0}
+IsCallOf mount (Map region name address pages write) = address ≤ MAX_ADDRESS
+IsCallOf mount (Unmap region) = Unit {0}
+IsCallOf mount (Load address len) = address ≤ MAX_ADDRESS
+IsCallOf mount (Store address bytes) = address ≤ MAX_ADDRESS
 IsCallOf mount call = ⊥
 
 abbrev pub AreCalls : Mount → List CallLine → Type 0

@@ -1,13 +1,16 @@
 //! A client, and what it does.
 
-ghost use Rattle.std.specs.Prelude.{◌≡◌, []};
+ghost use Rattle.std.specs.Prelude.{◌≡◌, [], IfOk};
+ghost use Rattle.vmm_space.specs.Spaces.{blank_of};
 ghost use Rattle.run_defs.specs.Plan.{plan};
 ghost use Rattle.spr_client.specs.Calls.{MayCall};
-ghost use Rattle.spr_client.specs.Lines.{IsCallOf, IsOnMachine, LineDone, state_with};
+ghost use Rattle.spr_client.specs.Lines.{IsCallOf, IsOnMachine, LineDone};
 
 use crate::files::{clear_line, read_line, sync_line, write_line};
+use crate::mapping::{map_line, unmap_line};
 use crate::names::{bind_line, context_line, list_line, unbind_line};
 use crate::opening::{copy_line, drop_line, open_line};
+use crate::places::{load_line, store_line};
 use client_objects::{ClientState, Objects};
 use disk_layer::Ground;
 use hist_plain::Keep;
@@ -16,8 +19,9 @@ use script_text::{Call, Reply};
 use spr_io::Gate;
 use spr_volume::{Pass, Volume};
 use stack_accept::Mounted;
-use std::alloc::Global;
+use std::alloc::{AllocError, Global};
 use std::sync::Wait;
+use vmm_space::Space;
 
 /// What clients share: the volume of a stack's files and names, the stack, the numbers of the operations, and the gate between the steps
 /// of their calls.
@@ -38,22 +42,28 @@ pub struct Common<'a, G: Ground, T: Gate> {
 pub struct Client {
     /// The number of the client, which is its number as a caller.
     pub caller: u32,
-    /// Its machine and its open objects.
+    /// Its machine, its open objects and its address space.
     pub state: ClientState,
 }
 
 impl Client {
-    /// A client on a machine of the stack, with no object open.
-    pub fn new(alloc: Global, caller: u32, machine: u32) -> Client
-        ensures { result ≡ record { caller = caller; state = state_with machine [] } }
+    /// A client on a machine of the stack, with no object open and nothing mapped. An error is that memory ran out.
+    pub fn new(
+        alloc: Global,
+        mount: &Mounted,
+        caller: u32,
+        machine: u32,
+    ) -> Result<Client, AllocError>
+        ensures { IfOk result (λ client. client ≡ record { caller = caller; state = record { machine = machine; objects = []; regions = blank_of mount.now } }) }
     {
-        Client {
+        Ok(Client {
             caller,
             state: ClientState {
                 machine,
                 objects: Objects::new(alloc),
+                regions: Space::new(alloc, mount)?,
             },
-        }
+        })
     }
 }
 
@@ -100,6 +110,21 @@ pub fn perform<R: Wait, G: Ground, T: Gate>(
         } => write_line(rt, alloc, common, pass, client, object, *page, *off, bytes),
         Call::Clear { object, page } => clear_line(rt, alloc, common, pass, client, object, *page),
         Call::Sync { object } => sync_line(rt, alloc, common, pass, client, object, Keep::Write),
+        Call::Clean { object } => sync_line(rt, alloc, common, pass, client, object, Keep::Read),
+        Call::Map {
+            region,
+            object,
+            address,
+            pages,
+            write,
+        } => map_line(
+            rt, alloc, common, pass, client, region, object, *address, *pages, *write,
+        ),
+        Call::Unmap { region } => unmap_line(common, pass, client, region),
+        Call::Load { address, len } => load_line(rt, alloc, common, pass, client, *address, *len),
+        Call::Store { address, bytes } => {
+            store_line(rt, alloc, common, pass, client, *address, bytes)
+        }
         _ => unreachable!(),
     }
 }

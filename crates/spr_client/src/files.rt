@@ -1,14 +1,14 @@
 //! Lines on the file of an open object.
 
-ghost use Rattle.std.specs.Prelude.{◌≡◌, IfSome, IsTrue};
+ghost use Rattle.std.specs.Prelude.{◌≡◌, IfSome, IsTrue, length};
 ghost use Rattle.hist_plain.specs.declared.event.Op.TheVariants as ops;
 ghost use Rattle.hist_plain.specs.Event.{fits_page};
 ghost use Rattle.hist_plain.specs.Plain.{asked_by};
 ghost use Rattle.client_objects.specs.Objects.{object_of};
 ghost use Rattle.run_defs.specs.Stack.{pages_of};
-ghost use Rattle.run_defs.specs.Plan.{access, asking, plan_access, plan_call, plan_named, plan_sync};
+ghost use Rattle.run_defs.specs.Plan.{access, asking, node_at, plan_access, plan_call, plan_named, plan_sync};
 ghost use Rattle.spr_client.specs.Calls.{MayCall};
-ghost use Rattle.spr_client.specs.Lines.{IsOnMachine, IsTarget, LineDone};
+ghost use Rattle.spr_client.specs.Lines.{IsLeafOf, IsOnMachine, IsTarget, LineDone};
 
 use crate::calls::{access_at, framed, framed_sync, sync_at};
 use crate::client::{Client, Common};
@@ -23,6 +23,41 @@ use spr_io::Gate;
 use spr_volume::Pass;
 use std::alloc::Global;
 use std::sync::Wait;
+
+/// A line of one access, at a layer above the ground, within one page of the file. What it reads comes into the bytes.
+pub(crate) fn answer_access<R: Wait, G: Ground, T: Gate>(
+    rt: &R,
+    common: &Common<'_, G, T>,
+    pass: &mut Pass<G>,
+    client: &Client,
+    file: u32,
+    node: u32,
+    life: u32,
+    op: &Op,
+    out: Vec<u8>,
+) -> Reply
+    requires may { MayCall common.now.mount.now common.now.volume.now pass.old client.now.caller }
+    requires leads { IsLeafOf common.now.mount.now node file }
+    requires fits { IsTrue (fits_page common.now.mount.now.page_size (pages_of common.now.mount.now file) op.now) }
+    requires out { length out.items ≡ asked_by op.now }
+    ensures { LineDone common.now.mount.now client.now.caller client.now.state (plan_call client.now.state (asking file (access node life op.now))) pass.old pass.new result client.now.state }
+{
+    let mut out = out;
+    match access_at(
+        rt,
+        common,
+        pass,
+        client.caller,
+        file,
+        node,
+        life,
+        op,
+        &mut out,
+    ) {
+        Ok(answered) => reply_to(answered.answer, out),
+        Err(err) => refused(err),
+    }
+}
 
 /// A line of one access of an open object, whose range is within one page of the file.
 fn access_object<R: Wait, G: Ground, T: Gate>(
@@ -39,28 +74,25 @@ fn access_object<R: Wait, G: Ground, T: Gate>(
     requires target { IsTarget common.now.mount.now target }
     requires fits { IsTrue (fits_page common.now.mount.now.page_size (pages_of common.now.mount.now target.file) op) }
     requires len { len ≡ asked_by op }
-    ensures { LineDone common.now.mount.now client.now.caller client.now.state (plan_call client.now.state (asking target.file (access target.node target.life op))) pass.old pass.new result client.now.state }
+    ensures { LineDone common.now.mount.now client.now.caller client.now.state (plan_call client.now.state (asking target.file (access (node_at common.now.mount.now client.now.state target) target.life op))) pass.old pass.new result client.now.state }
 {
-    let Ok(mut out) = vec![in alloc; 0u8; len] else {
+    let Ok(out) = vec![in alloc; 0u8; len] else {
         return Reply::Memory;
     };
     let Ok(op) = framed(alloc, common, target, op) else {
         return Reply::Memory;
     };
-    match access_at(
+    answer_access(
         rt,
         common,
         pass,
-        client.caller,
+        client,
         target.file,
         target.node,
         target.life,
         &op,
-        &mut out,
-    ) {
-        Ok(answered) => reply_to(answered.answer, out),
-        Err(err) => refused(err),
-    }
+        out,
+    )
 }
 
 /// A line of one access of the object of a name.
@@ -164,7 +196,7 @@ pub(crate) fn sync_line<R: Wait, G: Ground, T: Gate>(
 ) -> Reply
     requires may { MayCall common.now.mount.now common.now.volume.now pass.old client.now.caller }
     requires on { IsOnMachine common.now.mount.now client.now.state }
-    ensures { LineDone common.now.mount.now client.now.caller client.now.state (plan_named client.now.state (object_of name.now client.now.state.objects) (plan_sync client.now.state keep)) pass.old pass.new result client.now.state }
+    ensures { LineDone common.now.mount.now client.now.caller client.now.state (plan_named client.now.state (object_of name.now client.now.state.objects) (plan_sync common.now.mount.now client.now.state keep)) pass.old pass.new result client.now.state }
 {
     let Some(target) = find(common, client, name) else {
         return Reply::NoObject;

@@ -1,5 +1,5 @@
-//! A client of a stack's files and names: its open objects, and what its lines of a script do. A call on a file goes as a frame of its
-//! object's subcontract.
+//! A client of a stack's files and names: its open objects, its address space, and what its lines of a script do. A call on a file goes as
+//! a frame of its object's subcontract, and a load or a store goes straight to the manager of the client's machine.
 //!
 //! The lines are this project's own; what a call on a file is follows the Spring papers.
 #![tactic(auto)]
@@ -9,8 +9,10 @@ mod client;
 mod files;
 mod line;
 mod lines;
+mod mapping;
 mod names;
 mod opening;
+mod places;
 
 pub use calls::sync_at;
 pub use client::{Client, Common, perform};

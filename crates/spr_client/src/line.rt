@@ -2,7 +2,7 @@
 
 ghost use Rattle.std.specs.Prelude.{◌≡◌, ◌<◌, IfOk, Some, length, slice_get};
 ghost use Rattle.hist_plain.specs.Plain.{Told};
-ghost use Rattle.run_defs.specs.Plan.{life_in, refused_as, reply_of};
+ghost use Rattle.run_defs.specs.Plan.{life_in, refused_as, reply_of, unmappable, untranslated};
 ghost use Rattle.spr_client.specs.Calls.{refusal_of};
 ghost use Rattle.spr_client.specs.Names.{IsAt};
 
@@ -11,6 +11,7 @@ use script_text::Reply;
 use seen_values::{Bytes, Path, Text};
 use spr_volume::{CallErr, NameErr};
 use std::alloc::{AllocError, Global};
+use vmm_space::{SpaceErr, TranslateErr};
 
 /// The answer of the file, as the answer to a line. The bytes that were read are in `out`.
 pub fn reply_to(answer: Answer, out: Vec<u8>) -> Reply
@@ -87,5 +88,29 @@ pub fn life_in(answer: Answer) -> u32
     match answer {
         Answer::Life { life } => life,
         Answer::Bytes | Answer::Done | Answer::Revoked { .. } => 0,
+    }
+}
+
+/// Why a region is not mapped, as the answer to a line.
+pub(crate) fn unmappable(why: SpaceErr) -> Reply
+    ensures { result ≡ unmappable why }
+{
+    match why {
+        SpaceErr::RegionExists => Reply::RegionExists,
+        SpaceErr::Unaligned => Reply::Unaligned,
+        SpaceErr::TooLong => Reply::TooLong,
+        SpaceErr::Overlap => Reply::Overlap,
+        SpaceErr::Memory => Reply::Memory,
+    }
+}
+
+/// Why an address leads to no page, as the answer to a line.
+pub(crate) fn untranslated(why: TranslateErr) -> Reply
+    ensures { result ≡ untranslated why }
+{
+    match why {
+        TranslateErr::Unmapped { address } => Reply::Unmapped { address },
+        TranslateErr::CrossesPage => Reply::CrossesPage,
+        TranslateErr::NotWritable => Reply::NotWritable,
     }
 }

@@ -4,9 +4,9 @@ ghost use Rattle.std.specs.Prelude.{◌≡◌, ◌⊎◌, ℕ, List, Some};
 ghost use Rattle.name_context.specs.Names.{HasParts, kept_object};
 ghost use Rattle.client_objects.specs.Objects.{OpenObject, object_of, with_object};
 ghost use Rattle.client_objects.specs.Stored.{received};
-ghost use Rattle.run_defs.specs.Plan.{plan_copy, plan_drop, plan_found, plan_named, plan_open};
+ghost use Rattle.run_defs.specs.Plan.{holding, plan_copy, plan_drop, plan_found, plan_named, plan_open};
 ghost use Rattle.spr_client.specs.Calls.{MayCall};
-ghost use Rattle.spr_client.specs.Lines.{IsOnMachine, IsTarget, LineDone, PlanDone, state_with};
+ghost use Rattle.spr_client.specs.Lines.{IsOnMachine, IsTarget, LineDone, PlanDone};
 
 use crate::calls::{access_at, framed};
 use crate::client::{Client, Common};
@@ -35,10 +35,9 @@ fn open_received<R: Wait, G: Ground, T: Gate>(
     requires may { MayCall common.now.mount.now common.now.volume.now pass.old client.old.caller }
     requires target { IsTarget common.now.mount.now target }
     ensures done { (objects : List OpenObject) (name : List ℕ) → client.old.state.objects ≡ with_object objects name target
-        → PlanDone common.now.mount.now client.old.caller (plan_found (state_with client.old.state.machine objects) name (Some target)) pass.old pass.new result client.new.state }
+        → PlanDone common.now.mount.now client.old.caller (plan_found common.now.mount.now (holding client.old.state objects) name (Some target)) pass.old pass.new result client.new.state }
     ensures on { (objects : List OpenObject) (name : List ℕ) → client.old.state.objects ≡ with_object objects name target
-        → (client.new.state.objects ≡ objects) ⊎ ((life : ℕ) × (client.new.state.objects ≡ with_object objects name (record target { life = life }))) }
-    ensures machine { client.new.state.machine ≡ client.old.state.machine }
+        → (client.new.state ≡ holding client.old.state objects) ⊎ ((life : ℕ) × (client.new.state ≡ holding client.old.state (with_object objects name (record target { life = life })))) }
     ensures same { client.new ≡ record client.old { state = client.new.state } }
 {
     let Ok(op) = framed(alloc, common, target, Op::Open) else {
@@ -79,7 +78,7 @@ fn open_stored<R: Wait, G: Ground, T: Gate>(
 ) -> Reply
     requires may { MayCall common.now.mount.now common.now.volume.now pass.old client.old.caller }
     requires on { IsOnMachine common.now.mount.now client.old.state }
-    ensures done { PlanDone common.now.mount.now client.old.caller (plan_found client.old.state name (received common.now.mount.now (Some (kept_object stored.now)))) pass.old pass.new result client.new.state }
+    ensures done { PlanDone common.now.mount.now client.old.caller (plan_found common.now.mount.now client.old.state name (received common.now.mount.now (Some (kept_object stored.now)))) pass.old pass.new result client.new.state }
     ensures on { IsOnMachine common.now.mount.now client.new.state }
     ensures same { client.new ≡ record client.old { state = client.new.state } }
 {

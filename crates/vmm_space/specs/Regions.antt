@@ -1,5 +1,5 @@
 -- A region, its addresses, and what an address of it leads to.
-use Rattle.std.specs.Prelude.{◌≡◌, ◌≢◌, ◌≤◌, ℕ, ◌+◌, ◌-◌, ◌*◌, ◌/◌, ◌%◌, List, slice_index, Bool, true, ◌==◌, ◌&&◌, not, nat_lt, nat_le, if◌then◌else◌, Result, Ok, Err}
+use Rattle.std.specs.Prelude.{◌≡◌, ◌≢◌, ◌≤◌, ◌<◌, ℕ, ◌+◌, ◌-◌, ◌*◌, ◌/◌, ◌%◌, List, slice_index, Bool, true, ◌==◌, ◌&&◌, not, nat_lt, nat_le, if◌then◌else◌, Result, Ok, Err}
 use Rattle.std.specs.Str.{bytes_eq}
 use Rattle.tower_core.specs.declared.right.Right.{Right}
 use Rattle.tower_core.specs.declared.right.Right.TheVariants.{Read, Write}
@@ -48,6 +48,15 @@ access_in size address len write region =
     if not (is_in_page size address len region) then Err CrossesPage
     else (if write && not region.write then Err NotWritable
     else Ok (place_in size address region))
+
+-- so many bytes at a place are some, and within one page of the region's
+pub record IsWithin (size len : ℕ) (region : Region) (place : Place) : Type 0 where
+  pub file : place.file ≡ region.file
+  pub leaf : place.leaf ≡ region.leaf
+  pub life : place.life ≡ region.life
+  pub page : place.page < region.pages
+  pub some : 1 ≤ len
+  pub within : place.off + len ≤ size
 
 -- the region begins at a page of the space, and has the first pages of a file; each file has so many
 pub record IsRegion (size : ℕ) (files : List ℕ) (region : Region) : Type 0 where

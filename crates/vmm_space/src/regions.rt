@@ -41,8 +41,8 @@ pub struct Place {
 }
 
 impl Region {
-    ghost use Rattle.std.specs.Prelude.{◌≡◌, ◌*◌, ◌<◌, true};
-    ghost use Rattle.vmm_space.specs.Regions.{is_named, has_address, meets, access_in};
+    ghost use Rattle.std.specs.Prelude.{◌≡◌, ◌*◌, ◌<◌, IfOk, true};
+    ghost use Rattle.vmm_space.specs.Regions.{is_named, has_address, meets, access_in, IsWithin};
 
     /// Whether it has the name.
     pub(crate) fn is_named(&self, name: &str) -> bool
@@ -87,7 +87,8 @@ impl Region {
     ) -> Result<Place, TranslateErr>
         requires page { 0 < page_size }
         requires inside { has_address page_size address self.now ≡ true }
-        ensures { result ≡ access_in page_size address len write self.now }
+        ensures value { result ≡ access_in page_size address len write self.now }
+        ensures within { IfOk result (IsWithin page_size len self.now) }
     {
         let from_start = address - self.address;
         let off = from_start % u64::from(page_size);

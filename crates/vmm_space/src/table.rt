@@ -4,7 +4,8 @@ ghost use Rattle.std.specs.Prelude.{◌≡◌, ◌≤◌, ◌<◌, true, false, 
 ghost use Rattle.std.specs.List.{list_any, find};
 ghost use Rattle.std.specs.Option.{option_map};
 ghost use Rattle.vmm_space.specs.Regions.{is_named, has_address, meets};
-ghost use Rattle.vmm_space.specs.Spaces.{IsSpace, refusal, RefusesMap, Maps, Unmaps, IsAsBefore, IsBlankOf, translation};
+ghost use Rattle.vmm_space.specs.declared.regions.Region.{Region};
+ghost use Rattle.vmm_space.specs.Spaces.{SpaceShape, IsSpace, blank_of, with_region, without_region, has_region, refusal, RefusesMap, translation, LeadsInto};
 
 use crate::MAX_ADDRESS;
 use crate::regions::{Place, Region};
@@ -15,8 +16,8 @@ use stack_accept::{FileEntry, Mounted};
 use std::alloc::{AllocError, Global};
 use std::marker::Model;
 
-/// The regions of a client's address space. Contracts see the page size, each file's number of pages, the regions in the
-/// order in which they were mapped, and the room for more of them.
+/// The regions of a client's address space. Contracts see the page size, each file's number of pages, and the regions in
+/// the order in which they were mapped.
 #[derive(Debug, Drop)]
 pub struct Space {
     page_size: u32,
@@ -25,12 +26,11 @@ pub struct Space {
 }
 
 impl Model for Space {
-    ghost use Rattle.std.specs.Prelude.{◌-◌, vec_capacity, vec_len};
     ghost use Rattle.vmm_space.specs.Spaces.{SpaceShape, AreSound};
 
     ghost Value = { SpaceShape };
 
-    ghost view = { λ s. record { page_size = s.page_size; files = s.files.items; regions = s.regions.items; spare = vec_capacity s.regions - vec_len s.regions } };
+    ghost view = { λ s. record { page_size = s.page_size; files = s.files.items; regions = s.regions.items } };
 
     ghost invariant = { λ s. AreSound s.page_size s.files.items s.regions.items };
 }
@@ -78,7 +78,7 @@ fn region_at(regions: &[Region], page_size: u32, address: u64) -> Option<&Region
 impl Space {
     /// A space with no region, over the files of a mounted stack. An error is that memory ran out.
     pub fn new(alloc: Global, mounted: &Mounted) -> Result<Space, AllocError>
-        ensures { IfOk result (IsBlankOf mounted.now) }
+        ensures { IfOk result (λ space. space ≡ blank_of mounted.now) }
     {
         let files = pages_of(alloc, mounted.files())?;
         Ok(Space {
@@ -94,14 +94,6 @@ impl Space {
         ensures { result ≡ length self.now.files }
     {
         self.files.len()
-    }
-
-    /// Makes room for one more region. It fails if memory runs out, and then nothing changes.
-    pub fn reserve(&mut self) -> Result<(), AllocError>
-        ensures ok { OnOk result (1 ≤ self.new.spare) }
-        ensures same { IsAsBefore self.old self.new }
-    {
-        self.regions.reserve(1)
     }
 
     /// Whether so many first pages of a file can be mapped under a name, from an address on: the answer that `map` would give,
@@ -128,23 +120,22 @@ impl Space {
     }
 
     /// Maps the first pages of the rights' file, so many of them, under a name, from an address on, for reading or for writing
-    /// too. Each access goes to the rights' manager, with this life. It fails for the first reason of `SpaceErr`, and then
-    /// nothing changes; it takes no memory if there is room.
+    /// too. Each access goes to the rights' manager, with life 0 until `set_life`. It fails for the first reason of
+    /// `SpaceErr`, and then nothing changes.
     pub fn map(
         &mut self,
         name: Text,
         rights: CacheRights,
-        life: u32,
         address: u64,
         pages: u32,
         write: bool,
     ) -> Result<(), SpaceErr>
         requires file { rights.file < length self.old.files }
         requires address { address ≤ MAX_ADDRESS }
-        ensures ok { OnOk result (Maps (record { name = name; file = rights.file; leaf = rights.leaf; life = life; address = address; pages = pages; write = write }) self.old self.new) }
-        ensures why { IfErr result (RefusesMap (refusal self.old name rights.file address pages) self.old.spare) }
+        ensures may { OnOk result (refusal self.old name rights.file address pages ≡ None) }
+        ensures ok { OnOk result (self.new ≡ with_region self.old (record { name = name; file = rights.file; leaf = rights.leaf; life = 0; address = address; pages = pages; write = write })) }
+        ensures why { IfErr result (RefusesMap (refusal self.old name rights.file address pages)) }
         ensures err { OnErr result (self.new ≡ self.old) }
-        ensures sound { IsSpace self.new }
     {
         self.may_map(name.as_str(), rights.file, address, pages)?;
         self.regions.reserve(1)?;
@@ -152,7 +143,7 @@ impl Space {
             name,
             file: rights.file,
             leaf: rights.leaf,
-            life,
+            life: 0,
             address,
             pages,
             write,
@@ -160,12 +151,29 @@ impl Space {
         Ok(())
     }
 
+    /// Sets the life of the last region.
+    pub fn set_life(&mut self, life: u32)
+        ensures { (space : SpaceShape) (region : Region) → self.old ≡ with_region space region → self.new ≡ with_region space (record region { life = life }) }
+    {
+        let Some(last) = self.regions.last_mut() else {
+            return;
+        };
+        last.life = life;
+    }
+
+    /// Gives the last region up.
+    pub fn give_up_last(&mut self)
+        ensures { (space : SpaceShape) (region : Region) → self.old ≡ with_region space region → self.new ≡ space }
+    {
+        let _region = self.regions.pop();
+    }
+
     /// Takes the region of a name away. It fails if there is none, and takes no memory.
     pub fn unmap(&mut self, name: &str) -> Result<(), NoRegion>
-        ensures ok { OnOk result (Unmaps name.now self.old self.new) }
-        ensures none { OnErr result (position (is_named name.now) self.old.regions ≡ None) }
+        ensures found { OnOk result (has_region name.now self.old ≡ true) }
+        ensures ok { OnOk result (self.new ≡ without_region name.now self.old) }
+        ensures none { OnErr result (has_region name.now self.old ≡ false) }
         ensures err { OnErr result (self.new ≡ self.old) }
-        ensures sound { IsSpace self.new }
     {
         let Some(place) = place_of(&self.regions, name) else {
             return Err(NoRegion);
@@ -179,7 +187,7 @@ impl Space {
     pub fn translate(&self, address: u64, len: u32, write: bool) -> Result<Place, TranslateErr>
         requires { address ≤ MAX_ADDRESS }
         ensures value { result ≡ translation self.now address len write }
-        ensures sound { IsSpace self.now }
+        ensures leads { IfOk result (LeadsInto self.now len) }
     {
         match region_at(&self.regions, self.page_size, address) {
             Some(region) => region.access(self.page_size, address, len, write),

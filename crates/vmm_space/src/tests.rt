@@ -62,12 +62,14 @@ fn space(alloc: Global) -> Result<Space, Fail> {
 fn maps(rt: HostRuntime) -> Result<(), Fail> {
     let alloc = rt.alloc();
     let mut space = space(alloc)?;
-    space.reserve()?;
     for (name, address, pages, write, why) in MAPS {
         assert!(rt; space.files() > 0 && address <= MAX_ADDRESS);
         assert_eq!(rt; space.may_map(name, 0, address, pages).err(), why);
-        let mapped = space.map(Text::of(alloc, name)?, RIGHTS, 5, address, pages, write);
+        let mapped = space.map(Text::of(alloc, name)?, RIGHTS, address, pages, write);
         assert_eq!(rt; mapped.err(), why);
+        if mapped.is_ok() {
+            space.set_life(5);
+        }
     }
     assert_eq!(rt;
         space.translate(9_223_372_036_854_775_807, 1, true),
@@ -91,7 +93,11 @@ fn loads_and_stores(rt: HostRuntime) -> Result<(), Fail> {
     let alloc = rt.alloc();
     let mut space = space(alloc)?;
     assert!(rt; space.files() > 0);
-    space.map(Text::of(alloc, "p")?, RIGHTS, 5, 128, 1, false)?;
+    space.map(Text::of(alloc, "p")?, RIGHTS, 128, 1, false)?;
+    space.set_life(5);
+    assert!(rt; space.files() > 0);
+    space.map(Text::of(alloc, "q")?, RIGHTS, 192, 1, false)?;
+    space.give_up_last();
     let rows = [
         (127, 1, false, Err(TranslateErr::Unmapped { address: 127 })),
         (190, 4, false, Err(TranslateErr::CrossesPage)),

@@ -9,7 +9,7 @@ pub returns-in_default : goal.returns-in_default
 returns-in_default g c =
     let state = c.args.client.now.state in
     done-none c.args.common.now.mount.now c.args.client.now.caller state _ c.args.pass.now _ state
-    (named-none state (object_of c.args.name.now state.objects) (plan_sync state c.args.keep) (sym c.find.ensures.is ∙ c.in_default.is))
+    (named-none state (object_of c.args.name.now state.objects) (plan_sync c.args.common.now.mount.now state c.args.keep) (sym c.find.ensures.is ∙ c.in_default.is))
 
 pub returns-in_default-framed_sync : goal.returns-in_default-framed_sync
 returns-in_default-framed_sync g c = done-lacks c.args.common.now.mount.now c.args.client.now.caller c.args.client.now.state _ c.args.pass.now
@@ -21,7 +21,7 @@ returns-in-Ok-sync_at g c =
     let target = c.in-Some.target in
     let ask : Request = asking target.file (sync target.node c.args.keep) in
     done-as mount c.args.client.now.caller state (plan_call state ask) _ c.args.pass.now c.sync_at.new.pass c.reply_to.result state
-    (named-some state (object_of c.args.name.now state.objects) target (plan_sync state c.args.keep) (sym c.find.ensures.is ∙ c.in-Some.is))
+    (named-some state (object_of c.args.name.now state.objects) target (plan_sync c.args.common.now.mount.now state c.args.keep) (sym c.find.ensures.is ∙ c.in-Some.is))
     (done-answered mount c.args.common.now.volume.now c.args.client.now.caller state ask state c.args.pass.now c.sync_at.new.pass [] c.in-Ok-sync_at.answered c.reply_to.result c.requires.may
     c.in-Ok-sync_at.ensures (λ t answer bytes. c.reply_to.ensures t answer (λ read. bytes read ∙ sym c.new.ensures.items)))
 
@@ -32,6 +32,6 @@ returns-in-Err g c =
     let target = c.in-Some.target in
     let ask : Request = asking target.file (sync target.node c.args.keep) in
     done-as mount c.args.client.now.caller state (plan_call state ask) _ c.args.pass.now c.sync_at.new.pass c.refused.result state
-    (named-some state (object_of c.args.name.now state.objects) target (plan_sync state c.args.keep) (sym c.find.ensures.is ∙ c.in-Some.is))
+    (named-some state (object_of c.args.name.now state.objects) target (plan_sync c.args.common.now.mount.now state c.args.keep) (sym c.find.ensures.is ∙ c.in-Some.is))
     (done-refused mount c.args.common.now.volume.now c.args.client.now.caller state (plan_call state ask) ask state (λ (t : Told). ends (reply_of t) state) c.args.pass.now c.sync_at.new.pass [] c.in-Err.err c.refused.result
     c.requires.may refl c.in-Err.ensures c.refused.ensures)

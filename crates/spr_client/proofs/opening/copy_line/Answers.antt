@@ -2,8 +2,7 @@ use Rattle.std.proofs.Common.{◌≡◌, ℕ, List, Option, Some, sym, ap, ◌�
 use Rattle.script_text.specs.declared.script.Reply.TheVariants as replies
 use Rattle.client_objects.specs.declared.target.Target.{Target}
 use Rattle.client_objects.specs.Objects.{OpenObject, object_of, with_object}
-use Rattle.run_defs.specs.Plan.{ends, plan_copy}
-use Rattle.spr_client.specs.Lines.{state_with}
+use Rattle.run_defs.specs.Plan.{ends, holding, plan_copy}
 use Rattle.spr_client.proofs.LineLaws.{done-left, done-none, done-lacks, named-none, named-some}
 use Rattle.spr_client.proofs.Targets.{on_machine-copy}
 use Rattle.spr_client.proofs.opening.copy_line.Goals as goal
@@ -33,19 +32,19 @@ returns-in-Ok-copy-clause-done g c =
     let found : object_of c.args.name.now state.objects ≡ Some target = sym c.find.ensures.is ∙ c.in-Some.is in
     let second : c.in-Ok.second ≡ other = c.in-Ok.ensures ∙ c.as_str.ensures in
     let left : c.copy.new.self ≡ with_object state.objects other target = c.in-Ok-copy.ensures.ok target found ∙ ap (λ (n : List ℕ). with_object state.objects n target) second in
-    done-none c.args.common.now.mount.now c.args.client.now.caller state _ c.args.pass.now replies.Done (state_with state.machine c.copy.new.self)
+    done-none c.args.common.now.mount.now c.args.client.now.caller state _ c.args.pass.now replies.Done (holding state c.copy.new.self)
     (named-some state (object_of c.args.name.now state.objects) target (plan_copy state other (object_of other state.objects)) found
     ∙ (ap (λ (o : Option Target). plan_copy state other o target) (sym c.find-2.ensures.is ∙ c.in-None.is)
-    ∙ ap (λ (os : List OpenObject). ends replies.Done (state_with state.machine os)) (sym left)))
+    ∙ ap (λ (os : List OpenObject). ends replies.Done (holding state os)) (sym left)))
 
 pub returns-in-Ok-copy-clause-on : goal.returns-in-Ok-copy-clause-on
 returns-in-Ok-copy-clause-on g c =
     let state = c.args.client.now.state in
     let found : object_of c.args.name.now state.objects ≡ Some c.in-Some.field-0 = sym c.find.ensures.is ∙ c.in-Some.is in
-    on_machine-copy c.args.common.now.mount.now state.machine state.objects c.copy.new.self c.args.name.now c.in-Ok.second c.in-Some.field-0 c.requires.on.machine c.requires.on.objects found (c.in-Ok-copy.ensures.ok c.in-Some.field-0 found)
+    on_machine-copy c.args.common.now.mount.now state c.copy.new.self c.args.name.now c.in-Ok.second c.in-Some.field-0 c.requires.on found (c.in-Ok-copy.ensures.ok c.in-Some.field-0 found)
 
 pub returns-in-Err-clause-done : goal.returns-in-Err-clause-done
 returns-in-Err-clause-done g c =
     let state = c.args.client.now.state in
-    done-left c.args.common.now.mount.now c.args.client.now.caller state _ c.args.pass.now c.args.pass.now replies.Memory state (state_with state.machine c.copy.new.self) (ap (state_with state.machine) c.in-Err.ensures.err)
+    done-left c.args.common.now.mount.now c.args.client.now.caller state _ c.args.pass.now c.args.pass.now replies.Memory state (holding state c.copy.new.self) (ap (holding state) c.in-Err.ensures.err)
     (done-lacks c.args.common.now.mount.now c.args.client.now.caller state _ c.args.pass.now)

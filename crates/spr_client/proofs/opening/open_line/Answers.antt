@@ -38,12 +38,12 @@ returns-in-Ok-resolve-clause-done g c =
     let end = c.open_stored.new.pass in
     let left = c.open_stored.new.client.state in
     let same : c.in-Ok.copy ≡ name = c.in-Ok.ensures ∙ c.as_str.ensures in
-    let done : PlanDone mount caller (plan_found state name (received mount (Some (kept_object c.in-Ok-resolve.stored)))) mid end c.open_stored.result left =
-    subst (λ (n : List ℕ). PlanDone mount caller (plan_found state n (received mount (Some (kept_object c.in-Ok-resolve.stored)))) mid end c.open_stored.result left) same c.open_stored.ensures.done in
-    names-then mount c.args.common.now.volume.now caller state _ (asking_names names_calls.Resolve (Some path)) (λ names. plan_found state name (received mount (kept_at names path))) None _ c.args.pass.now mid end c.open_stored.result left c.requires.may
+    let done : PlanDone mount caller (plan_found mount state name (received mount (Some (kept_object c.in-Ok-resolve.stored)))) mid end c.open_stored.result left =
+    subst (λ (n : List ℕ). PlanDone mount caller (plan_found mount state n (received mount (Some (kept_object c.in-Ok-resolve.stored)))) mid end c.open_stored.result left) same c.open_stored.ensures.done in
+    names-then mount c.args.common.now.volume.now caller state _ (asking_names names_calls.Resolve (Some path)) (λ names. plan_found mount state name (received mount (kept_at names path))) None _ c.args.pass.now mid end c.open_stored.result left c.requires.may
     (open-new mount state name path (object_of name state.objects) (sym c.find.ensures.is ∙ c.in-None.is))
     (refl, c.in-Ok-resolve.ensures.called)
-    (λ names tells. subst (λ (k : Option Kept). PlanDone mount caller (plan_found state name (received mount k)) mid end c.open_stored.result left) (sym tells) done)
+    (λ names tells. subst (λ (k : Option Kept). PlanDone mount caller (plan_found mount state name (received mount k)) mid end c.open_stored.result left) (sym tells) done)
 
 pub returns-in-Err-clause-done : goal.returns-in-Err-clause-done
 returns-in-Err-clause-done g c =
@@ -52,6 +52,6 @@ returns-in-Err-clause-done g c =
     let state = c.args.client.now.state in
     let name = c.args.name.now in
     let path = c.args.path.now in
-    names-refused mount c.args.common.now.volume.now caller state _ (asking_names names_calls.Resolve (Some path)) (λ names. plan_found state name (received mount (kept_at names path))) None _ c.args.pass.now c.resolve.new.pass c.in-Err.err _ c.requires.may
+    names-refused mount c.args.common.now.volume.now caller state _ (asking_names names_calls.Resolve (Some path)) (λ names. plan_found mount state name (received mount (kept_at names path))) None _ c.args.pass.now c.resolve.new.pass c.in-Err.err _ c.requires.may
     (open-new mount state name path (object_of name state.objects) (sym c.find.ensures.is ∙ c.in-None.is))
     (refl, c.in-Err.ensures.called) (c.refused_names.ensures ∙ ap (λ (ps : List (List ℕ)). refused_as (Some ps) c.in-Err.err) c.in-Ok-parts_of.ensures)

@@ -6,8 +6,8 @@ use Rattle.client_objects.specs.Objects.{OpenObject}
 use Rattle.client_objects.specs.declared.why.NotReceived.{NotReceived}
 use Rattle.client_objects.specs.Received.{RefusesReceived}
 use Rattle.client_objects.specs.Stored.{received}
-use Rattle.run_defs.specs.Plan.{ends, plan_found}
-use Rattle.spr_client.specs.Lines.{PlanDone, state_with}
+use Rattle.run_defs.specs.Plan.{ends, holding, plan_found}
+use Rattle.spr_client.specs.Lines.{PlanDone}
 use Rattle.spr_client.proofs.LineLaws.{found-lacks, plan-none}
 use Rattle.spr_client.proofs.Targets.{on_machine-either, received_target}
 use Rattle.spr_client.proofs.opening.open_stored.Goals as goal
@@ -18,13 +18,13 @@ open_received-requires-clause-target g c κs within = received_target c.args.com
 pub returns-in-Ok-clause-done : goal.returns-in-Ok-clause-done
 returns-in-Ok-clause-done g c =
     let state = c.args.client.now.state in
-    subst (λ (o : Option Target). PlanDone c.args.common.now.mount.now c.args.client.now.caller (plan_found state c.args.name o) c.args.pass.now c.open_received.new.pass c.open_received.result c.open_received.new.client.state) (sym c.in-Ok.ensures.ok.0)
+    subst (λ (o : Option Target). PlanDone c.args.common.now.mount.now c.args.client.now.caller (plan_found c.args.common.now.mount.now state c.args.name o) c.args.pass.now c.open_received.new.pass c.open_received.result c.open_received.new.client.state) (sym c.in-Ok.ensures.ok.0)
     (c.open_received.ensures.done state.objects c.args.name c.in-Ok.ensures.ok.1)
 
 pub returns-in-Ok-clause-on : goal.returns-in-Ok-clause-on
 returns-in-Ok-clause-on g c =
     let state = c.args.client.now.state in
-    on_machine-either c.args.common.now.mount.now c.open_received.new.client.state state.machine state.objects c.args.name c.in-Ok.target (Some (kept_object c.args.stored.now)) c.requires.on.machine c.requires.on.objects c.in-Ok.ensures.ok.0 c.open_received.ensures.machine
+    on_machine-either c.args.common.now.mount.now c.open_received.new.client.state state c.args.name c.in-Ok.target (Some (kept_object c.args.stored.now)) c.requires.on c.in-Ok.ensures.ok.0
     (c.open_received.ensures.on state.objects c.args.name c.in-Ok.ensures.ok.1)
 
 pub returns-in-Err-BadObject-clause-done : goal.returns-in-Err-BadObject-clause-done
@@ -32,8 +32,8 @@ returns-in-Err-BadObject-clause-done g c =
     let state = c.args.client.now.state in
     let found = received c.args.common.now.mount.now (Some (kept_object c.args.stored.now)) in
     let why : RefusesReceived found NotReceived.BadObject = subst (λ (e : NotReceived). RefusesReceived found e) c.in-Err-BadObject.field-0-is c.in-Err-BadObject.ensures.why in
-    plan-none c.args.common.now.mount.now c.args.client.now.caller (plan_found state c.args.name (received c.args.common.now.mount.now (Some (kept_object c.args.stored.now)))) c.args.pass.now replies.BadObject (state_with state.machine c.receive.new.self)
-    (ap (λ (o : Option Target). plan_found state c.args.name o) why ∙ ap (λ (os : List OpenObject). ends replies.BadObject (state_with state.machine os)) (sym c.in-Err-BadObject.ensures.err))
+    plan-none c.args.common.now.mount.now c.args.client.now.caller (plan_found c.args.common.now.mount.now state c.args.name (received c.args.common.now.mount.now (Some (kept_object c.args.stored.now)))) c.args.pass.now replies.BadObject (holding state c.receive.new.self)
+    (ap (λ (o : Option Target). plan_found c.args.common.now.mount.now state c.args.name o) why ∙ ap (λ (os : List OpenObject). ends replies.BadObject (holding state os)) (sym c.in-Err-BadObject.ensures.err))
 
 pub returns-in-Err-Memory-clause-done : goal.returns-in-Err-Memory-clause-done
 returns-in-Err-Memory-clause-done g c =
@@ -41,5 +41,5 @@ returns-in-Err-Memory-clause-done g c =
     let state = c.args.client.now.state in
     let found = received mount (Some (kept_object c.args.stored.now)) in
     let why : RefusesReceived found NotReceived.Memory = subst (λ (e : NotReceived). RefusesReceived found e) c.in-Err-Memory.field-0-is c.in-Err-Memory.ensures.why in
-    subst (λ (os : List OpenObject). PlanDone mount c.args.client.now.caller (plan_found state c.args.name found) c.args.pass.now c.args.pass.now replies.Memory (state_with state.machine os)) (sym c.in-Err-Memory.ensures.err)
+    subst (λ (os : List OpenObject). PlanDone mount c.args.client.now.caller (plan_found c.args.common.now.mount.now state c.args.name found) c.args.pass.now c.args.pass.now replies.Memory (holding state os)) (sym c.in-Err-Memory.ensures.err)
     (found-lacks mount c.args.client.now.caller state c.args.name found c.args.pass.now why)

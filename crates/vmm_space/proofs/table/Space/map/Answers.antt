@@ -1,15 +1,8 @@
-use Rattle.std.proofs.Common.{◌-◌, vec_capacity, vec_len}
 use Rattle.vmm_space.proofs.SpaceLaws.{mapped_by}
 use Rattle.vmm_space.proofs.table.Space.map.Goals as goal
 
 pub invariant_of-self-2 : goal.invariant_of-self-2
 invariant_of-self-2 c =
-    mapped_by _ _ (vec_capacity c.self.inside.regions - vec_len c.self.inside.regions) _ _ _ _ _ c.self.invariant
-    (rw (← c.self.view_is) at c.in_ok-may_map.ensures.value) c.as_str.ensures c.requires.address c.in_ok-reserve.ensures.items
-    c.push_reserved.ensures.items
-
-pub returns-clause-sound : goal.returns-clause-sound
-returns-clause-sound c =
-    mapped_by _ _ (vec_capacity c.self.inside.regions - vec_len c.self.inside.regions) _ _ _ _ _ c.self.invariant
+    mapped_by _ _ _ _ _ _ _ c.self.invariant
     (rw (← c.self.view_is) at c.in_ok-may_map.ensures.value) c.as_str.ensures c.requires.address c.in_ok-reserve.ensures.items
     c.push_reserved.ensures.items
