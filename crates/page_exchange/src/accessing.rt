@@ -1,6 +1,6 @@
 //! A node's own accesses. Each access of a leaf is a use of its page.
 
-ghost use Rattle.std.specs.Prelude.{◌≡◌, ◌+◌, ◌≤◌, length, take, drop, replicate};
+ghost use Rattle.std.specs.Prelude.{◌≡◌, ◌+◌, ◌<◌, ◌≤◌, ◌↔◌, IsTrue, length, take, drop, replicate};
 ghost use Rattle.hist_plain.specs.Plain.{overwritten};
 ghost use Rattle.tower_sides.specs.Side.{written};
 ghost use Rattle.vmm_cache.specs.Leaf as leaves;
@@ -38,6 +38,28 @@ impl Table {
         match self {
             Table::Layer { .. } => None,
             Table::Leaf { leaf } => leaf.victim(),
+        }
+    }
+
+    /// Whether the node may read a page of its own.
+    pub fn may_read(&self, page: u32) -> bool
+        requires { page < (file_of self.now).pages }
+        ensures { IsTrue result ↔ MayRead self.now page }
+    {
+        match self {
+            Table::Layer { node } => node.may_read(page),
+            Table::Leaf { leaf } => leaf.may_read(page),
+        }
+    }
+
+    /// Whether the node may write a page of its own.
+    pub fn may_write(&self, page: u32) -> bool
+        requires { page < (file_of self.now).pages }
+        ensures { IsTrue result ↔ MayWrite self.now page }
+    {
+        match self {
+            Table::Layer { node } => node.may_write(page),
+            Table::Leaf { leaf } => leaf.may_write(page),
         }
     }
 

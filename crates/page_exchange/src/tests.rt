@@ -1,9 +1,10 @@
 //! Exchanges about page 0 of a file of two pages of 64 bytes, as the rules of the messages have them.
 
-ghost use Rattle.std.specs.Prelude.{◌≡◌, IsTrue};
+ghost use Rattle.std.specs.Prelude.{◌≡◌, IfSome, IsTrue};
 ghost use Rattle.disk_format.specs.Shape.{IsShape};
 ghost use Rattle.disk_layer.specs.Disk.{seen_of};
-ghost use Rattle.coherency_layer.specs.Node.{file_of};
+ghost use Rattle.page_exchange.specs.declared.table.Table.TheVariants.{Layer};
+ghost use Rattle.page_exchange.specs.Table.{file_of};
 ghost use Rattle.page_exchange.specs.Ground.{IsUnder};
 
 use super::*;
@@ -15,6 +16,7 @@ use spr_io::{MemStore, Store};
 use std::alloc::{AllocError, Global};
 use std::test::Fail;
 use tower_core::Right;
+use vmm_cache::Leaf;
 
 /// The numbers of an interface text that declares the operations in this order.
 fn numbers() -> Ops {
@@ -49,7 +51,17 @@ fn on_disk(disk: &mut Disk<MemStore>) -> Option<[u8; 2]> {
 }
 
 /// The rights and the bytes of page 0 at a node.
-fn at(node: &Node) -> Option<(Right, [u8; 2])> {
+fn at(table: &Table) -> Option<(Right, [u8; 2])> {
+    let file = table.file();
+    if file.pages != 2 || file.page_size != 64 || !table.may_read(0) {
+        return None;
+    }
+    let bytes = table.lend(0, 0, 2);
+    Some((table.right(0), [bytes[0], bytes[1]]))
+}
+
+/// The rights and the bytes of page 0 at a layer.
+fn at_layer(node: &Node) -> Option<(Right, [u8; 2])> {
     let file = node.file();
     if file.pages != 2 || file.page_size != 64 || !node.may_read(0) {
         return None;
@@ -59,28 +71,45 @@ fn at(node: &Node) -> Option<(Right, [u8; 2])> {
 }
 
 /// Whether the disk has the pages of the node's file, two of 64 bytes.
-fn is_under(disk: &Disk<MemStore>, node: &Node) -> bool
-    ensures under { IsTrue result → IsUnder (seen_of disk.now) node.now }
-    ensures size { IsTrue result → (file_of node.now).page_size ≡ 64 }
-    ensures pages { IsTrue result → (file_of node.now).pages ≡ 2 }
+fn is_under(disk: &Disk<MemStore>, table: &Table) -> bool
+    ensures under { IsTrue result → IsUnder (seen_of disk.now) table.now }
+    ensures size { IsTrue result → (file_of table.now).page_size ≡ 64 }
+    ensures pages { IsTrue result → (file_of table.now).pages ≡ 2 }
 {
     let shape = disk.shape();
-    let file = node.file();
+    let file = table.file();
     shape.page_size == 64 && shape.pages == 2 && file.page_size == 64 && file.pages == 2
+}
+
+/// The table of a layer.
+fn layer_of(table: Table) -> Option<Node>
+    ensures { IfSome result (λ node. table ≡ Layer node) }
+{
+    match table {
+        Table::Layer { node } => Some(node),
+        Table::Leaf { leaf: _leaf } => None,
+    }
 }
 
 #[test]
 fn a_page_goes_down_and_comes_back(rt: HostRuntime) -> Result<(), Fail> {
     let mut wire = Wire::new(rt.alloc(), numbers())?;
-    let mut own = Node::new(rt.alloc(), 64, 2, &[], 0)?;
-    let mut above = Node::new(rt.alloc(), 64, 2, &[2], 0)?;
+    let mut own = Table::Leaf {
+        leaf: Leaf::new(rt.alloc(), 64, 2, 1, 0)?,
+    };
+    let mut upper = Table::Layer {
+        node: Node::new(rt.alloc(), 64, 2, &[2], 0)?,
+    };
     let Some(mut ground) = disk(rt.alloc(), 0)? else {
         return Err(Fail::from(GroundErr::Memory));
     };
     let mut scratch = [0u8; 64];
-    assert!(rt; is_under(&ground, &above));
-    assert!(rt; above.right(0) == Right::Nothing);
-    wire.ask_ground(&mut above, &mut ground, Asked::PageInWrite, 0, &mut scratch)?;
+    assert!(rt; is_under(&ground, &upper));
+    assert!(rt; upper.right(0) == Right::Nothing);
+    wire.ask_ground(&mut upper, &mut ground, Asked::PageInWrite, 0, &mut scratch)?;
+    let Some(mut above) = layer_of(upper) else {
+        return Err(Fail::from(GroundErr::Memory));
+    };
     // The child asks, and its parent serves it.
     assert!(rt; own.file() == above.file());
     assert!(rt; above.has_child(2));
@@ -88,7 +117,7 @@ fn a_page_goes_down_and_comes_back(rt: HostRuntime) -> Result<(), Fail> {
     assert!(rt; own.right(0) == Right::Nothing);
     wire.ask_above(&mut own, &mut above, 2, Asked::PageInWrite, 0)?;
     assert_eq!(rt; at(&own), Some((Right::Write, [0, 0])));
-    assert_eq!(rt; at(&above), None);
+    assert_eq!(rt; at_layer(&above), None);
     assert!(rt; own.may_write(0));
     own.change(0, 0, b"ab");
     // The parent orders, and the child obeys.
@@ -98,14 +127,16 @@ fn a_page_goes_down_and_comes_back(rt: HostRuntime) -> Result<(), Fail> {
     assert!(rt; own.may_write(0));
     wire.call_below(&mut own, &mut above, 2, Called::DenyWrites, 0);
     assert_eq!(rt; at(&own), Some((Right::Read, *b"ab")));
-    assert_eq!(rt; at(&above), Some((Right::Write, *b"ab")));
+    assert_eq!(rt; at_layer(&above), Some((Right::Write, *b"ab")));
     Ok(())
 }
 
 #[test]
 fn a_refusal_leaves_both(rt: HostRuntime) -> Result<(), Fail> {
     let mut wire = Wire::new(rt.alloc(), numbers())?;
-    let mut node = Node::new(rt.alloc(), 64, 2, &[], 0)?;
+    let mut node = Table::Layer {
+        node: Node::new(rt.alloc(), 64, 2, &[], 0)?,
+    };
     let Some(mut ground) = disk(rt.alloc(), 3)? else {
         return Err(Fail::from(GroundErr::Memory));
     };
@@ -117,6 +148,10 @@ fn a_refusal_leaves_both(rt: HostRuntime) -> Result<(), Fail> {
     assert!(rt; node.may_write(0));
     node.change(0, 0, b"cd");
     // The third write of the store fails.
+    let Some(table) = layer_of(node) else {
+        return Err(Fail::from(GroundErr::Memory));
+    };
+    let mut node = Table::Layer { node: table };
     assert!(rt; is_under(&ground, &node));
     assert!(rt; node.right(0) == Right::Write);
     let refused = wire.ask_ground(&mut node, &mut ground, Asked::Sync, 0, &mut scratch);
@@ -125,6 +160,10 @@ fn a_refusal_leaves_both(rt: HostRuntime) -> Result<(), Fail> {
     assert_eq!(rt; at(&node), Some((Right::Write, *b"cd")));
     assert_eq!(rt; on_disk(&mut ground), Some([0, 0]));
     // The page is still changed, so an order of the ground takes it.
+    let Some(table) = layer_of(node) else {
+        return Err(Fail::from(GroundErr::Memory));
+    };
+    let mut node = Table::Layer { node: table };
     assert!(rt; is_under(&ground, &node));
     assert!(rt; node.may_write(0));
     wire.order_by_ground(&mut node, &mut ground, Called::DenyWrites, 0)?;

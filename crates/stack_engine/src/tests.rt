@@ -1,5 +1,5 @@
-//! Towers of two layers, one upon the other, over a file of two pages of 64 bytes. What each try does is as the plan has it,
-//! worked by hand.
+//! Towers of two layers, one upon the other, or of a leaf upon a layer, over a file of three pages of 64 bytes. What each try
+//! does is as the plan has it, worked by hand.
 
 ghost use Rattle.std.specs.Prelude.{◌≡◌, ◌≤◌, ℕ, IfOk, IsTrue};
 ghost use Rattle.hist_plain.specs.Plain.{asked_by};
@@ -32,7 +32,9 @@ const UPPER: u32 = 2;
 enum Try {
     Opens,
     Reads,
+    ReadsOf(u32),
     Writes([u8; 3]),
+    WritesOf(u32, [u8; 3]),
     Clears,
     Syncs,
 }
@@ -55,6 +57,7 @@ fn message(event: &Event) -> End {
         Event::PageIn { node, .. } => End::Sends("page_in", *node),
         Event::ZeroFill { node, .. } => End::Sends("zero_fill", *node),
         Event::WriteOut { node, .. } => End::Sends("write_out", *node),
+        Event::PageOut { node, .. } => End::Sends("page_out", *node),
         Event::SyncOut { node, .. } => End::Sends("sync", *node),
         Event::FlushBack { node, .. } => End::Sends("flush_back", *node),
         Event::DenyWrites { node, .. } => End::Sends("deny_writes", *node),
@@ -79,50 +82,62 @@ fn ended(moved: Result<Moved, StepErr>, out: [u8; 3]) -> End {
     }
 }
 
-/// Two pages of 64 bytes, and so four blocks.
+/// Three pages of 64 bytes, and so five blocks.
 fn small() -> ImageShape
-    ensures shape { result ≡ record { page_size = 64; pages = 2 } }
+    ensures shape { result ≡ record { page_size = 64; pages = 3 } }
     ensures within { IsShape result }
 {
     ImageShape {
         page_size: 64,
-        pages: 2,
+        pages: 3,
     }
 }
 
 /// A disk of a fresh image, whose store fails at one write. The image takes the first two writes.
 fn disk(alloc: Global, fails_at: u64) -> Result<Option<Disk<MemStore>>, AllocError> {
-    let store = MemStore::new(alloc, 64, 4, &[], &[fails_at], &[])?;
+    let store = MemStore::new(alloc, 64, 5, &[], &[fails_at], &[])?;
     let small = small();
-    if !store.has_shape(64, 4) {
+    if !store.has_shape(64, 5) {
         return Ok(None);
     }
     Ok(Disk::format(alloc, store, 0, &small).ok())
 }
 
 /// The tree of the two layers.
-fn tree(alloc: Global) -> Result<Tree, AllocError>
-    ensures { IfOk result (λ t. (node : ℕ) → frames_of t node ≡ 0) }
+fn layers(alloc: Global) -> Result<Tree, AllocError>
+    ensures { IfOk result (λ t. (node : ℕ) → frames_of t node ≤ 1024) }
 {
     Tree::new(alloc, &[0, 0, 1], &[0, 0, 0])
 }
 
-/// Whether the disk has two pages of 64 bytes.
+/// The tree of a layer, and a leaf of two frames upon it.
+fn leaf(alloc: Global) -> Result<Tree, AllocError>
+    ensures { IfOk result (λ t. (node : ℕ) → frames_of t node ≤ 1024) }
+{
+    Tree::new(alloc, &[0, 0, 1], &[0, 0, 2])
+}
+
+/// Whether the disk has three pages of 64 bytes.
 fn is_small(disk: &Disk<MemStore>) -> bool
-    ensures under { IsTrue result → IsUnderFile (seen_of disk.now) (record { number = 0; page_size = 64; pages = 2 }) }
+    ensures under { IsTrue result → IsUnderFile (seen_of disk.now) (record { number = 0; page_size = 64; pages = 3 }) }
     ensures counts { (n : ℕ) → opened_in (seen_of disk.now).disks n ≤ faults_in (seen_of disk.now).disks n }
 {
     disk.sound();
     let shape = disk.shape();
-    shape.page_size == 64 && shape.pages == 2
+    shape.page_size == 64 && shape.pages == 3
 }
 
-/// A tower of the two layers.
-fn tower(alloc: Global, fails_at: u64) -> Result<Option<Tower<Disk<MemStore>>>, AllocError> {
+/// A tower of this tree.
+fn tower(
+    alloc: Global,
+    tree: Tree,
+    fails_at: u64,
+) -> Result<Option<Tower<Disk<MemStore>>>, AllocError>
+    requires { (node : ℕ) → frames_of tree node ≤ 1024 }
+{
     let Some(disk) = disk(alloc, fails_at)? else {
         return Ok(None);
     };
-    let tree = tree(alloc)?;
     let ops = Ops::new([0, 1, 2, 3, 4], [0, 1, 2, 3, 4, 5], [2, 3, 4, 5, 6, 0, 1]);
     if !is_small(&disk) {
         return Ok(None);
@@ -130,7 +145,7 @@ fn tower(alloc: Global, fails_at: u64) -> Result<Option<Tower<Disk<MemStore>>>, 
     let file = PagedFile {
         number: 0,
         page_size: 64,
-        pages: 2,
+        pages: 3,
     };
     Ok(Tower::open(alloc, tree, file, disk, ops).ok())
 }
@@ -142,20 +157,32 @@ fn is_layer(tower: &Tower<Disk<MemStore>>, node: u32) -> bool
     0 < node && node < tower.tree().nodes()
 }
 
-/// The access of a try, of page 0.
+/// A read of a page's first bytes.
+fn read_of(page: u32) -> Op {
+    Op::Read {
+        page,
+        off: 0,
+        len: 3,
+    }
+}
+
+/// A write of a page's first bytes.
+fn write_of(alloc: Global, page: u32, bytes: [u8; 3]) -> Result<Op, AllocError> {
+    Ok(Op::Write {
+        page,
+        off: 0,
+        bytes: Bytes::of(alloc, &bytes)?,
+    })
+}
+
+/// The access of a try, of page 0 if it names none.
 fn access(alloc: Global, tried: Try) -> Result<Option<Op>, AllocError> {
     Ok(match tried {
         Try::Opens => Some(Op::Open),
-        Try::Reads => Some(Op::Read {
-            page: 0,
-            off: 0,
-            len: 3,
-        }),
-        Try::Writes(bytes) => Some(Op::Write {
-            page: 0,
-            off: 0,
-            bytes: Bytes::of(alloc, &bytes)?,
-        }),
+        Try::Reads => Some(read_of(0)),
+        Try::ReadsOf(page) => Some(read_of(page)),
+        Try::Writes(bytes) => Some(write_of(alloc, 0, bytes)?),
+        Try::WritesOf(page, bytes) => Some(write_of(alloc, page, bytes)?),
         Try::Clears => Some(Op::Clear { page: 0 }),
         Try::Syncs => None,
     })
@@ -261,7 +288,8 @@ fn first_bytes(disk: &mut Disk<MemStore>) -> Option<[u8; 3]> {
 
 #[test]
 fn tries_of_two_callers(rt: HostRuntime) -> Result<(), Fail> {
-    let Some(mut tower) = tower(rt.alloc(), 0)? else {
+    let layers = layers(rt.alloc())?;
+    let Some(mut tower) = tower(rt.alloc(), layers, 0)? else {
         return Err(Fail::from(AllocError));
     };
     let reserved = tower.reserve(2);
@@ -282,7 +310,8 @@ fn tries_of_two_callers(rt: HostRuntime) -> Result<(), Fail> {
 /// The third write of the store fails, after the two of the image: the sync tells its fault, and the next one ends.
 #[test]
 fn a_store_that_fails(rt: HostRuntime) -> Result<(), Fail> {
-    let Some(mut tower) = tower(rt.alloc(), 3)? else {
+    let layers = layers(rt.alloc())?;
+    let Some(mut tower) = tower(rt.alloc(), layers, 3)? else {
         return Err(Fail::from(AllocError));
     };
     let rows = [
@@ -304,5 +333,51 @@ fn a_store_that_fails(rt: HostRuntime) -> Result<(), Fail> {
     assert_eq!(rt; wrong, None);
     assert_eq!(rt; trail.number(0), 3);
     assert_eq!(rt; bytes, Some(*b"one"));
+    Ok(())
+}
+
+/// The tries of two callers, 0 at a leaf of two frames and 1 at the layer below it, and how each ends. The third page that
+/// the leaf wants sends away the page whose last use is the oldest: a grant, a read and a write are uses, and a try that
+/// sends nothing shows that the leaf still holds its page. A page that was written comes to the layer.
+const EVICTIONS: [(u32, u32, Try, End); 20] = [
+    (0, UPPER, ReadsOf(0), Sends("zero_fill", LOWER)),
+    (0, UPPER, ReadsOf(0), Sends("zero_fill", UPPER)),
+    (0, UPPER, ReadsOf(0), Gives([0, 0, 0])),
+    (0, UPPER, WritesOf(1, *b"one"), Sends("zero_fill", LOWER)),
+    (0, UPPER, WritesOf(1, *b"one"), Sends("zero_fill", UPPER)),
+    (0, UPPER, WritesOf(1, *b"one"), Answers(Answer::Done)),
+    (0, UPPER, ReadsOf(0), Gives([0, 0, 0])),
+    // Page 1 goes out, and so the layer reads what was written to it, and orders nothing.
+    (0, UPPER, ReadsOf(2), Sends("page_out", UPPER)),
+    (0, UPPER, ReadsOf(2), Sends("zero_fill", LOWER)),
+    (0, UPPER, ReadsOf(2), Sends("zero_fill", UPPER)),
+    (0, UPPER, ReadsOf(2), Gives([0, 0, 0])),
+    (1, LOWER, ReadsOf(1), Gives(*b"one")),
+    // Page 0 goes out.
+    (0, UPPER, ReadsOf(1), Sends("page_out", UPPER)),
+    (0, UPPER, ReadsOf(1), Sends("page_in", UPPER)),
+    (0, UPPER, ReadsOf(1), Gives(*b"one")),
+    (0, UPPER, ReadsOf(2), Gives([0, 0, 0])),
+    // Page 1 goes out again, since page 2 was read after it.
+    (0, UPPER, ReadsOf(0), Sends("page_out", UPPER)),
+    (0, UPPER, ReadsOf(0), Sends("zero_fill", UPPER)),
+    (0, UPPER, ReadsOf(0), Gives([0, 0, 0])),
+    (0, UPPER, ReadsOf(2), Gives([0, 0, 0])),
+];
+
+#[test]
+fn the_page_used_longest_ago_goes_out(rt: HostRuntime) -> Result<(), Fail> {
+    let leaf = leaf(rt.alloc())?;
+    let Some(mut tower) = tower(rt.alloc(), leaf, 0)? else {
+        return Err(Fail::from(AllocError));
+    };
+    let wrong = first_wrong(rt.alloc(), &mut tower, &EVICTIONS);
+    let len = tower.len();
+    let (mut disk, trail) = tower.close();
+    let bytes = first_bytes(&mut disk);
+    assert_eq!(rt; wrong, None);
+    assert_eq!(rt; len, 20);
+    assert_eq!(rt; trail.bytes(11), b"one".as_slice());
+    assert_eq!(rt; bytes, Some([0, 0, 0]));
     Ok(())
 }

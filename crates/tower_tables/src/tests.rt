@@ -1,16 +1,17 @@
 //! A node on the ground, and two on that node, which share page 1 of a file of two pages of 64 bytes. What each has after
 //! a message is as the rules of the messages have it.
 
-ghost use Rattle.std.specs.Prelude.{◌≡◌, ◌≢◌, ◌<◌, IsTrue, true};
+ghost use Rattle.std.specs.Prelude.{◌≡◌, ◌≢◌, ◌<◌, Bool, IfSome, IsTrue};
 ghost use Rattle.disk_format.specs.Shape.{IsShape};
 ghost use Rattle.disk_layer.specs.Disk.{seen_of};
-ghost use Rattle.tower_core.specs.TreeShape.{IsUpper, parent};
+ghost use Rattle.tower_core.specs.TreeShape.{IsUpper, frames_of, parent};
 ghost use Rattle.tower_core.specs.declared.right.Right.{Right as ARight};
 ghost use Rattle.page_messages.specs.Rules.{MayServe};
 ghost use Rattle.page_messages.specs.declared.kinds.Asked.{Asked as AQuestion};
 ghost use Rattle.page_messages.specs.declared.kinds.Called.{Called as AnOrder};
-ghost use Rattle.page_exchange.specs.Allowed.{AllowAsking, AllowCalling, grant_asked};
-ghost use Rattle.tower_tables.specs.Tables.{IsUnderFile, paged_of, sides, tree_of};
+ghost use Rattle.page_exchange.specs.Allowed.{AllowAsking, AllowCalling, AllowsReading, AllowsWriting, grant_asked};
+ghost use Rattle.page_exchange.specs.Exchange.{may_be_full};
+ghost use Rattle.tower_tables.specs.Tables.{IsUnderFile, MayAskFrames, paged_of, sides, tree_of};
 
 use super::*;
 use coherency_layer::{Asked, Called, PagedFile};
@@ -42,7 +43,6 @@ use Move::*;
 /// The question for the page.
 fn question(write: bool) -> Asked
     ensures is { result ≡ grant_asked write }
-    ensures no_leaf { result ≢ AQuestion.PageOut }
     ensures of_page { result ≢ AQuestion.Done }
 {
     if write {
@@ -114,21 +114,58 @@ fn is_upper(tables: &Tables, node: u32) -> bool
     0 < node && node < tables.tree().nodes()
 }
 
+/// Whether the node is a layer.
+fn is_layer(tables: &Tables, node: u32) -> bool
+    requires { IsUpper (tree_of tables.now) node }
+    ensures { IsTrue result → frames_of (tree_of tables.now) node ≡ 0 }
+{
+    tables.tree().frames(node) == 0
+}
+
+/// Whether a layer may read the page.
+fn may_read(tables: &Tables, node: u32) -> bool
+    requires upper { IsUpper (tree_of tables.now) node }
+    requires page { PAGE < (paged_of tables.now).pages }
+    ensures { IsTrue result → AllowsReading (sides tables.now PAGE node) }
+{
+    is_layer(tables, node) && tables.node(node).may_read(PAGE)
+}
+
+/// Whether a layer may write the page.
+fn may_write(tables: &Tables, node: u32) -> bool
+    requires upper { IsUpper (tree_of tables.now) node }
+    requires page { PAGE < (paged_of tables.now).pages }
+    ensures { IsTrue result → AllowsWriting (sides tables.now PAGE node) }
+{
+    is_layer(tables, node) && tables.node(node).may_write(PAGE)
+}
+
+/// What a layer knows of a child's right on the page.
+fn child_right(tables: &Tables, above: u32, node: u32) -> Option<Right>
+    requires upper { IsUpper (tree_of tables.now) above }
+    requires page { PAGE < (paged_of tables.now).pages }
+    ensures { IfSome result (λ right. right ≡ (sides tables.now PAGE above).kids node) }
+{
+    if !is_layer(tables, above) || !tables.node(above).has_child(node) {
+        return None;
+    }
+    Some(tables.node(above).child_right(PAGE, node))
+}
+
 /// Whether a node, whose child has nothing of the page, may give it the page.
 fn lends(tables: &Tables, above: u32, node: u32, write: bool) -> bool
     requires above { IsUpper (tree_of tables.now) above }
     requires page { PAGE < (paged_of tables.now).pages }
     ensures known { IsTrue result → (sides tables.now PAGE above).kids node ≡ ARight.Nothing }
-    ensures serves { IsTrue result → MayServe (sides tables.now PAGE above) node true (grant_asked write) }
+    ensures serves { IsTrue result → (full : Bool) → MayServe (sides tables.now PAGE above) node full (grant_asked write) }
 {
-    let upper = tables.node(above);
-    if !upper.has_child(node) || upper.child_right(PAGE, node) != Right::Nothing {
+    if child_right(tables, above, node) != Some(Right::Nothing) {
         return false;
     }
     if write {
-        upper.may_write(PAGE)
+        may_write(tables, above)
     } else {
-        upper.may_read(PAGE)
+        may_read(tables, above)
     }
 }
 
@@ -136,11 +173,13 @@ fn lends(tables: &Tables, above: u32, node: u32, write: bool) -> bool
 fn may_get(tables: &Tables, node: u32, write: bool) -> bool
     requires upper { IsUpper (tree_of tables.now) node }
     requires page { PAGE < (paged_of tables.now).pages }
-    ensures may { IsTrue result → AllowAsking (tree_of tables.now) (sides tables.now PAGE) node true (grant_asked write) }
+    ensures may { IsTrue result → AllowAsking (tree_of tables.now) (sides tables.now PAGE) node
+        (may_be_full (sides tables.now PAGE node) (grant_asked write)) (grant_asked write) }
+    ensures frames { IsTrue result → MayAskFrames tables.now node (grant_asked write) PAGE }
     ensures known { IsTrue result → IsUpper (tree_of tables.now) (parent (tree_of tables.now) node) →
         (sides tables.now PAGE (parent (tree_of tables.now) node)).kids node ≡ (sides tables.now PAGE node).right }
 {
-    if tables.right(node, PAGE) != Right::Nothing {
+    if !is_layer(tables, node) || tables.right(node, PAGE) != Right::Nothing {
         return false;
     }
     let above = tables.tree().parent(node);
@@ -151,7 +190,8 @@ fn may_get(tables: &Tables, node: u32, write: bool) -> bool
 fn may_sync(tables: &Tables, node: u32) -> bool
     requires upper { IsUpper (tree_of tables.now) node }
     requires page { PAGE < (paged_of tables.now).pages }
-    ensures may { IsTrue result → AllowAsking (tree_of tables.now) (sides tables.now PAGE) node true AQuestion.Sync }
+    ensures may { IsTrue result → AllowAsking (tree_of tables.now) (sides tables.now PAGE) node
+        (may_be_full (sides tables.now PAGE node) AQuestion.Sync) AQuestion.Sync }
     ensures on_ground { IsTrue result → parent (tree_of tables.now) node ≡ 0 }
 {
     tables.tree().parent(node) == 0 && tables.right(node, PAGE) == Right::Write
@@ -163,8 +203,7 @@ fn holds_writer(tables: &Tables, above: u32, node: u32) -> bool
     requires page { PAGE < (paged_of tables.now).pages }
     ensures { IsTrue result → (sides tables.now PAGE above).kids node ≡ ARight.Write }
 {
-    let upper = tables.node(above);
-    upper.has_child(node) && upper.child_right(PAGE, node) == Right::Write
+    child_right(tables, above, node) == Some(Right::Write)
 }
 
 /// Whether a node may be ordered not to write the page.
@@ -173,7 +212,7 @@ fn may_deny(tables: &Tables, node: u32) -> bool
     requires page { PAGE < (paged_of tables.now).pages }
     ensures { IsTrue result → AllowCalling (tree_of tables.now) (sides tables.now PAGE) node AnOrder.DenyWrites }
 {
-    if tables.right(node, PAGE) != Right::Write || !tables.node(node).may_read(PAGE) {
+    if tables.right(node, PAGE) != Right::Write || !may_read(tables, node) {
         return false;
     }
     let above = tables.tree().parent(node);
@@ -203,12 +242,12 @@ fn make(
             Ok(())
         }
         Puts(node, bytes) => {
-            assert!(rt; is_upper(tables, node) && tables.node(node).may_write(PAGE));
+            assert!(rt; is_upper(tables, node) && may_write(tables, node));
             tables.change(node, PAGE, 0, &bytes);
             Ok(())
         }
         Blanks(node) => {
-            assert!(rt; is_upper(tables, node) && tables.node(node).may_write(PAGE));
+            assert!(rt; is_upper(tables, node) && may_write(tables, node));
             tables.blank(node, PAGE);
             Ok(())
         }
@@ -222,7 +261,7 @@ fn held(tables: &Tables, node: u32) -> Held
     requires size { (paged_of tables.now).page_size ≡ 64 }
 {
     let right = tables.right(node, PAGE);
-    if !tables.node(node).may_read(PAGE) {
+    if !may_read(tables, node) {
         return (right, None);
     }
     let bytes = tables.copy(node, PAGE);
