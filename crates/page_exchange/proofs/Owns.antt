@@ -134,9 +134,10 @@ leaf_takes leaf page Asked.Done may = (refl, may)
 
 pub answer_allowed : (table : Table) (f : FrameSeen) (what : Asked) (page : ℕ) → answer_in f ≡ Some (answered (side table page).right what) → about_of (file_of table) f ≡ Some (about_asked what page) → MayAskAbout table what page → AllowsAnswer table f
 answer_allowed (Layer node) f what page means is may =
-    subst (λ (o : Option Answer). IsSomeAnd (option_map {T = Answer} Message.Answers o) (λ message. (message ≢ Message.Answers Answer.PageOut) × layers.AllowsAbout node f message)) (sym means)
-    ((λ e. no_leaf (layers.side node page).right what may.no_leaf (let same : answered (layers.side node page).right what ≡ Answer.PageOut = cc in same)),
-    layer_about node f (about_asked what page) (Message.Answers (answered (layers.side node page).right what)) is (layer_takes node page what may.may))
+    subst (λ (o : Option Answer). IsSomeAnd (option_map {T = Answer} Message.Answers o) (λ message. (message ≢ Message.Answers Answer.PageOut) × layers.AllowsAbout node f message)) (sym means) (
+      (λ e. no_leaf (layers.side node page).right what may.no_leaf (let same : answered (layers.side node page).right what ≡ Answer.PageOut = cc in same)),
+      layer_about node f (about_asked what page) (Message.Answers (answered (layers.side node page).right what)) is (layer_takes node page what may.may),
+    )
 answer_allowed (Leaf leaf) f what page means is may =
     subst (λ (o : Option Answer). IsSomeAnd o (λ w. IsSomeAnd (about_of leaf.file f) (leaves.MayTakeAt leaf w))) (sym means)
     (subst (λ (o : Option About). IsSomeAnd o (leaves.MayTakeAt leaf (answered (leaves.side leaf page).right what))) (sym is) (leaf_takes leaf page what may.may))
@@ -162,7 +163,7 @@ leaf_page : (old new : LeafTable) (f : FrameSeen) (page : ℕ) (right : Right) (
     → moves page (leaves.uses_of old) ≡ listed → leaves.Makes old new f moves (About.Page page) → IsOwnChange (Leaf old) (Leaf new) (About.Page page) right down listed
 leaf_page old new f page right down moves listed to brings lists c =
     let made : after_pager old.file.page_size f (leaves.side old page) ≡ own_after right down (leaves.side old page) =
-        ap (λ (r : Right). own_after r (bytes_down old.file.page_size f) (leaves.side old page)) to ∙ ap (λ (x : Option (List ℕ)). own_after right x (leaves.side old page)) brings in
+    ap (λ (r : Right). own_after r (bytes_down old.file.page_size f) (leaves.side old page)) to ∙ ap (λ (x : Option (List ℕ)). own_after right x (leaves.side old page)) brings in
     record {
       same = record { kind = refl; file = c.same.file; children = refl; frames = c.same.frames };
       pages = record {

@@ -1,10 +1,12 @@
 //! Exchanges about page 0 of a file of two pages of 64 bytes, as the rules of the messages have them.
 
-ghost use Rattle.std.specs.Prelude.{◌≡◌, IfSome, IsTrue};
+ghost use Rattle.std.specs.Prelude.{◌≡◌, ◌<◌, IfSome, IsTrue};
 ghost use Rattle.disk_format.specs.Shape.{IsShape};
 ghost use Rattle.disk_layer.specs.Disk.{seen_of};
+ghost use Rattle.page_messages.specs.declared.kinds.Asked.{Asked as AQuestion};
+ghost use Rattle.page_messages.specs.declared.kinds.Called.{Called as AnOrder};
 ghost use Rattle.page_exchange.specs.declared.table.Table.TheVariants.{Layer};
-ghost use Rattle.page_exchange.specs.Table.{file_of};
+ghost use Rattle.page_exchange.specs.Table.{MayAskAbout, MayObeyAbout, file_of};
 ghost use Rattle.page_exchange.specs.Ground.{IsUnder};
 
 use super::*;
@@ -14,6 +16,7 @@ use disk_layer::{Disk, Ground, StoreFault};
 use pager_channel::Ops;
 use spr_io::{MemStore, Store};
 use std::alloc::{AllocError, Global};
+use std::process::Abort;
 use std::test::Fail;
 use tower_core::Right;
 use vmm_cache::Leaf;
@@ -91,40 +94,83 @@ fn layer_of(table: Table) -> Option<Node>
     }
 }
 
+/// Whether the layer may ask for page 0, to write it.
+fn may_get(table: &Table) -> bool
+    requires { 0 < (file_of table.now).pages }
+    ensures { IsTrue result → MayAskAbout table.now AQuestion.PageInWrite 0 }
+{
+    match table {
+        Table::Layer { node } => node.right(0) == Right::Nothing,
+        Table::Leaf { .. } => false,
+    }
+}
+
+/// Whether the node may ask for a sync of page 0.
+fn may_sync(table: &Table) -> bool
+    requires { 0 < (file_of table.now).pages }
+    ensures { IsTrue result → MayAskAbout table.now AQuestion.Sync 0 }
+{
+    match table {
+        Table::Layer { node } => node.right(0) == Right::Write,
+        Table::Leaf { leaf } => leaf.right(0) == Right::Write,
+    }
+}
+
+/// Whether the node may be ordered not to write page 0.
+fn may_deny(table: &Table) -> bool
+    requires { 0 < (file_of table.now).pages }
+    ensures { IsTrue result → MayObeyAbout table.now AnOrder.DenyWrites 0 }
+{
+    match table {
+        Table::Layer { node } => node.right(0) == Right::Write && node.may_read(0),
+        Table::Leaf { leaf } => leaf.right(0) == Right::Write,
+    }
+}
+
+/// The table of a layer that got page 0 from a disk, whose store fails at one write.
+fn fetched(
+    rt: &impl Abort,
+    alloc: Global,
+    wire: &mut Wire,
+    fails_at: u64,
+) -> Result<(Table, Disk<MemStore>), Fail> {
+    let mut table = Table::Layer {
+        node: Node::new(alloc, 64, 2, &[2], 0)?,
+    };
+    let Some(mut ground) = disk(alloc, fails_at)? else {
+        return Err(Fail::from(GroundErr::Memory));
+    };
+    assert!(rt; is_under(&ground, &table));
+    assert!(rt; may_get(&table));
+    let mut scratch = [0u8; 64];
+    wire.ask_ground(&mut table, &mut ground, Asked::PageInWrite, 0, &mut scratch)?;
+    Ok((table, ground))
+}
+
 #[test]
 fn a_page_goes_down_and_comes_back(rt: HostRuntime) -> Result<(), Fail> {
     let mut wire = Wire::new(rt.alloc(), numbers())?;
-    let mut own = Table::Leaf {
-        leaf: Leaf::new(rt.alloc(), 64, 2, 1, 0)?,
-    };
-    let mut upper = Table::Layer {
-        node: Node::new(rt.alloc(), 64, 2, &[2], 0)?,
-    };
-    let Some(mut ground) = disk(rt.alloc(), 0)? else {
-        return Err(Fail::from(GroundErr::Memory));
-    };
-    let mut scratch = [0u8; 64];
-    assert!(rt; is_under(&ground, &upper));
-    assert!(rt; upper.right(0) == Right::Nothing);
-    wire.ask_ground(&mut upper, &mut ground, Asked::PageInWrite, 0, &mut scratch)?;
+    let (upper, _ground) = fetched(&rt, rt.alloc(), &mut wire, 0)?;
     let Some(mut above) = layer_of(upper) else {
         return Err(Fail::from(GroundErr::Memory));
+    };
+    let mut own = Table::Leaf {
+        leaf: Leaf::new(rt.alloc(), 64, 2, 1, 0)?,
     };
     // The child asks, and its parent serves it.
     assert!(rt; own.file() == above.file());
     assert!(rt; above.has_child(2));
     assert!(rt; above.may_write(0));
-    assert!(rt; own.right(0) == Right::Nothing);
     wire.ask_above(&mut own, &mut above, 2, Asked::PageInWrite, 0)?;
     assert_eq!(rt; at(&own), Some((Right::Write, [0, 0])));
     assert_eq!(rt; at_layer(&above), None);
-    assert!(rt; own.may_write(0));
+    assert!(rt; own.file().page_size == 64 && own.may_write(0));
     own.change(0, 0, b"ab");
     // The parent orders, and the child obeys.
     assert!(rt; own.file() == above.file());
     assert!(rt; above.has_child(2));
     assert!(rt; above.child_right(0, 2) == Right::Write);
-    assert!(rt; own.may_write(0));
+    assert!(rt; may_deny(&own));
     wire.call_below(&mut own, &mut above, 2, Called::DenyWrites, 0);
     assert_eq!(rt; at(&own), Some((Right::Read, *b"ab")));
     assert_eq!(rt; at_layer(&above), Some((Right::Write, *b"ab")));
@@ -134,38 +180,22 @@ fn a_page_goes_down_and_comes_back(rt: HostRuntime) -> Result<(), Fail> {
 #[test]
 fn a_refusal_leaves_both(rt: HostRuntime) -> Result<(), Fail> {
     let mut wire = Wire::new(rt.alloc(), numbers())?;
-    let mut node = Table::Layer {
-        node: Node::new(rt.alloc(), 64, 2, &[], 0)?,
-    };
-    let Some(mut ground) = disk(rt.alloc(), 3)? else {
-        return Err(Fail::from(GroundErr::Memory));
-    };
-    let mut scratch = [0u8; 64];
-    assert!(rt; is_under(&ground, &node));
-    assert!(rt; node.right(0) == Right::Nothing);
-    wire.ask_ground(&mut node, &mut ground, Asked::PageInWrite, 0, &mut scratch)?;
+    let (mut node, mut ground) = fetched(&rt, rt.alloc(), &mut wire, 3)?;
     assert!(rt; is_under(&ground, &node));
     assert!(rt; node.may_write(0));
     node.change(0, 0, b"cd");
     // The third write of the store fails.
-    let Some(table) = layer_of(node) else {
-        return Err(Fail::from(GroundErr::Memory));
-    };
-    let mut node = Table::Layer { node: table };
     assert!(rt; is_under(&ground, &node));
-    assert!(rt; node.right(0) == Right::Write);
+    assert!(rt; may_sync(&node));
+    let mut scratch = [0u8; 64];
     let refused = wire.ask_ground(&mut node, &mut ground, Asked::Sync, 0, &mut scratch);
     let fault = StoreFault { disk: 7, count: 1 };
     assert_eq!(rt; refused, Err(GroundErr::Store(fault)));
     assert_eq!(rt; at(&node), Some((Right::Write, *b"cd")));
     assert_eq!(rt; on_disk(&mut ground), Some([0, 0]));
     // The page is still changed, so an order of the ground takes it.
-    let Some(table) = layer_of(node) else {
-        return Err(Fail::from(GroundErr::Memory));
-    };
-    let mut node = Table::Layer { node: table };
     assert!(rt; is_under(&ground, &node));
-    assert!(rt; node.may_write(0));
+    assert!(rt; may_deny(&node));
     wire.order_by_ground(&mut node, &mut ground, Called::DenyWrites, 0)?;
     assert_eq!(rt; at(&node), Some((Right::Read, *b"cd")));
     assert_eq!(rt; on_disk(&mut ground), Some(*b"cd"));
