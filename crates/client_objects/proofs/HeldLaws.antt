@@ -306,15 +306,25 @@ are_held-receive old new entries name object from end held got =
 
 target_received : (sub : ℕ) (object : Object) (fields : Fields) → object.sub ≡ sub → object.tag ≡ fields.tag → object.life ≡ 0 → target_at object fields.door ≡ target_of sub fields
 target_received sub object fields which tag life =
-    ap (λ (n : ℕ). let t : Target = record { sub = n; tag = object.tag; node = fields.door.node; file = file_of n (record { door = fields.door; tag = object.tag }); life = object.life } in t) which
-    ∙ ap (λ (n : ℕ). let t : Target = record { sub = sub; tag = n; node = fields.door.node; file = file_of sub (record { door = fields.door; tag = n }); life = object.life } in t) tag
-    ∙ ap (λ (n : ℕ). let t : Target = record { sub = sub; tag = fields.tag; node = fields.door.node; file = file_of sub fields; life = n } in t) life
+    ap (λ (n : ℕ). let t : Target = record { sub = n; tag = object.tag; view = fields.door.node; file = file_of n (record { door = fields.door; tag = object.tag }); life = object.life } in t) which
+    ∙ ap (λ (n : ℕ). let t : Target = record { sub = sub; tag = n; view = fields.door.node; file = file_of sub (record { door = fields.door; tag = n }); life = object.life } in t) tag
+    ∙ ap (λ (n : ℕ). let t : Target = record { sub = sub; tag = fields.tag; view = fields.door.node; file = file_of sub fields; life = n } in t) life
 
 pub seen-receive : (old new : Doors) (entries : List Entry) (name : List ℕ) (object : Object) (from end : Reading) → AreHeld old entries → (got : UnmarshalsAny is_built form_of old new from end object)
     → seen new (entries ++ record { name = name; object = object } ∷ []) ≡ with_object (seen old entries) name (target_of object.sub got.reads.fields)
 seen-receive old new entries name object from end held got =
     seen-push old new entries (record { name = name; object = object }) (Some got.reads.fields.door) held got.reads.vacant got.reads.enters
     ∙ ap (λ (t : Target). with_object (seen old entries) name t) (target_received object.sub object got.reads.fields refl got.reads.tag got.reads.life)
+
+-- a received object is held, and its target is where its fields lead
+pub held-receive : (old new : Doors) (object : Object) (from end : Reading) → UnmarshalsAny is_built form_of old new from end object → IsHeld new object
+held-receive old new object from end got =
+    record { door = ap (λ (door : Option Door). is_some door) got.reads.enters.changed; built = got.known; of = got.reads.of }
+
+pub target_in-receive : (old new : Doors) (object : Object) (from end : Reading) → (got : UnmarshalsAny is_built form_of old new from end object) → target_in new object ≡ target_of object.sub got.reads.fields
+target_in-receive old new object from end got =
+    ap (λ (held : Option Door). target_at object (unwrap_or held no_door)) got.reads.enters.changed
+    ∙ target_received object.sub object got.reads.fields refl got.reads.tag got.reads.life
 
 -- two lists with one more each
 ends_same : {X : Type 0} (xs ys : List X) (x y : X) → xs ++ x ∷ [] ≡ ys ++ y ∷ [] → (xs ≡ ys) × (x ≡ y)

@@ -1,3 +1,4 @@
 pub mod OpenLaws
 pub mod HeldLaws
 pub mod ReceivedLaws
+pub mod FoundLaws

@@ -57,7 +57,7 @@ pub on_stack-renamed : (mount : Mount) (object : OpenObject) (name : List ℕ) (
 on_stack-renamed mount object name life on = record { built = on.built; view = on.view; file = on.file }
 
 -- all lead onto the stack, with one more that does
-pub on_stack-with_object : (mount : Mount) (objects : List OpenObject) (name : List ℕ) (target : Target) → AllByRecursion (IsOnStack mount) objects → is_built target.sub ≡ true → is_view_in mount.nodes target.node ≡ true → target.file < length mount.files
+pub on_stack-with_object : (mount : Mount) (objects : List OpenObject) (name : List ℕ) (target : Target) → AllByRecursion (IsOnStack mount) objects → is_built target.sub ≡ true → is_view_in mount.nodes target.view ≡ true → target.file < length mount.files
     → AllByRecursion (IsOnStack mount) (with_object objects name target)
 on_stack-with_object mount [] name target all built view file = (record { built = built; view = view; file = file }, tt)
 on_stack-with_object mount (o ∷ os) name target all built view file = (all.0, on_stack-with_object mount os name target all.1 built view file)

@@ -2,7 +2,6 @@
 use Rattle.std.proofs.Common.{◌≡◌, ℕ, ◌<◌, ◌^◌, List, [], ◌∷◌, ◌++◌, length, Bool, true, false, cond, ltb, eqb, ◌&&◌, ◌||◌, ◌⊎◌, inl, inr, Option, Some, None, Result, Ok, Err, refl, sym, ap, ◌∙◌, subst, arith, append-nil, ltb-true, lt-ltb, eqb-true, eq-eqb, lit<}
 use Rattle.std.specs.Prelude.{IsOk, is_ok}
 use Rattle.std.specs.List.{AllByRecursion}
-use Rattle.std.specs.Result.{result_ok}
 use Rattle.std.proofs.lemmas.Option.{cond_some}
 use Rattle.std.proofs.lemmas.List.{length-append}
 use Rattle.marshal_buf.specs.declared.door.Door.{Door}
@@ -13,17 +12,20 @@ use Rattle.marshal_buf.proofs.NumberLaws.{length-number_bytes}
 use Rattle.domain_doors.specs.Doors.{Doors}
 use Rattle.stack_accept.specs.Mount.{Mount, is_view_in}
 use Rattle.sub_core.specs.declared.shape.Form.{Form}
-use Rattle.sub_core.specs.declared.shape.Form.TheVariants.{Bare, Tagged}
+use Rattle.sub_core.specs.declared.shape.Form.TheVariants.{Bare, Tagged, Managed}
 use Rattle.sub_core.specs.declared.values.Fields.{Fields}
+use Rattle.sub_core.specs.Names.{manager_name}
 use Rattle.sub_core.specs.Forms.{tail_bytes, object_bytes, object_len, tail_len, IsTagOf}
 use Rattle.sub_core.specs.declared.values.Object.{Object}
 use Rattle.sub_core.specs.declared.why.AnyErr.{AnyErr}
 use Rattle.sub_core.specs.declared.why.AnyErr.TheVariants as whys
 use Rattle.sub_core.specs.Fields.{fields_at, fields_behind, or_bad_object, known_fields, any_fields_at}
+use Rattle.sub_core.specs.Calls.{LeadsToView}
 use Rattle.sub_core.specs.Received.{UnmarshalsAny}
 use Rattle.sub_core.specs.Laws.{ComesNext}
 use Rattle.sub_core.proofs.Objects.{id_is_read, fields_are_read}
 use Rattle.sub_basic.specs.declared.TheConstants.{SINGLETON, CLUSTER}
+use Rattle.sub_caching.specs.declared.TheConstants.{CACHING}
 use Rattle.name_context.specs.Names.{Kept, context, object}
 use Rattle.client_objects.specs.declared.target.Target.{Target}
 use Rattle.client_objects.specs.Objects.{OpenObject, IsOnStack, with_object}
@@ -87,17 +89,13 @@ unread_is start bytes doors input ends at next =
     ∙ ap (λ (n : ℕ). let r : Reading = record { input = bytes; doors = doors; at = n; next = start.next } in r) at
     ∙ ap (λ (n : ℕ). let r : Reading = record { input = bytes; doors = doors; at = 0; next = n } in r) next
 
-read_ok : (result : Result Fields ℕ) (fields : Fields) → Some fields ≡ result_ok result → result ≡ Ok fields
-read_ok (Ok found) fields is = ap Ok (sym cc)
-read_ok (Err at) fields is = absurd cc
-
--- where an object leads of which the identifier and the fields were read
-pub received-fields : (mount : Mount) (bytes : List ℕ) (doors : List Door) (start behind : Reading) (sub : ℕ) (fields : Fields) → start ≡ unread bytes doors → Ok sub ≡ number_at 2 start → behind ≡ past 2 0 start
-    → is_built sub ≡ true → has_size sub bytes doors ≡ true → Some fields ≡ result_ok (fields_at (form_of sub) behind) → target_by mount sub (Ok fields) ≡ received mount (Some (object bytes doors))
+-- where an object leads of which the identifier was read, by what is read of its fields
+pub received-fields : (mount : Mount) (bytes : List ℕ) (doors : List Door) (start behind : Reading) (sub : ℕ) (fields : Result Fields ℕ) → start ≡ unread bytes doors → Ok sub ≡ number_at 2 start → behind ≡ past 2 0 start
+    → is_built sub ≡ true → has_size sub bytes doors ≡ true → fields ≡ fields_at (form_of sub) behind → target_by mount sub fields ≡ received mount (Some (object bytes doors))
 received-fields mount bytes doors start behind sub fields from id place built size read =
     let there : behind ≡ past 2 0 (unread bytes doors) = place ∙ ap (past 2 0) from in
     let first : number_at 2 (unread bytes doors) ≡ Ok sub = ap (number_at 2) (sym from) ∙ sym id in
-    let second : fields_behind (form_of sub) (unread bytes doors) ≡ Ok fields = ap (fields_at (form_of sub)) (sym there) ∙ read_ok (fields_at (form_of sub) behind) fields read in
+    let second : fields_behind (form_of sub) (unread bytes doors) ≡ fields = ap (fields_at (form_of sub)) (sym there) ∙ sym read in
     sym (
     ap (λ (r : Result ℕ Short). object_by mount bytes doors r) first
     ∙ ap (λ (b : Bool). cond (b && has_size sub bytes doors) (target_by mount sub (fields_behind (form_of sub) (unread bytes doors))) None) built
@@ -155,6 +153,18 @@ received_leads mount (Some (object bytes doors)) target is =
 received_leads mount (Some context) target is = absurd cc
 received_leads mount None target is = absurd cc
 
+some_same : (a b : Door) → Some a ≡ Some b → a ≡ b
+some_same a b is = cc
+
+-- the door of a received object, which came into the domain, is that of a view
+pub received-leads_to_view : (mount : Mount) (bytes : List ℕ) (doors : List Door) (target : Target) (start end : Reading) (old new : Doors) (made : Object) → start ≡ unread bytes doors → received mount (Some (object bytes doors)) ≡ Some target
+    → UnmarshalsAny is_built form_of old new start end made → LeadsToView mount new made
+received-leads_to_view mount bytes doors target start end old new made from is got door held =
+    let there = received_leads mount (Some (object bytes doors)) target is in
+    let same : target ≡ target_of made.sub got.reads.fields = sym (received-target mount bytes doors target start end old new made from is got) in
+    let which : got.reads.fields.door ≡ door = some_same (got.reads.fields.door) door (sym got.reads.enters.changed ∙ held) in
+    ap (λ (d : Door). is_view_in mount.nodes d.node) (sym which) ∙ ap (λ (t : Target). is_view_in mount.nodes t.view) (sym same) ∙ there.view
+
 -- what is received is on the stack, under any name
 pub on_stack-received : (mount : Mount) (kept : Option Kept) (target : Target) (name : List ℕ) → received mount kept ≡ Some target → IsOnStack mount (record { name = name; target = target })
 on_stack-received mount kept target name is =
@@ -170,6 +180,10 @@ on_stack-opened mount objects kept target name life all is =
 length-tail_bytes : (form : Form) (tag : ℕ) → length (tail_bytes form tag) ≡ tail_len form
 length-tail_bytes Bare tag = refl
 length-tail_bytes Tagged tag = length-number_bytes 4 tag
+length-tail_bytes Managed tag =
+    let joined = length-append (number_bytes 4 3) manager_name in
+    let first = length-number_bytes 4 3 in
+    omega arith
 
 length-object_bytes : (sub : ℕ) (form : Form) (tag : ℕ) → length (object_bytes sub form 0 tag) ≡ object_len form
 length-object_bytes sub form tag =
@@ -194,16 +208,23 @@ either : (a b : Bool) → (a || b) ≡ true → (a ≡ true) ⊎ (b ≡ true)
 either true b is = inl refl
 either false b is = inr is
 
--- a subcontract that the program has is one of the two
-pub built_is : (sub : ℕ) → is_built sub ≡ true → (sub ≡ SINGLETON) ⊎ (sub ≡ CLUSTER)
+-- a subcontract that the program has is one of the three
+pub built_is : (sub : ℕ) → is_built sub ≡ true → (sub ≡ SINGLETON) ⊎ ((sub ≡ CLUSTER) ⊎ (sub ≡ CACHING))
 built_is sub is =
-    elim (either (eqb sub SINGLETON) (eqb sub CLUSTER) is) [
-      | inl one ↦ inl (eqb-true sub SINGLETON one)
-      | inr two ↦ inr (eqb-true sub CLUSTER two)
+    elim (either (eqb sub SINGLETON || eqb sub CLUSTER) (eqb sub CACHING) is) [
+      | inl first ↦ elim (either (eqb sub SINGLETON) (eqb sub CLUSTER) first) [
+        | inl one ↦ inl (eqb-true sub SINGLETON one)
+        | inr two ↦ inr (inl (eqb-true sub CLUSTER two))
+      ]
+      | inr three ↦ inr (inr (eqb-true sub CACHING three))
     ]
 
 built_fits : (sub : ℕ) → is_built sub ≡ true → sub < 2 ^ 16
-built_fits sub is = elim (built_is sub is) [ inl one ↦ omega arith | inr two ↦ omega arith ]
+built_fits sub is =
+    elim (built_is sub is) [
+      | inl one ↦ omega arith
+      | inr more ↦ elim more [ inl two ↦ omega arith | inr three ↦ omega arith ]
+    ]
 
 -- an object that was sent alone is received if it leads onto the stack
 pub stored_is_received : (mount : Mount) (sub : ℕ) (door : Door) (tag : ℕ) → is_built sub ≡ true → tag < 2 ^ 32 → IsTagOf (form_of sub) tag → leads mount sub (record { door = door; tag = tag }) ≡ true
@@ -238,12 +259,20 @@ cluster_is_received mount node file view within fits =
     let first : 0 < length mount.files = omega arith in
     stored_is_received mount CLUSTER (record { node = node; file = 0 }) file refl fits tt (leads_there (is_view_in mount.nodes node) (ltb 0 (length mount.files)) (ltb file (length mount.files)) view (lt-ltb 0 (length mount.files) first) (lt-ltb file (length mount.files) within))
 
+caching_is_received : (mount : Mount) (node file : ℕ) → is_view_in mount.nodes node ≡ true → file < length mount.files → received mount (Some (bound_object CACHING node file)) ≡ Some (bound_target CACHING node file)
+caching_is_received mount node file view within =
+    let in_files = lt-ltb file (length mount.files) within in
+    stored_is_received mount CACHING (record { node = node; file = file }) 0 refl (lit< tt) refl (leads_there (is_view_in mount.nodes node) (ltb file (length mount.files)) (ltb file (length mount.files)) view in_files in_files)
+
 pub bound_is_received : BoundIsReceived
 bound_is_received mount sub node file built view within fits =
     let IsLaw : ℕ → Type 0 = λ n. received mount (Some (bound_object n node file)) ≡ Some (bound_target n node file) in
     elim (built_is sub built) [
       | inl one ↦ subst IsLaw (sym one) (singleton_is_received mount node file view within)
-      | inr two ↦ subst IsLaw (sym two) (cluster_is_received mount node file view within fits)
+      | inr more ↦ elim more [
+        | inl two ↦ subst IsLaw (sym two) (cluster_is_received mount node file view within fits)
+        | inr three ↦ subst IsLaw (sym three) (caching_is_received mount node file view within)
+      ]
     ]
 
 pub starts_bound : StartsBound

@@ -10,6 +10,8 @@ use Rattle.sub_core.specs.declared.values.Route.{Route}
 use Rattle.sub_core.specs.Calls.{door_of, route_of}
 use Rattle.sub_basic.specs.declared.TheConstants.{CLUSTER}
 use Rattle.sub_basic.specs.Routes.{singleton_route, cluster_route}
+use Rattle.sub_caching.specs.declared.TheConstants.{CACHING}
+use Rattle.sub_caching.specs.Routes.{caching_route}
 use Rattle.client_objects.specs.declared.target.Target.{Target}
 use Rattle.client_objects.specs.declared.entry.Entry.{Entry}
 use Rattle.client_objects.specs.Stored.{is_built, form_of, file_of}
@@ -22,12 +24,14 @@ no_door = record { node = 0; file = 0 }
 -- where the calls of an object go whose door this is
 abbrev pub target_at : Object → Door → Target
 target_at object door =
-    record { sub = object.sub; tag = object.tag; node = door.node; file = file_of object.sub (record { door = door; tag = object.tag }); life = object.life }
+    record { sub = object.sub; tag = object.tag; view = door.node; file = file_of object.sub (record { door = door; tag = object.tag }); life = object.life }
 
 -- where a subcontract's route leads from the machine by the object, if the domain holds its door
 abbrev pub routed : ℕ → Mount → ℕ → Doors → Object → Option Route
 routed sub mount machine domain object =
-    if sub == CLUSTER then route_of cluster_route mount machine domain object else route_of singleton_route mount machine domain object
+    if sub == CLUSTER
+    then route_of cluster_route mount machine domain object
+    else (if sub == CACHING then route_of caching_route mount machine domain object else route_of singleton_route mount machine domain object)
 
 -- where the calls of an object of the domain go
 abbrev pub target_in : Doors → Object → Target

@@ -1,5 +1,6 @@
 pub mod Objects
 pub mod Stored
 pub mod Received
+pub mod Found
 pub mod Held
 pub mod Laws

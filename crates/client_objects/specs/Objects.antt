@@ -27,5 +27,5 @@ without name (o ∷ os) = if bytes_eq o.name name then os else o ∷ without nam
 -- the object is one of a subcontract that the program has, and its calls go to a view and a file of the stack
 pub record IsOnStack (mount : Mount) (object : OpenObject) : Type 0 where
   pub built : is_built object.target.sub ≡ true
-  pub view : is_view_in mount.nodes object.target.node ≡ true
+  pub view : is_view_in mount.nodes object.target.view ≡ true
   pub file : object.target.file < length mount.files

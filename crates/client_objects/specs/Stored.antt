@@ -5,21 +5,22 @@ use Rattle.marshal_buf.specs.declared.why.Short.{Short}
 use Rattle.marshal_buf.specs.Reading.{Reading, number_at}
 use Rattle.stack_accept.specs.Mount.{Mount, is_view_in}
 use Rattle.sub_core.specs.declared.shape.Form.{Form}
-use Rattle.sub_core.specs.declared.shape.Form.TheVariants.{Bare, Tagged}
+use Rattle.sub_core.specs.declared.shape.Form.TheVariants.{Bare, Tagged, Managed}
 use Rattle.sub_core.specs.declared.values.Fields.{Fields}
 use Rattle.sub_core.specs.Forms.{object_bytes, object_len}
 use Rattle.sub_core.specs.Fields.{fields_behind}
 use Rattle.sub_basic.specs.declared.TheConstants.{SINGLETON, CLUSTER}
+use Rattle.sub_caching.specs.declared.TheConstants.{CACHING}
 use Rattle.name_context.specs.Names.{Kept, context, object}
 use Rattle.client_objects.specs.declared.target.Target.{Target}
 
 -- a subcontract that the program has
 abbrev pub is_built : ℕ → Bool
-is_built sub = (sub == SINGLETON) || (sub == CLUSTER)
+is_built sub = (sub == SINGLETON) || (sub == CLUSTER) || (sub == CACHING)
 
 -- the form of its objects
 abbrev pub form_of : ℕ → Form
-form_of sub = if sub == CLUSTER then Tagged else Bare
+form_of sub = if sub == CLUSTER then Tagged else (if sub == CACHING then Managed else Bare)
 
 -- the file of its objects: that of the tag, or that of the door
 abbrev pub file_of : ℕ → Fields → ℕ
@@ -27,7 +28,7 @@ file_of sub fields = if sub == CLUSTER then fields.tag else fields.door.file
 
 -- where the calls of an object go that was just received
 abbrev pub target_of : ℕ → Fields → Target
-target_of sub fields = record { sub = sub; tag = fields.tag; node = fields.door.node; file = file_of sub fields; life = 0 }
+target_of sub fields = record { sub = sub; tag = fields.tag; view = fields.door.node; file = file_of sub fields; life = 0 }
 
 -- the door leads to a view and a file of the stack, and the tag, if there is one, names a file of it
 abbrev pub leads : Mount → ℕ → Fields → Bool
@@ -61,9 +62,10 @@ received mount None = None
 abbrev pub stored_object : ℕ → Door → ℕ → Kept
 stored_object sub door tag = object (object_bytes sub (form_of sub) 0 tag) (door ∷ [])
 
--- what is bound for a file at a view: an object of a cluster has the door to the view's file 0, and the file's number as its tag
+-- what is bound for a file at a view: an object of a cluster has the door to the view's file 0, and the file's number as its tag; any
+-- other has the door to the file, and the tag 0
 abbrev pub bound_object : ℕ → ℕ → ℕ → Kept
 bound_object sub node file =
     if sub == CLUSTER
     then stored_object CLUSTER (record { node = node; file = 0 }) file
-    else stored_object SINGLETON (record { node = node; file = file }) 0
+    else stored_object sub (record { node = node; file = file }) 0

@@ -6,14 +6,16 @@ ghost use Rattle.domain_doors.specs.Doors.{Updates, Lacks};
 ghost use Rattle.sub_core.specs.Forms.{IsOf};
 ghost use Rattle.sub_core.specs.Calls.{CopiesObject, GivesUp, RefusesHeld, LeadsToView, door_of};
 ghost use Rattle.client_objects.specs.Stored.{is_built, form_of};
+ghost use Rattle.client_objects.specs.Found.{found_on};
 ghost use Rattle.client_objects.specs.Held.{target_in, routed, IsHeld};
 
-use crate::target::Target;
+use crate::target::{Found, Target};
 use domain_doors::{Domain, NoDoor};
 use seen_values::Text;
 use stack_accept::Mounted;
 use std::alloc::AllocError;
 use sub_basic::{CLUSTER, Cluster, Singleton};
+use sub_caching::{CACHING, Caching};
 use sub_core::{Object, ObjectErr, Route, Subcontract};
 
 /// An open object under its name.
@@ -35,20 +37,26 @@ pub(crate) fn place_of(entries: &[Entry], name: &Text) -> Option<usize>
         .position(|entry| entry.name.as_str() == name.as_str())
 }
 
-/// Where the calls of an object go from a machine of the stack.
-pub(crate) fn target_of(object: &Object, domain: &Domain, mount: &Mounted, machine: u32) -> Target
+/// Where an object leads, and to which node its calls go from a machine of the stack.
+pub(crate) fn found_of(object: &Object, domain: &Domain, mount: &Mounted, machine: u32) -> Found
     requires machine { machine < length mount.now.machines }
     requires held { IsHeld domain.now object.now }
     requires leads { LeadsToView mount.now domain.now object.now }
-    ensures { result ≡ target_in domain.now object.now }
+    ensures { result ≡ found_on mount.now machine (target_in domain.now object.now) }
 {
+    let Ok(door) = domain.look(object.door) else {
+        unreachable!();
+    };
     match route_of(object, domain, mount, machine) {
-        Ok(route) => Target {
-            sub: object.sub,
-            tag: object.tag,
+        Ok(route) => Found {
+            target: Target {
+                sub: object.sub,
+                tag: object.tag,
+                view: door.node,
+                file: route.file,
+                life: object.life,
+            },
             node: route.node,
-            file: route.file,
-            life: object.life,
         },
         Err(NoDoor { .. }) => unreachable!(),
     }
@@ -94,6 +102,8 @@ fn route_of(
 {
     if object.sub == CLUSTER {
         Cluster.route(object, domain, mount, machine)
+    } else if object.sub == CACHING {
+        Caching.route(object, domain, mount, machine)
     } else {
         Singleton.route(object, domain, mount, machine)
     }
@@ -109,6 +119,8 @@ fn try_copy(object: &Object, domain: &mut Domain) -> Result<Object, ObjectErr>
 {
     if object.sub == CLUSTER {
         Cluster.copy(object, domain)
+    } else if object.sub == CACHING {
+        Caching.copy(object, domain)
     } else {
         Singleton.copy(object, domain)
     }
@@ -124,6 +136,8 @@ fn try_consume(object: Object, domain: &mut Domain) -> Result<(), NoDoor>
 {
     if object.sub == CLUSTER {
         Cluster.consume(object, domain)
+    } else if object.sub == CACHING {
+        Caching.consume(object, domain)
     } else {
         Singleton.consume(object, domain)
     }

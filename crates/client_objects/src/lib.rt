@@ -1,6 +1,8 @@
 //! The objects that a client holds: each by a door of the client's own domain, under a name. An object is received
-//! from the bytes that the names keep for it, and its subcontract says where its calls go. That an object is held so is
-//! the Spring papers' rule; a client's names for its objects are this project's own.
+//! from the bytes that the names keep for it, and its subcontract says where its calls go: those of a caching object go
+//! to the cache of the machine that they are made on. That an object is held so, and that a subcontract routes to the
+//! local cache, is the Spring papers' rule; the bytes of the objects, the constant name of every manager, and a client's
+//! names for its objects are this project's own.
 #![tactic(auto)]
 
 mod entry;
@@ -15,9 +17,9 @@ mod target;
 mod tests;
 mod why;
 
-pub use laws::{bound_is_received, received_leads};
+pub use laws::{bound_is_received, found_leads, received_leads};
 pub use objects::Objects;
 pub use state::ClientState;
 pub use stored::bound_object;
-pub use target::Target;
+pub use target::{Found, Target};
 pub use why::NotReceived;

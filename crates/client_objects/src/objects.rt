@@ -2,14 +2,17 @@
 
 ghost use Rattle.std.specs.Prelude.{◌≡◌, ◌<◌, ℕ, List, [], Some, IsSome, IfOk, IfErr, OnOk, OnErr, length};
 ghost use Rattle.std.specs.List.{AllByRecursion};
+ghost use Rattle.std.specs.Option.{option_map};
+ghost use Rattle.client_objects.specs.declared.target.Target.{Target};
 ghost use Rattle.name_context.specs.Names.{kept_object};
 ghost use Rattle.client_objects.specs.Objects.{OpenObject, IsOnStack, object_of, with_object, without};
 ghost use Rattle.client_objects.specs.Stored.{received};
+ghost use Rattle.client_objects.specs.Found.{found_on};
 ghost use Rattle.client_objects.specs.Received.{RefusesReceived};
 
-use crate::entry::{Entry, copy_of, give_up, place_of, target_of};
+use crate::entry::{Entry, copy_of, found_of, give_up, place_of};
 use crate::reading::{received_target, take_in};
-use crate::target::Target;
+use crate::target::Found;
 use crate::why::NotReceived;
 use domain_doors::Domain;
 use marshal_buf::Buf;
@@ -49,28 +52,32 @@ impl Objects {
         }
     }
 
-    /// Where the calls of the object of a name go from a machine of the stack, as its subcontract says. None if there is
-    /// no object of the name. It takes no memory.
-    pub fn find(&self, mount: &Mounted, machine: u32, name: &Text) -> Option<Target>
+    /// Where the object of a name leads, and to which node its calls go from a machine of the stack, as its subcontract
+    /// says. None if there is no object of the name. It takes no memory.
+    pub fn find(&self, mount: &Mounted, machine: u32, name: &Text) -> Option<Found>
         requires machine { machine < length mount.now.machines }
         requires leads { AllByRecursion (IsOnStack mount.now) self.now }
-        ensures { result ≡ object_of name.now self.now }
+        ensures { result ≡ option_map (found_on mount.now machine) (object_of name.now self.now) }
     {
         let place = place_of(&self.entries, name)?;
         let object = &self.entries[place].object;
-        Some(target_of(object, &self.domain, mount, machine))
+        Some(found_of(object, &self.domain, mount, machine))
     }
 
-    /// Receives the object that the names keep, under a name, of life 0. It looks at the whole object before it takes
-    /// memory. An error leaves the objects as they were.
+    /// Receives the object that the names keep, under a name, of life 0, and says to which node its calls go from a machine
+    /// of the stack. It looks at the whole object before it takes memory. An error leaves the objects as they were.
     pub fn receive(
         &mut self,
         alloc: Global,
         mount: &Mounted,
+        machine: u32,
         name: Text,
         stored: &Buf,
-    ) -> Result<Target, NotReceived>
-        ensures ok { IfOk result (λ target. (received mount.now (Some (kept_object stored.now)) ≡ Some target) × (self.new ≡ with_object self.old name target)) }
+    ) -> Result<Found, NotReceived>
+        requires { machine < length mount.now.machines }
+        ensures read { IfOk result (λ found. received mount.now (Some (kept_object stored.now)) ≡ Some found.target) }
+        ensures node { IfOk result (λ found. found ≡ found_on mount.now machine found.target) }
+        ensures opened { IfOk result (λ found. self.new ≡ with_object self.old name found.target) }
         ensures why { IfErr result (RefusesReceived (received mount.now (Some (kept_object stored.now)))) }
         ensures err { OnErr result (self.new ≡ self.old) }
     {
@@ -80,8 +87,9 @@ impl Objects {
         self.entries.reserve(1)?;
         let mut from = stored.reader();
         let object = take_in(alloc, &mut self.domain, &mut from)?;
+        let node = found_of(&object, &self.domain, mount, machine).node;
         self.entries.push_reserved(Entry { name, object });
-        Ok(target)
+        Ok(Found { target, node })
     }
 
     /// Sets the life of the last object.

@@ -1,22 +1,20 @@
 //! What the bytes and doors of an object of the names say.
 
 ghost use Rattle.std.specs.Prelude.{◌≡◌, Some, Ok, IsOk, IfOk, OnErr};
-ghost use Rattle.std.specs.Result.{result_ok};
 ghost use Rattle.stack_accept.specs.Mount.{is_view_in};
-ghost use Rattle.sub_core.specs.Forms.{object_len};
-ghost use Rattle.sub_core.specs.Fields.{tag_at, fields_at, any_fields_at};
+ghost use Rattle.sub_core.specs.Fields.{any_fields_at};
 ghost use Rattle.sub_core.specs.Received.{UnmarshalsAny};
 ghost use Rattle.name_context.specs.Names.{kept_object};
 ghost use Rattle.client_objects.specs.Stored.{is_built, form_of, file_of, has_size, leads, target_by, received};
 
-use crate::registry::Built;
+use crate::registry::{Built, form_of};
 use crate::target::Target;
 use domain_doors::Domain;
-use marshal_buf::{Buf, Reader, Short};
+use marshal_buf::{Buf, Reader};
 use stack_accept::Mounted;
 use std::alloc::{AllocError, Global};
 use sub_basic::CLUSTER;
-use sub_core::{AnyErr, Fields, Object, Registry, unmarshal_any};
+use sub_core::{AnyErr, Fields, Object, Registry, object_len, read_fields, unmarshal_any};
 
 /// Where the object that the names keep leads, if the program can receive it. It takes no memory.
 pub(crate) fn received_target(mount: &Mounted, stored: &Buf) -> Option<Target>
@@ -29,46 +27,17 @@ pub(crate) fn received_target(mount: &Mounted, stored: &Buf) -> Option<Target>
     if !Built.has(sub) || !has_size(sub, stored) {
         return None;
     }
-    let fields = next_fields(sub, &mut from)?;
-    target_by(mount, sub, fields)
+    match read_fields(form_of(sub), &mut from) {
+        Ok(fields) => target_by(mount, sub, fields),
+        Err(_) => None,
+    }
 }
 
 /// Whether there are as many bytes and doors as an object of the subcontract has.
 fn has_size(sub: u16, stored: &Buf) -> bool
     ensures { result ≡ has_size sub stored.now.bytes stored.now.doors }
 {
-    stored.bytes_len() == object_len(sub) && stored.doors_len() == 1
-}
-
-/// How many bytes an object of the subcontract has.
-fn object_len(sub: u16) -> u32
-    ensures { result ≡ object_len (form_of sub) }
-{
-    if sub == CLUSTER { 10 } else { 6 }
-}
-
-/// The door and the tag that come next, if they can be read.
-fn next_fields(sub: u16, from: &mut Reader<'_>) -> Option<Fields>
-    ensures { result ≡ result_ok (fields_at (form_of sub) from.old) }
-{
-    let Ok(door) = from.get_door() else {
-        return None;
-    };
-    let Ok(tag) = next_tag(sub, from) else {
-        return None;
-    };
-    Some(Fields { door, tag })
-}
-
-/// The tag that comes next; an object of a singleton has 0.
-fn next_tag(sub: u16, from: &mut Reader<'_>) -> Result<u32, Short>
-    ensures { result ≡ tag_at (form_of sub) from.old }
-{
-    if sub == CLUSTER {
-        from.get_u32()
-    } else {
-        Ok(0)
-    }
+    stored.bytes_len() == object_len(form_of(sub)) && stored.doors_len() == 1
 }
 
 /// Where an object of these fields leads, if that is on the stack.
@@ -81,7 +50,7 @@ fn target_by(mount: &Mounted, sub: u16, fields: Fields) -> Option<Target>
     Some(Target {
         sub,
         tag: fields.tag,
-        node: fields.door.node,
+        view: fields.door.node,
         file: file_of(sub, fields),
         life: 0,
     })

@@ -7,12 +7,14 @@ ghost use Rattle.name_context.specs.Names.{kept_object};
 ghost use Rattle.client_objects.specs.Stored.{bound_object, stored_object, is_built, form_of};
 ghost use Rattle.client_objects.specs.Held.{IsHeld};
 
+use crate::registry::form_of;
 use domain_doors::Domain;
 use marshal_buf::{Buf, Door};
 use seen_values::Text;
 use std::alloc::{AllocError, Global};
 use sub_basic::{CLUSTER, Cluster, Singleton};
-use sub_core::{Object, ObjectErr, Subcontract};
+use sub_caching::{CACHING, Caching};
+use sub_core::{Object, ObjectErr, Subcontract, name_of};
 
 /// What is bound for a file at a view: an object of a subcontract that the program has, sent by a domain that held
 /// its door. An error is that memory ran out.
@@ -34,7 +36,7 @@ fn sent(alloc: Global, sub: u16, door: Door, tag: u32) -> Result<Buf, AllocError
     ensures { IfOk result (λ stored. kept_object stored ≡ stored_object sub door tag) }
 {
     let mut domain = Domain::new(alloc);
-    let name = Text::of(alloc, "")?;
+    let name = Text::of(alloc, name_of(form_of(sub)))?;
     let object = Object {
         sub,
         door: domain.add(door)?,
@@ -71,6 +73,8 @@ fn marshal(object: Object, domain: &mut Domain, buf: &mut Buf) -> Result<(), (Ob
 {
     if object.sub == CLUSTER {
         Cluster.marshal(object, domain, buf)
+    } else if object.sub == CACHING {
+        Caching.marshal(object, domain, buf)
     } else {
         Singleton.marshal(object, domain, buf)
     }

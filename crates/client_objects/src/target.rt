@@ -1,16 +1,25 @@
 //! Where the calls of an open object go.
 
-/// Where the calls of an open object go, and of which life they are.
+/// Where an open object leads, and of which life it is.
 #[derive(Clone, Copy, Debug, PartialEq, Eq)]
 pub struct Target {
     /// The identifier of the object's subcontract.
     pub sub: u16,
     /// The tag that the subcontract keeps beside the door, or 0.
     pub tag: u32,
-    /// The node of the view.
-    pub node: u32,
+    /// The node of the view that the door names.
+    pub view: u32,
     /// The number of the file.
     pub file: u32,
     /// The life that the node had when the object was opened.
     pub life: u32,
+}
+
+/// Where an open object leads, and to which node its calls go from a machine.
+#[derive(Clone, Copy, Debug, PartialEq, Eq)]
+pub struct Found {
+    /// Where the object leads.
+    pub target: Target,
+    /// The node to which its calls go, by the subcontract's route.
+    pub node: u32,
 }

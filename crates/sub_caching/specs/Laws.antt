@@ -1,24 +1,18 @@
--- What holds of every caching object that is sent.
-use Rattle.std.specs.Prelude.{◌≡◌, ℕ, Ok}
-use Rattle.marshal_buf.specs.Held.{Held}
-use Rattle.marshal_buf.specs.Reading.{Reading, number_at}
-use Rattle.domain_doors.specs.Doors.{Doors}
+-- Where the calls on a caching object go, by the tree.
+use Rattle.std.specs.Prelude.{◌≡◌, ℕ, ◌⊎◌}
+use Rattle.marshal_buf.specs.declared.door.Door.{Door}
 use Rattle.stack_accept.specs.Mount.{Mount}
-use Rattle.sub_core.specs.declared.values.Object.{Object}
-use Rattle.sub_core.specs.Calls.{route_of}
-use Rattle.sub_core.specs.Laws.{StandsAtEnd}
-use Rattle.sub_caching.specs.declared.TheConstants.{CACHING}
-use Rattle.sub_caching.specs.Calls.{IsCaching, MarshalsNamed, named_fields, UnmarshalsNamed}
+use Rattle.stack_accept.specs.Sound.{IsMount}
+use Rattle.sub_core.specs.declared.values.Route.{Route}
+use Rattle.memory_object.specs.Managers.{IsFirstManager, HasNoManager}
 use Rattle.sub_caching.specs.Routes.{caching_route}
 
--- the identifier, the door and the name of an object that was sent are read again, whatever follows them
-abbrev pub SentIsRead : Type 0
-SentIsRead = (object : Object) (from_old from_new : Doors) (old new : Held) (start : Reading)
-    → IsCaching object → (sent : MarshalsNamed object from_old from_new old new) → StandsAtEnd old new start
-    → (number_at 2 start ≡ Ok CACHING) × (named_fields start ≡ Ok (record { door = sent.bare.door; tag = 0 }))
+-- the route leads to the first manager of the machine whose parent serves the view's pages there; where there is none, to the view;
+-- at either, to the door's file
+pub record GoesLocal (mount : Mount) (machine : ℕ) (door : Door) (route : Route) : Type 0 where
+  pub node : IsFirstManager mount door.node machine route.node ⊎ (HasNoManager mount door.node machine × (route.node ≡ door.node))
+  pub file : route.file ≡ door.file
 
--- from each machine, an object that one domain sent and another one received leads where the one that was sent leads from there
-abbrev pub KeepsLocalRoute : Type 0
-KeepsLocalRoute = (object received : Object) (from_old from_new to_old to_new : Doors) (old new : Held) (start end : Reading) (machine : ℕ) (mount : Mount)
-    → IsCaching object → MarshalsNamed object from_old from_new old new → StandsAtEnd old new start → UnmarshalsNamed to_old to_new start end received
-    → route_of caching_route mount machine to_new received ≡ route_of caching_route mount machine from_old object
+-- the calls on every caching object of a mounted stack go so
+abbrev pub CallsGoLocal : Type 0
+CallsGoLocal = (mount : Mount) (machine : ℕ) (door : Door) (tag : ℕ) → IsMount mount → GoesLocal mount machine door (caching_route mount machine door tag)

@@ -1,4 +1,2 @@
-pub mod Names
-pub mod Calls
 pub mod Routes
 pub mod Laws

@@ -1,13 +1,9 @@
-//! What holds of every caching object that is sent.
+//! What holds of the calls on every caching object.
 
-ghost use Rattle.sub_caching.specs.Laws.{KeepsLocalRoute, SentIsRead};
+ghost use Rattle.sub_caching.specs.Laws.{CallsGoLocal};
 
-/// An object that was sent is read again, whatever follows it. It does no work.
-pub fn sent_is_read()
-    ensures { SentIsRead }
-{}
-
-/// An object that is sent and received leads, from each machine, where it led from there. It does no work.
-pub fn sent_keeps_local_route()
-    ensures { KeepsLocalRoute }
+/// A call goes to the first manager of its machine whose parent serves the view's pages there, and if there is none, to the
+/// view. It does no work.
+pub fn calls_go_local()
+    ensures { CallsGoLocal }
 {}

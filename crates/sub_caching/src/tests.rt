@@ -1,8 +1,9 @@
 //! Caching objects that are sent, received and routed, at bytes and nodes worked out by hand.
 
-ghost use Rattle.std.specs.Prelude.{◌≡◌, IfOk};
+ghost use Rattle.std.specs.Prelude.{◌≡◌, codes, IfOk};
 ghost use Rattle.stack_accept.specs.Mount.{is_view_in};
-ghost use Rattle.sub_caching.specs.Calls.{IsCaching};
+ghost use Rattle.sub_core.specs.declared.shape.Form.TheVariants.{Managed};
+ghost use Rattle.sub_core.specs.Forms.{IsOf};
 
 use super::*;
 use domain_doors::{Domain, NoDoor};
@@ -12,7 +13,7 @@ use stack_accept::{Mounted, accept};
 use stack_text::parse_stack;
 use std::alloc::{AllocError, Global};
 use std::test::Fail;
-use sub_core::{Object, ObjectErr, Route};
+use sub_core::{Form, Object, ObjectErr, Route, Subcontract, name_of, sent_keeps_route};
 
 /// A view, node 1, with a manager on its machine, node 2, and a view of it, node 3, with a manager on another machine, node 4.
 const STACK: &str = "page 64
@@ -34,25 +35,14 @@ const ROUTES: [(u32, u32, u32); 4] = [
     (1, 1, 1),
 ];
 
-/// What stands behind the door's index, and why it is no object.
-const BAD: [(&[u8], u32); 6] = [
-    (&[], 6),
-    (&[0, 0, 0], 9),
-    (&[0, 0, 0, 3, 118, 109], 12),
-    (&[0, 0, 0, 3, 118, 109, 110], 6),
-    (&[0, 0, 0, 2, 118, 109, 109], 6),
-    (&[0, 0, 0, 4, 118, 109, 109], 13),
-];
-
 fn object(alloc: Global, door: usize) -> Result<Object, AllocError>
-    ensures of { IfOk result IsCaching }
-    ensures door { IfOk result (λ object. object.door ≡ door) }
+    ensures { IfOk result (λ o. o ≡ record { sub = CACHING; door = door; tag = 0; name = codes "vmm"; life = 0 }) }
 {
     Ok(Object {
         sub: CACHING,
         door,
         tag: 0,
-        name: Text::of(alloc, "vmm")?,
+        name: Text::of(alloc, name_of(Form::Managed))?,
         life: 0,
     })
 }
@@ -74,7 +64,8 @@ fn route_from(
     machine: u32,
     door: Door,
 ) -> Option<Route>
-    requires { IsCaching object.now }
+    requires sub { object.now.sub ≡ CACHING }
+    requires of { IsOf Managed object.now }
 {
     if mounted.machines().len() <= machine as usize
         || !leads_to_view(mounted, door)
@@ -118,8 +109,8 @@ fn sent_and_received(rt: HostRuntime) -> Result<(), Fail> {
     assert_eq!(rt; second.name.as_str(), "vmm");
     assert_eq!(rt; to.look(second.door)?, door);
     assert!(rt; from.rest().is_empty());
-    sent_is_read();
-    sent_keeps_local_route();
+    sent_keeps_route::<Caching>();
+    calls_go_local();
     Ok(())
 }
 
@@ -144,23 +135,14 @@ fn routes(rt: HostRuntime) -> Result<(), Fail> {
 }
 
 #[test]
-fn refused(rt: HostRuntime) -> Result<(), Fail> {
+fn without_a_door(rt: HostRuntime) -> Result<(), Fail> {
     let alloc = rt.alloc();
     let mut domain = Domain::new(alloc);
-    for (behind, at) in BAD {
-        assert!(rt; behind.len() < 9);
-        let mut buf = Buf::new(alloc);
-        buf.put_u16(CACHING)?;
-        buf.put_door(Door { node: 1, file: 0 })?;
-        buf.put_bytes(behind)?;
-        let mut from = buf.reader();
-        assert_eq!(rt;
-            received(alloc, &mut domain, &mut from).err(),
-            Some(ObjectErr::BadObject { at })
-        );
-        assert_eq!(rt; from.at(), 0);
-    }
     let lacking = object(alloc, 5)?;
+    assert_eq!(rt;
+        Caching.copy(&lacking, &mut domain).err(),
+        Some(ObjectErr::NoDoor { id: 5 })
+    );
     assert_eq!(rt;
         Caching.consume(lacking, &mut domain),
         Err(NoDoor { id: 5 })

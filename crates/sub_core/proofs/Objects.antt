@@ -1,23 +1,25 @@
 -- Laws of objects that are sent.
-use Rattle.std.proofs.Common.{◌≡◌, ℕ, ◌^◌, ◌<◌, List, [], ◌∷◌, ◌++◌, length, Option, Some, Ok, refl, sym, ap, ◌∙◌, add-zero, append_assoc}
+use Rattle.std.proofs.Common.{◌≡◌, ℕ, ◌^◌, ◌<◌, List, [], ◌∷◌, ◌++◌, length, Option, Some, Result, Ok, lit<, refl, sym, ap, ◌∙◌, add-zero, append_assoc}
 use Rattle.std.specs.Prelude.{slice_get}
 use Rattle.std.specs.Option.{option_map}
 use Rattle.std.proofs.lemmas.List.{drop_at}
 use Rattle.marshal_buf.specs.declared.door.Door.{Door}
+use Rattle.marshal_buf.specs.declared.why.Short.{Short}
 use Rattle.marshal_buf.specs.Numbers.{number_bytes}
 use Rattle.marshal_buf.specs.Held.{Held}
-use Rattle.marshal_buf.specs.Reading.{Reading, rest_of, door_at, past}
+use Rattle.marshal_buf.specs.Reading.{Reading, rest_of, number_at, door_at, part_at, past}
 use Rattle.marshal_buf.proofs.NumberLaws.{length-number_bytes}
-use Rattle.marshal_buf.proofs.Readings.{number_is_read, door_is_read}
+use Rattle.marshal_buf.proofs.Readings.{number_is_read, part_is_read, door_is_read}
 use Rattle.domain_doors.specs.Doors.{Doors}
 use Rattle.stack_accept.specs.Mount.{Mount}
 use Rattle.sub_core.specs.declared.shape.Form.{Form}
-use Rattle.sub_core.specs.declared.shape.Form.TheVariants.{Bare, Tagged}
+use Rattle.sub_core.specs.declared.shape.Form.TheVariants.{Bare, Tagged, Managed}
 use Rattle.sub_core.specs.declared.values.Object.{Object}
 use Rattle.sub_core.specs.declared.values.Route.{Route}
 use Rattle.sub_core.specs.declared.values.Fields.{Fields}
+use Rattle.sub_core.specs.Names.{manager_name, name_bytes, part_behind, or_other_name, string_at, name_at}
 use Rattle.sub_core.specs.Forms.{tail_bytes, object_bytes, IsTagOf}
-use Rattle.sub_core.specs.Fields.{tag_at, door_and}
+use Rattle.sub_core.specs.Fields.{or_byte, no_tag_behind, tag_at, door_and}
 use Rattle.sub_core.specs.Calls.{Marshals, door_of}
 use Rattle.sub_core.specs.Laws.{ComesNext, IdIsRead, FieldsAreRead, StandsAtEnd, KeepsRoute}
 use Rattle.sub_core.proofs.Taken.{rest_behind, fields_at_door}
@@ -32,10 +34,21 @@ pub id_is_read : IdIsRead
 id_is_read r id form door tag fits next =
     number_is_read r 2 id (number_bytes 4 r.next ++ (tail_bytes form tag ++ next.more)) fits (next.bytes ∙ parts id form r.next tag next.more)
 
+-- the name that comes next
+name_is_read : (r : Reading) (more : List ℕ) → rest_of r ≡ name_bytes ++ more → name_at r ≡ Ok manager_name
+name_is_read r more rest =
+    let next : rest_of r ≡ number_bytes 4 3 ++ (manager_name ++ more) = rest ∙ append_assoc (number_bytes 4 3) manager_name more in
+    let len : number_at 4 r ≡ Ok 3 = number_is_read r 4 3 (manager_name ++ more) (lit< tt) next in
+    let behind : rest_of (past 4 0 r) ≡ manager_name ++ more = rest_behind (number_bytes 4 3) (manager_name ++ more) 4 0 r (length-number_bytes 4 3) next in
+    let part : part_at 3 (past 4 0 r) ≡ Ok manager_name = part_is_read (past 4 0 r) manager_name more behind in
+    let string : string_at r ≡ Ok manager_name = ap (λ (n : Result ℕ Short). part_behind (past 4 0 r) n) len ∙ part in
+    ap (λ (s : Result (List ℕ) Short). or_other_name r.at s) string
+
 -- the tag that comes next
 tag_is_read : (r : Reading) (form : Form) (tag : ℕ) (more : List ℕ) → tag < 2 ^ 32 → IsTagOf form tag → rest_of r ≡ tail_bytes form tag ++ more → tag_at form r ≡ Ok tag
 tag_is_read r Bare tag more fits is next = ap Ok (sym is)
-tag_is_read r Tagged tag more fits is next = number_is_read r 4 tag more fits next
+tag_is_read r Tagged tag more fits is next = ap or_byte (number_is_read r 4 tag more fits next)
+tag_is_read r Managed tag more fits is next = ap no_tag_behind (name_is_read r more next) ∙ ap Ok (sym is)
 
 pub fields_are_read : FieldsAreRead
 fields_are_read r id form door tag fits is next =

@@ -1,4 +1,5 @@
 pub mod Whys
+pub mod Names
 pub mod Forms
 pub mod Fields
 pub mod Calls

@@ -1,11 +1,14 @@
 //! Objects, and what a subcontract does with them: how an object is sent, received, copied and given up, and where its
-//! calls go. That a subcontract decides this is the Spring papers' rule. How the bytes of an object lie, and that an
-//! identifier of two bytes stands before them, is this project's own.
+//! calls go. That a subcontract decides this, and that an object may name the manager of a cache, is the Spring papers'
+//! rule. How the bytes of an object lie, that an identifier of two bytes stands before them, and that the name of every
+//! manager is `vmm`, are this project's own.
 #![tactic(auto)]
 
 mod any;
+mod fields;
 mod given;
 mod laws;
+mod names;
 mod received;
 mod roles;
 mod sent;
@@ -16,11 +19,12 @@ mod values;
 mod why;
 
 pub use any::unmarshal_any;
+pub use fields::read_fields;
 pub use given::{consume_held, copy_held};
 pub use laws::{sent_keeps_route, written_is_read};
 pub use received::unmarshal_as;
 pub use roles::{Registry, Subcontract};
 pub use sent::marshal_as;
-pub use shape::Form;
+pub use shape::{Form, name_of, object_len};
 pub use values::{Fields, Object, Route};
 pub use why::{AnyErr, ObjectErr};

@@ -1,18 +1,19 @@
 //! Receiving an object, by its form.
 
-ghost use Rattle.std.specs.Prelude.{◌≡◌, ◌++◌, [], Some, None, Ok, IfOk, IfErr, OnErr};
+ghost use Rattle.std.specs.Prelude.{◌≡◌, ◌++◌, Some, None, Ok, IfOk, IfErr, OnErr};
 ghost use Rattle.marshal_buf.specs.Numbers.{number_bytes};
 ghost use Rattle.marshal_buf.specs.Reading.{number_at, Takes};
 ghost use Rattle.domain_doors.specs.Doors.{door_at, Updates};
-ghost use Rattle.sub_core.specs.Forms.{tail_bytes, IsTagOf};
-ghost use Rattle.sub_core.specs.Fields.{fields_at, fields_behind, tag_at};
+ghost use Rattle.sub_core.specs.Forms.{tail_bytes, IsTagOf, name_of};
+ghost use Rattle.sub_core.specs.Fields.{fields_at, fields_behind};
 ghost use Rattle.sub_core.specs.Received.{Unmarshals, Refuses};
 
-use crate::shape::Form;
+use crate::fields::read_fields;
+use crate::shape::{Form, name_of};
 use crate::values::{Fields, Object};
 use crate::why::ObjectErr;
 use domain_doors::Domain;
-use marshal_buf::{Reader, Short};
+use marshal_buf::Reader;
 use seen_values::Text;
 use std::alloc::{AllocError, Global};
 
@@ -35,7 +36,7 @@ pub fn unmarshal_as(
     let mut ahead = from.copy();
     let _id = ahead.get_u16()?;
     let fields = get_fields(form, &mut ahead)?;
-    let object = hold(id, fields, alloc, domain)?;
+    let object = hold(id, form, fields, alloc, domain)?;
     *from = ahead;
     Ok(object)
 }
@@ -47,32 +48,26 @@ fn get_fields(form: Form, from: &mut Reader<'_>) -> Result<Fields, ObjectErr>
     ensures of { IfOk result (λ fields. IsTagOf form fields.tag) }
     ensures taken { IfOk result (λ fields. Takes (number_bytes 4 from.old.next ++ tail_bytes form fields.tag) 1 from.old from.new) }
 {
-    let door = from.get_door()?;
-    let tag = get_tag(form, from)?;
-    Ok(Fields { door, tag })
-}
-
-/// Takes the tag behind a door. An error leaves the reader where it stood.
-fn get_tag(form: Form, from: &mut Reader<'_>) -> Result<u32, Short>
-    ensures value { result ≡ tag_at form from.old }
-    ensures of { IfOk result (IsTagOf form) }
-    ensures taken { IfOk result (λ tag. Takes (tail_bytes form tag) 0 from.old from.new) }
-    ensures err { OnErr result (from.new ≡ from.old) }
-{
-    match form {
-        Form::Bare => Ok(0),
-        Form::Tagged => from.get_u32(),
+    match read_fields(form, from) {
+        Ok(fields) => Ok(fields),
+        Err(at) => Err(ObjectErr::BadObject { at }),
     }
 }
 
 /// Takes the door of a received object into the domain. An error leaves the domain as it was.
-fn hold(id: u16, fields: Fields, alloc: Global, domain: &mut Domain) -> Result<Object, AllocError>
-    ensures object { IfOk result (λ object. object ≡ record { sub = id; door = object.door; tag = fields.tag; name = []; life = 0 }) }
+fn hold(
+    id: u16,
+    form: Form,
+    fields: Fields,
+    alloc: Global,
+    domain: &mut Domain,
+) -> Result<Object, AllocError>
+    ensures object { IfOk result (λ object. object ≡ record { sub = id; door = object.door; tag = fields.tag; name = name_of form; life = 0 }) }
     ensures vacant { IfOk result (λ object. door_at domain.old object.door ≡ None) }
     ensures enters { IfOk result (λ object. Updates domain.old domain.new object.door (Some fields.door)) }
     ensures err { OnErr result (domain.new ≡ domain.old) }
 {
-    let name = Text::of(alloc, "")?;
+    let name = Text::of(alloc, name_of(form))?;
     let door = domain.add(fields.door)?;
     Ok(Object {
         sub: id,

@@ -5,6 +5,7 @@ ghost use Rattle.marshal_buf.specs.Held.{Puts, IsAsBefore};
 ghost use Rattle.sub_core.specs.Forms.{tail_bytes, tail_len, object_bytes, object_len, HasRoom};
 ghost use Rattle.sub_core.specs.Calls.{Marshals, RefusesHeld};
 
+use crate::names::put_name;
 use crate::shape::{Form, object_len};
 use crate::values::Object;
 use crate::why::ObjectErr;
@@ -83,5 +84,6 @@ fn put_tail(form: Form, tag: u32, buf: &mut Buf) -> Result<(), AllocError>
     match form {
         Form::Bare => Ok(()),
         Form::Tagged => buf.put_u32(tag),
+        Form::Managed => put_name(buf),
     }
 }

@@ -7,7 +7,7 @@ use Rattle.client_objects.proofs.tests.open.Goals as goal
 
 pub returns : goal.returns
 returns c =
-    let got = c.in_ok-target.ensures.ok in
-    let now = c.set_life.ensures c.args.objects.now c.in_ok-clone.field-0 c.in_ok-target.target got.1 in
+    let got = c.in_ok-found.ensures in
+    let now = c.set_life.ensures c.args.objects.now c.in_ok-clone.field-0 c.in_ok-found.found.target got.opened in
     subst (λ (os : List OpenObject). AllByRecursion (IsOnStack c.args.mounted.now) os) (sym now)
-    (on_stack-opened c.args.mounted.now c.args.objects.now (Some (kept_object c.args.stored.now)) c.in_ok-target.target c.in_ok-clone.field-0 7 c.requires got.0)
+    (on_stack-opened c.args.mounted.now c.args.objects.now (Some (kept_object c.args.stored.now)) c.in_ok-found.found.target c.in_ok-clone.field-0 7 c.requires.stack got.read)

@@ -1,10 +1,10 @@
-//! The manager's name, as a caching object has it.
+//! The name of a manager, as an object has it.
 
 ghost use Rattle.std.specs.Prelude.{◌≡◌, ◌+◌, ◌<◌, ◌≤◌, ◌^◌, ◌++◌, [], Ok, Err, IsOk, IfOk, OnOk, MatchResult, length};
 ghost use Rattle.marshal_buf.specs.Held.{Puts};
 ghost use Rattle.marshal_buf.specs.Numbers.{number_bytes};
 ghost use Rattle.marshal_buf.specs.Reading.{Takes};
-ghost use Rattle.sub_caching.specs.Names.{manager_name, name_bytes, string_at, name_at};
+ghost use Rattle.sub_core.specs.Names.{manager_name, name_bytes, string_at, name_at};
 
 use marshal_buf::{Buf, Reader, Short};
 use std::alloc::AllocError;
@@ -18,6 +18,7 @@ pub(crate) fn put_name(buf: &mut Buf) -> Result<(), AllocError>
     requires room { 7 ≤ buf.old.spare }
     ensures ok { IsOk result }
     ensures put { Puts name_bytes [] buf.old buf.new }
+    ensures len { length buf.new.bytes ≡ length buf.old.bytes + 7 }
 {
     buf.put_u32(3)?;
     buf.put_bytes(NAME.as_bytes())

@@ -2,7 +2,7 @@ use Rattle.std.proofs.Common.{◌∙◌, ap, sym, Option, Some}
 use Rattle.std.specs.Option.{option_map}
 use Rattle.marshal_buf.specs.declared.door.Door.{Door}
 use Rattle.sub_caching.specs.Routes.{caching_route}
-use Rattle.sub_caching.proofs.kinds.Caching.route.Goals as goal
+use Rattle.sub_caching.proofs.kinds.CachingSubcontract.route.Goals as goal
 
 pub returns-clause-ok : goal.returns-clause-ok
 returns-clause-ok c =

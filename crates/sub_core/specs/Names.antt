@@ -1,4 +1,4 @@
--- The name that a caching object has, and how it is read.
+-- The name of a manager, and how it is read.
 use Rattle.std.specs.Prelude.{ℕ, ◌++◌, List, codes, Result, Ok, Err, if◌then◌else◌}
 use Rattle.std.specs.Str.{bytes_eq}
 use Rattle.marshal_buf.specs.declared.why.Short.{Short}
