@@ -15,11 +15,12 @@ use Rattle.script_text.specs.declared.script.Call.{Call}
 use Rattle.script_text.specs.declared.script.ClientLine.{ClientLine}
 use Rattle.script_text.specs.declared.script.Call.TheVariants.{Context, Bind, Unbind, List as ListNames, Open, Copy, Drop, Read, Write, Clear, Sync, Clean, Map, Unmap, Load, Store}
 use Rattle.script_text.specs.declared.script.Sub.{Sub}
-use Rattle.script_text.specs.declared.script.Sub.TheVariants.{Singleton, Cluster}
+use Rattle.script_text.specs.declared.script.Sub.TheVariants.{Singleton, Cluster, Caching}
 use Rattle.script_text.specs.declared.script.Reply.{Reply}
 use Rattle.script_text.specs.declared.script.Reply.TheVariants as replies
 use Rattle.stack_accept.specs.Mount.{Mount, number_in}
 use Rattle.sub_basic.specs.declared.TheConstants.{SINGLETON, CLUSTER}
+use Rattle.sub_caching.specs.declared.TheConstants.{CACHING}
 use Rattle.name_context.specs.declared.entry.NameCall.{NameCall}
 use Rattle.name_context.specs.declared.entry.NameCall.TheVariants as names_calls
 use Rattle.name_context.specs.declared.entry.NameErr.{NameErr}
@@ -31,6 +32,7 @@ use Rattle.client_objects.specs.declared.state.ClientState.{ClientState}
 use Rattle.client_objects.specs.declared.target.Target.{Target}
 use Rattle.client_objects.specs.Objects.{OpenObject, object_of, with_object, without}
 use Rattle.client_objects.specs.Stored.{bound_object, received}
+use Rattle.client_objects.specs.Found.{node_of}
 use Rattle.memory_object.specs.declared.binding.CacheRights.{CacheRights}
 use Rattle.memory_object.specs.Managers.{rights_of}
 use Rattle.vmm_space.specs.declared.regions.Region.{Region}
@@ -88,11 +90,7 @@ mapping state space = record state { regions = space }
 
 -- the node to which the calls of an open object go, for a client in this state
 abbrev pub node_at : Mount → ClientState → Target → ℕ
-node_at mount state target = target.node
-
--- the view of an open object, which the client may map
-abbrev pub view_at : Target → ℕ
-view_at target = target.node
+node_at mount state target = node_of mount state.machine target
 
 -- what a call on a file answers a line of the script
 abbrev pub reply_of : Told → Reply
@@ -215,9 +213,10 @@ abbrev pub region_of : List ℕ → ℕ → ℕ → Bool → CacheRights → Reg
 region_of name address pages write rights =
     record { name = name; file = rights.file; leaf = rights.leaf; life = 0; address = address; pages = pages; write = write }
 
--- the manager that holds the pages of an open object for the client, if its machine has one
+-- the manager that holds the pages of an open object for the client, if its machine has one: a map binds the memory object of the view that
+-- the object's door names
 abbrev pub rights_at : Mount → ClientState → Target → Option CacheRights
-rights_at mount state target = rights_of mount (record { view = view_at target; file = target.file }) state.machine
+rights_at mount state target = rights_of mount (record { view = target.view; file = target.file }) state.machine
 
 -- a region that the space does not refuse is mapped, if there is a manager
 abbrev pub plan_bound : ClientState → Option CacheRights → (CacheRights → Region) → Plan
@@ -266,6 +265,7 @@ plan_store state address bytes = plan_place state (translation state.regions add
 abbrev pub sub_id : Sub → Option ℕ
 sub_id Singleton = Some SINGLETON
 sub_id Cluster = Some CLUSTER
+sub_id Caching = Some CACHING
 sub_id sub = None
 
 abbrev pub plan_bind_as : ClientState → List (List ℕ) → Option ℕ → Option ℕ → Option ℕ → Plan

@@ -23,7 +23,7 @@ use Rattle.client_objects.specs.declared.target.Target.{Target}
 use Rattle.client_objects.specs.Objects.{with_object}
 use Rattle.client_objects.specs.Stored.{received}
 use Rattle.run_defs.specs.Stack.{pages_of}
-use Rattle.run_defs.specs.Plan.{Plan, ends, calls, Request, NamesAsk, told_names, unless_refused, refused_as, plan_call, plan_named, plan_names, plan_access, plan_open, plan_found, access, asking, asking_names, holding, opened, reply_of}
+use Rattle.run_defs.specs.Plan.{Plan, ends, calls, Request, NamesAsk, told_names, unless_refused, refused_as, plan_call, plan_named, plan_names, plan_access, plan_open, plan_found, access, asking, asking_names, holding, node_at, opened, reply_of}
 use Rattle.run_defs.specs.Fits.{Gone}
 use Rattle.run_defs.proofs.Parts.{did_nothing, did_then, went_of, went_lacks, gone_as, gone_none, gone_named, gone_unnamed, gone_refused}
 use Rattle.shared_files.specs.declared.answered.Answered.{Answered}
@@ -197,4 +197,4 @@ clone-is xs ys each = AllZip-map (λ n. n) xs ys each ∙ map-id xs
 pub found-lacks : (mount : Mount) (caller : ℕ) (state : ClientState) (name : List ℕ) (found : Option Target) (pass : Knows) → IsSome found → PlanDone mount caller (plan_found mount state name found) pass pass replies.Memory state
 found-lacks mount caller state name None pass some = absurd cc
 found-lacks mount caller state name (Some target) pass some =
-    plan-lacks mount caller (plan_found mount state name (Some target)) (asking target.file (access target.node 0 ops.Open)) state (λ told. ends (reply_of told) (holding state (with_object state.objects name (opened target told)))) pass refl
+    plan-lacks mount caller (plan_found mount state name (Some target)) (asking target.file (access (node_at mount state target) 0 ops.Open)) state (λ told. ends (reply_of told) (holding state (with_object state.objects name (opened target told)))) pass refl

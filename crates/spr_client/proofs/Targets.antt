@@ -1,67 +1,60 @@
 -- Where the calls of a client's objects go.
-use Rattle.std.proofs.Common.{◌≡◌, ℕ, zero, suc, ◌<◌, List, [], ◌∷◌, length, true, false, Option, Some, None, IfSome, refl, sym, ap, subst, ◌∙◌, arith, ◌⊎◌, ⊎_elim}
-use Rattle.std.specs.Prelude.{slice_index_or}
+use Rattle.std.proofs.Common.{◌≡◌, ℕ, ◌<◌, List, [], ◌∷◌, length, true, Option, Some, None, IfSome, refl, sym, ap, subst, ◌∙◌, ◌⊎◌, ⊎_elim}
 use Rattle.std.specs.List.{AllByRecursion}
-use Rattle.std.proofs.lemmas.Bool.{false≢true}
-use Rattle.std.proofs.lemmas.List.{length-map}
-use Rattle.tower_core.specs.TreeShape.{TreeShape}
-use Rattle.stack_accept.specs.declared.entries.Kind.{Kind}
-use Rattle.stack_accept.specs.declared.entries.Kind.TheVariants as kinds
-use Rattle.stack_accept.specs.declared.entries.NodeEntry.{NodeEntry}
-use Rattle.stack_accept.specs.Mount.{Mount, is_view, is_view_in}
-use Rattle.stack_accept.specs.Sound.{IsStorageKind, IsGroundNode, IsMount}
+use Rattle.std.specs.Option.{option_map}
+use Rattle.stack_accept.specs.Mount.{Mount}
+use Rattle.stack_accept.specs.Sound.{IsMount}
 use Rattle.name_context.specs.Names.{Kept}
 use Rattle.client_objects.specs.declared.state.ClientState.{ClientState}
 use Rattle.client_objects.specs.declared.target.Target.{Target}
+use Rattle.client_objects.specs.declared.target.Found.{Found}
 use Rattle.client_objects.specs.Objects.{OpenObject, IsOnStack, object_of, with_object}
 use Rattle.client_objects.specs.Stored.{received}
+use Rattle.client_objects.specs.Found.{node_of, found_on}
+use Rattle.client_objects.proofs.FoundLaws.{found_leads}
 use Rattle.client_objects.proofs.OpenLaws.{on_stack-object_of, on_stack-with_object}
 use Rattle.client_objects.proofs.ReceivedLaws.{received_leads}
 use Rattle.run_defs.specs.Plan.{holding}
 use Rattle.spr_client.specs.Lines.{IsOnMachine, IsTarget}
 
-storage_unseen : (kind : Kind) → IsStorageKind kind → is_view kind ≡ false
-storage_unseen kinds.Disk h = refl
-storage_unseen kinds.Mirror h = refl
-storage_unseen kinds.Coherency h = absurd h
-storage_unseen kinds.Dfs h = absurd h
-storage_unseen kinds.Vmm h = absurd h
+-- what leads to a view and a file of the stack is found there
+target_is : (mount : Mount) (machine : ℕ) (target : Target) (name : List ℕ) → IsMount mount → IsOnStack mount (record { name = name; target = target }) → IsTarget mount (found_on mount machine target)
+target_is mount machine target name sound on =
+    let leads = found_leads mount machine target sound on.view in
+    record { built = on.built; file = on.file; view = on.view; above = leads.above; node = leads.inside }
 
--- a view is one of the nodes
-view_inside : (nodes : List NodeEntry) (node : ℕ) → is_view_in nodes node ≡ true → node < length nodes
-view_inside [] node is = absurd cc
-view_inside (x ∷ xs) zero is = omega arith
-view_inside (x ∷ xs) (suc node) is = let below = view_inside xs node is in omega (arith, below)
+target_by : (mount : Mount) (machine : ℕ) (objects : List OpenObject) (name : List ℕ) (target : Option Target) → IsMount mount → AllByRecursion (IsOnStack mount) objects → object_of name objects ≡ target
+    → IfSome (option_map (found_on mount machine) target) (IsTarget mount)
+target_by mount machine objects name None sound on is = tt
+target_by mount machine objects name (Some target) sound on is = target_is mount machine target name sound (on_stack-object_of mount objects name target on is)
 
--- and the ground is none
-view_above : (machines : List (List ℕ)) (nodes : List NodeEntry) (node : ℕ) → ((d : NodeEntry) → IsGroundNode machines (slice_index_or nodes 0 d)) → is_view_in nodes node ≡ true → 0 < node
-view_above machines [] node ground is = absurd cc
-view_above machines (x ∷ xs) zero ground is = absurd (false≢true (sym (storage_unseen x.kind (ground x).kind) ∙ is))
-view_above machines (x ∷ xs) (suc node) ground is = omega arith
-
--- what leads to a view and a file of the stack
-pub target_is : (mount : Mount) (target : Target) (name : List ℕ) → IsMount mount → IsOnStack mount (record { name = name; target = target }) → IsTarget mount target
-target_is mount target name sound on =
-    let counted : length mount.tree.parents ≡ length mount.nodes = ap (λ (t : TreeShape). length t.parents) sound.served ∙ length-map mount.nodes _ in
-    let inside = view_inside mount.nodes target.node on.view in
-    record {
-      built = on.built;
-      file = on.file;
-      view = on.view;
-      above = view_above mount.machines mount.nodes target.node sound.ground_node on.view;
-      node = omega (arith, counted, inside);
-    }
-
--- so do the objects of a client
-pub found_target : (mount : Mount) (objects : List OpenObject) (name : List ℕ) (found : Option Target) → IsMount mount → AllByRecursion (IsOnStack mount) objects → found ≡ object_of name objects → IfSome found (IsTarget mount)
-found_target mount objects name None sound on is = tt
-found_target mount objects name (Some target) sound on is = target_is mount target name sound (on_stack-object_of mount objects name target on (sym is))
+-- so are the objects of a client
+pub found_target : (mount : Mount) (machine : ℕ) (objects : List OpenObject) (name : List ℕ) (found : Option Found) → IsMount mount → AllByRecursion (IsOnStack mount) objects
+    → found ≡ option_map (found_on mount machine) (object_of name objects) → IfSome found (IsTarget mount)
+found_target mount machine objects name found sound on is =
+    subst (λ (o : Option Found). IfSome o (IsTarget mount)) (sym is) (target_by mount machine objects name (object_of name objects) sound on refl)
 
 -- and what is received
-pub received_target : (mount : Mount) (kept : Option Kept) (target : Target) → IsMount mount → received mount kept ≡ Some target → IsTarget mount target
-received_target mount kept target sound is =
-    let leads = received_leads mount kept target is in
-    target_is mount target [] sound (record { built = leads.built; view = leads.view; file = leads.file })
+pub received_target : (mount : Mount) (machine : ℕ) (kept : Option Kept) (found : Found) → IsMount mount → received mount kept ≡ Some found.target → found ≡ found_on mount machine found.target → IsTarget mount found
+received_target mount machine kept found sound is node =
+    let leads = received_leads mount kept found.target is in
+    subst (λ (f : Found). IsTarget mount f) (sym node) (target_is mount machine found.target [] sound (record { built = leads.built; view = leads.view; file = leads.file }))
+
+-- nothing is found where no object is
+pub found-none : (mount : Mount) (machine : ℕ) (o : Option Target) → option_map (found_on mount machine) o ≡ None → o ≡ None
+found-none mount machine None is = refl
+found-none mount machine (Some target) is = absurd cc
+
+same_found : (f g : Found) → Some f ≡ Some g → f ≡ g
+same_found f g is = cc
+
+-- an object that is found is there, and its calls go to its node
+pub found-some : (mount : Mount) (machine : ℕ) (o : Option Target) (found : Found) → option_map (found_on mount machine) o ≡ Some found → (o ≡ Some found.target) × (found.node ≡ node_of mount machine found.target)
+found-some mount machine None found is = absurd cc
+found-some mount machine (Some target) found is =
+    let same : found_on mount machine target ≡ found = same_found (found_on mount machine target) found is in
+    let there : target ≡ found.target = ap (λ (f : Found). f.target) same in
+    (ap (λ (t : Target). Some t) there, sym (ap (λ (f : Found). f.node) same) ∙ ap (node_of mount machine) there)
 
 -- the same client with these objects
 on_machine-holding : (mount : Mount) (state : ClientState) (new : List OpenObject) → IsOnMachine mount state → AllByRecursion (IsOnStack mount) new → IsOnMachine mount (holding state new)

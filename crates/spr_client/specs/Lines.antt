@@ -15,22 +15,23 @@ use Rattle.name_context.specs.declared.entry.NameCall.TheVariants as names_calls
 use Rattle.name_context.specs.History.{IsPathOf}
 use Rattle.name_context.specs.Names.{HasParts}
 use Rattle.client_objects.specs.declared.state.ClientState.{ClientState}
-use Rattle.client_objects.specs.declared.target.Target.{Target}
+use Rattle.client_objects.specs.declared.target.Found.{Found}
 use Rattle.client_objects.specs.Objects.{IsOnStack}
 use Rattle.client_objects.specs.Stored.{is_built}
 use Rattle.run_defs.specs.Stack.{file_named, pages_of, view_of}
-use Rattle.run_defs.specs.Plan.{Plan, sub_id, view_at}
+use Rattle.run_defs.specs.Plan.{Plan, sub_id}
 use Rattle.run_defs.specs.Fits.{Did, Gone, Went, Worked}
 use Rattle.spr_volume.specs.Passes.{Knows, as_known}
 use Rattle.spr_client.specs.Calls.{histories}
 
--- calls that go to a view of the stack, a layer above the ground, and to a file of it, as frames of a subcontract that the program has
-pub record IsTarget (mount : Mount) (target : Target) : Type 0 where
-  pub built : is_built target.sub ≡ true
-  pub file : target.file < length mount.files
-  pub view : is_view_in mount.nodes (view_at target) ≡ true
-  pub above : 0 < target.node
-  pub node : target.node < length mount.tree.parents
+-- what was found leads to a view and a file of the stack, and its calls go to a layer above the ground, as frames of a subcontract that the
+-- program has
+pub record IsTarget (mount : Mount) (found : Found) : Type 0 where
+  pub built : is_built found.target.sub ≡ true
+  pub file : found.target.file < length mount.files
+  pub view : is_view_in mount.nodes found.target.view ≡ true
+  pub above : 0 < found.node
+  pub node : found.node < length mount.tree.parents
 
 -- calls that go to a layer of the stack above the ground, and to a file of it
 pub record IsLeafOf (mount : Mount) (leaf number : ℕ) : Type 0 where

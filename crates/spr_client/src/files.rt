@@ -1,10 +1,12 @@
 //! Lines on the file of an open object.
 
 ghost use Rattle.std.specs.Prelude.{◌≡◌, IfSome, IsTrue, length};
+ghost use Rattle.std.specs.Option.{option_map};
 ghost use Rattle.hist_plain.specs.declared.event.Op.TheVariants as ops;
 ghost use Rattle.hist_plain.specs.Event.{fits_page};
 ghost use Rattle.hist_plain.specs.Plain.{asked_by};
 ghost use Rattle.client_objects.specs.Objects.{object_of};
+ghost use Rattle.client_objects.specs.Found.{found_on};
 ghost use Rattle.run_defs.specs.Stack.{pages_of};
 ghost use Rattle.run_defs.specs.Plan.{access, asking, node_at, plan_access, plan_call, plan_named, plan_sync};
 ghost use Rattle.spr_client.specs.Calls.{MayCall};
@@ -13,7 +15,7 @@ ghost use Rattle.spr_client.specs.Lines.{IsLeafOf, IsOnMachine, IsTarget, LineDo
 use crate::calls::{access_at, framed, framed_sync, sync_at};
 use crate::client::{Client, Common};
 use crate::line::{refused, reply_to};
-use client_objects::Target;
+use client_objects::Found;
 use disk_layer::Ground;
 use hist_plain::{Keep, Op, fits};
 use run_defs::pages_of;
@@ -66,20 +68,21 @@ fn access_object<R: Wait, G: Ground, T: Gate>(
     common: &Common<'_, G, T>,
     pass: &mut Pass<G>,
     client: &Client,
-    target: Target,
+    found: Found,
     op: Op,
     len: usize,
 ) -> Reply
     requires may { MayCall common.now.mount.now common.now.volume.now pass.old client.now.caller }
-    requires target { IsTarget common.now.mount.now target }
-    requires fits { IsTrue (fits_page common.now.mount.now.page_size (pages_of common.now.mount.now target.file) op) }
+    requires target { IsTarget common.now.mount.now found }
+    requires node { found.node ≡ node_at common.now.mount.now client.now.state found.target }
+    requires fits { IsTrue (fits_page common.now.mount.now.page_size (pages_of common.now.mount.now found.target.file) op) }
     requires len { len ≡ asked_by op }
-    ensures { LineDone common.now.mount.now client.now.caller client.now.state (plan_call client.now.state (asking target.file (access (node_at common.now.mount.now client.now.state target) target.life op))) pass.old pass.new result client.now.state }
+    ensures { LineDone common.now.mount.now client.now.caller client.now.state (plan_call client.now.state (asking found.target.file (access (node_at common.now.mount.now client.now.state found.target) found.target.life op))) pass.old pass.new result client.now.state }
 {
     let Ok(out) = vec![in alloc; 0u8; len] else {
         return Reply::Memory;
     };
-    let Ok(op) = framed(alloc, common, target, op) else {
+    let Ok(op) = framed(alloc, common, found.target, op) else {
         return Reply::Memory;
     };
     answer_access(
@@ -87,9 +90,9 @@ fn access_object<R: Wait, G: Ground, T: Gate>(
         common,
         pass,
         client,
-        target.file,
-        target.node,
-        target.life,
+        found.target.file,
+        found.node,
+        found.target.life,
         &op,
         out,
     )
@@ -111,17 +114,17 @@ fn access_line<R: Wait, G: Ground, T: Gate>(
     requires len { len ≡ asked_by op }
     ensures { LineDone common.now.mount.now client.now.caller client.now.state (plan_named client.now.state (object_of name.now client.now.state.objects) (plan_access common.now.mount.now client.now.state op)) pass.old pass.new result client.now.state }
 {
-    let Some(target) = find(common, client, name) else {
+    let Some(found) = find(common, client, name) else {
         return Reply::NoObject;
     };
     if !fits(
         &op,
         common.mount.page_size(),
-        pages_of(common.mount, target.file),
+        pages_of(common.mount, found.target.file),
     ) {
         return Reply::NotOnePage;
     }
-    access_object(rt, alloc, common, pass, client, target, op, len)
+    access_object(rt, alloc, common, pass, client, found, op, len)
 }
 
 /// A line that reads bytes of a page of the object of a name.
@@ -198,10 +201,10 @@ pub(crate) fn sync_line<R: Wait, G: Ground, T: Gate>(
     requires on { IsOnMachine common.now.mount.now client.now.state }
     ensures { LineDone common.now.mount.now client.now.caller client.now.state (plan_named client.now.state (object_of name.now client.now.state.objects) (plan_sync common.now.mount.now client.now.state keep)) pass.old pass.new result client.now.state }
 {
-    let Some(target) = find(common, client, name) else {
+    let Some(found) = find(common, client, name) else {
         return Reply::NoObject;
     };
-    let Ok(()) = framed_sync(alloc, common, target) else {
+    let Ok(()) = framed_sync(alloc, common, found.target) else {
         return Reply::Memory;
     };
     match sync_at(
@@ -209,8 +212,8 @@ pub(crate) fn sync_line<R: Wait, G: Ground, T: Gate>(
         common,
         pass,
         client.caller,
-        target.file,
-        target.node,
+        found.target.file,
+        found.node,
         keep,
     ) {
         Ok(answered) => reply_to(answered.answer, Vec::new(alloc)),
@@ -218,17 +221,17 @@ pub(crate) fn sync_line<R: Wait, G: Ground, T: Gate>(
     }
 }
 
-/// Where the calls of a client's object of a name go.
+/// Where a client's object of a name leads, and to which node its calls go from the client's machine.
 pub(crate) fn find<G: Ground, T: Gate>(
     common: &Common<'_, G, T>,
     client: &Client,
     name: &Text,
-) -> Option<Target>
+) -> Option<Found>
     requires on { IsOnMachine common.now.mount.now client.now.state }
-    ensures is { result ≡ object_of name.now client.now.state.objects }
+    ensures is { result ≡ option_map (found_on common.now.mount.now client.now.state.machine) (object_of name.now client.now.state.objects) }
     ensures target { IfSome result (IsTarget common.now.mount.now) }
 {
-    // The proof reads here that a view stands above the ground.
+    // The proof reads here that calls go above the ground.
     let _nodes = common.mount.nodes();
     let objects = &client.state.objects;
     objects.find(common.mount, client.state.machine, name)

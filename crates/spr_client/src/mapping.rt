@@ -13,7 +13,7 @@ use crate::calls::access_at;
 use crate::client::{Client, Common};
 use crate::files::find;
 use crate::line::{life_in, refused, reply_to, unmappable};
-use client_objects::Target;
+use client_objects::Found;
 use disk_layer::Ground;
 use hist_plain::Op;
 use memory_object::{CacheRights, MemoryObject};
@@ -101,7 +101,7 @@ fn map_object<R: Wait, G: Ground, T: Gate>(
     common: &Common<'_, G, T>,
     pass: &mut Pass<G>,
     client: &mut Client,
-    target: Target,
+    found: Found,
     region: &Text,
     address: u64,
     pages: u32,
@@ -109,21 +109,21 @@ fn map_object<R: Wait, G: Ground, T: Gate>(
 ) -> Reply
     requires may { MayCall common.now.mount.now common.now.volume.now pass.old client.old.caller }
     requires on { IsOnMachine common.now.mount.now client.old.state }
-    requires target { IsTarget common.now.mount.now target }
+    requires target { IsTarget common.now.mount.now found }
     requires address { address ≤ MAX_ADDRESS }
-    ensures done { LineDone common.now.mount.now client.old.caller client.old.state (plan_map common.now.mount.now client.old.state region.now address pages write target) pass.old pass.new result client.new.state }
+    ensures done { LineDone common.now.mount.now client.old.caller client.old.state (plan_map common.now.mount.now client.old.state region.now address pages write found.target) pass.old pass.new result client.new.state }
     ensures on { IsOnMachine common.now.mount.now client.new.state }
     ensures same { client.new ≡ record client.old { state = client.new.state } }
 {
     // The proof reads here that a manager stands above the ground.
     let _nodes = common.mount.nodes();
     let regions = &client.state.regions;
-    if let Err(why) = regions.may_map(region.as_str(), target.file, address, pages) {
+    if let Err(why) = regions.may_map(region.as_str(), found.target.file, address, pages) {
         return unmappable(why);
     }
     let object = MemoryObject {
-        view: target.node,
-        file: target.file,
+        view: found.target.view,
+        file: found.target.file,
     };
     let Ok(rights) = object.bind(common.mount, client.state.machine) else {
         return Reply::NoManager;
@@ -156,11 +156,11 @@ pub(crate) fn map_line<R: Wait, G: Ground, T: Gate>(
     ensures on { IsOnMachine common.now.mount.now client.new.state }
     ensures same { client.new ≡ record client.old { state = client.new.state } }
 {
-    let Some(target) = find(common, client, name) else {
+    let Some(found) = find(common, client, name) else {
         return Reply::NoObject;
     };
     map_object(
-        rt, alloc, common, pass, client, target, region, address, pages, write,
+        rt, alloc, common, pass, client, found, region, address, pages, write,
     )
 }
 

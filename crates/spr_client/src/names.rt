@@ -23,6 +23,7 @@ use spr_volume::Pass;
 use std::alloc::Global;
 use std::sync::Wait;
 use sub_basic::{CLUSTER, SINGLETON};
+use sub_caching::CACHING;
 
 /// A line that makes a context.
 pub(crate) fn context_line<R: Wait, G: Ground, T: Gate>(
@@ -53,7 +54,8 @@ fn sub_id(sub: &Sub) -> Option<u16>
     match sub {
         Sub::Singleton => Some(SINGLETON),
         Sub::Cluster => Some(CLUSTER),
-        Sub::Caching | Sub::Reconnectable => None,
+        Sub::Caching => Some(CACHING),
+        Sub::Reconnectable => None,
     }
 }
 

@@ -4,7 +4,7 @@ ghost use Rattle.std.specs.Prelude.{◌≡◌, ◌⊎◌, ℕ, List, Some};
 ghost use Rattle.name_context.specs.Names.{HasParts, kept_object};
 ghost use Rattle.client_objects.specs.Objects.{OpenObject, object_of, with_object};
 ghost use Rattle.client_objects.specs.Stored.{received};
-ghost use Rattle.run_defs.specs.Plan.{holding, plan_copy, plan_drop, plan_found, plan_named, plan_open};
+ghost use Rattle.run_defs.specs.Plan.{holding, node_at, plan_copy, plan_drop, plan_found, plan_named, plan_open};
 ghost use Rattle.spr_client.specs.Calls.{MayCall};
 ghost use Rattle.spr_client.specs.Lines.{IsOnMachine, IsTarget, LineDone, PlanDone};
 
@@ -12,7 +12,7 @@ use crate::calls::{access_at, framed};
 use crate::client::{Client, Common};
 use crate::files::find;
 use crate::line::{life_in, parts_of, refused, refused_names, reply_to};
-use client_objects::{NotReceived, Target};
+use client_objects::{Found, NotReceived};
 use disk_layer::Ground;
 use hist_plain::Op;
 use script_text::Reply;
@@ -22,25 +22,26 @@ use spr_volume::{Pass, Stored};
 use std::alloc::Global;
 use std::sync::Wait;
 
-/// Opens the file at the view to which the last of a client's objects leads, which was just received. The object keeps the life that is
-/// answered; if the call is refused, the object is given up.
+/// Opens the file at the node to which the calls of the last of a client's objects go, which was just received. The object keeps the life
+/// that is answered; if the call is refused, the object is given up.
 fn open_received<R: Wait, G: Ground, T: Gate>(
     rt: &R,
     alloc: Global,
     common: &Common<'_, G, T>,
     pass: &mut Pass<G>,
     client: &mut Client,
-    target: Target,
+    found: Found,
 ) -> Reply
     requires may { MayCall common.now.mount.now common.now.volume.now pass.old client.old.caller }
-    requires target { IsTarget common.now.mount.now target }
-    ensures done { (objects : List OpenObject) (name : List ℕ) → client.old.state.objects ≡ with_object objects name target
-        → PlanDone common.now.mount.now client.old.caller (plan_found common.now.mount.now (holding client.old.state objects) name (Some target)) pass.old pass.new result client.new.state }
-    ensures on { (objects : List OpenObject) (name : List ℕ) → client.old.state.objects ≡ with_object objects name target
-        → (client.new.state ≡ holding client.old.state objects) ⊎ ((life : ℕ) × (client.new.state ≡ holding client.old.state (with_object objects name (record target { life = life })))) }
+    requires target { IsTarget common.now.mount.now found }
+    requires node { found.node ≡ node_at common.now.mount.now client.old.state found.target }
+    ensures done { (objects : List OpenObject) (name : List ℕ) → client.old.state.objects ≡ with_object objects name found.target
+        → PlanDone common.now.mount.now client.old.caller (plan_found common.now.mount.now (holding client.old.state objects) name (Some found.target)) pass.old pass.new result client.new.state }
+    ensures on { (objects : List OpenObject) (name : List ℕ) → client.old.state.objects ≡ with_object objects name found.target
+        → (client.new.state ≡ holding client.old.state objects) ⊎ ((life : ℕ) × (client.new.state ≡ holding client.old.state (with_object objects name (record found.target { life = life })))) }
     ensures same { client.new ≡ record client.old { state = client.new.state } }
 {
-    let Ok(op) = framed(alloc, common, target, Op::Open) else {
+    let Ok(op) = framed(alloc, common, found.target, Op::Open) else {
         client.state.objects.give_up_last();
         return Reply::Memory;
     };
@@ -49,8 +50,8 @@ fn open_received<R: Wait, G: Ground, T: Gate>(
         common,
         pass,
         client.caller,
-        target.file,
-        target.node,
+        found.target.file,
+        found.node,
         0,
         &op,
         &mut [],
@@ -82,11 +83,12 @@ fn open_stored<R: Wait, G: Ground, T: Gate>(
     ensures on { IsOnMachine common.now.mount.now client.new.state }
     ensures same { client.new ≡ record client.old { state = client.new.state } }
 {
-    // The proof reads here that a view stands above the ground.
+    // The proof reads here that calls go above the ground.
     let _nodes = common.mount.nodes();
+    let machine = client.state.machine;
     let objects = &mut client.state.objects;
-    match objects.receive(alloc, common.mount, name, stored) {
-        Ok(target) => open_received(rt, alloc, common, pass, client, target),
+    match objects.receive(alloc, common.mount, machine, name, stored) {
+        Ok(found) => open_received(rt, alloc, common, pass, client, found),
         Err(NotReceived::BadObject) => Reply::BadObject,
         Err(NotReceived::Memory) => Reply::Memory,
     }

@@ -1,6 +1,6 @@
-use Rattle.std.proofs.Common.{sym, ap}
+use Rattle.std.proofs.Common.{sym, ap, ◌∙◌}
 use Rattle.hist_plain.specs.declared.event.Op.{Op}
-use Rattle.run_defs.specs.Plan.{asking, access, plan_call}
+use Rattle.run_defs.specs.Plan.{asking, access, node_at, plan_call}
 use Rattle.spr_client.proofs.LineLaws.{done-as, done-lacks}
 use Rattle.spr_client.proofs.files.access_object.Goals as goal
 
@@ -13,7 +13,9 @@ returns-in_default-framed g c = done-lacks c.args.common.now.mount.now c.args.cl
 pub returns : goal.returns
 returns g c =
     let mount = c.args.common.now.mount.now in
-    let target = c.args.target in
+    let found = c.args.found in
+    let target = found.target in
     let state = c.args.client.now.state in
-    done-as mount c.args.client.now.caller state (plan_call state (asking target.file (access target.node target.life c.in-Ok-framed.op))) _ c.args.pass.now c.answer_access.new.pass c.answer_access.result state
-    (ap (λ (op : Op). plan_call state (asking target.file (access target.node target.life op))) (sym c.in-Ok-framed.ensures)) c.answer_access.ensures
+    done-as mount c.args.client.now.caller state (plan_call state (asking target.file (access found.node target.life c.in-Ok-framed.op))) _ c.args.pass.now c.answer_access.new.pass c.answer_access.result state
+    (ap (λ (op : Op). plan_call state (asking target.file (access (node_at mount state target) target.life op))) (sym c.in-Ok-framed.ensures)
+    ∙ ap (λ n. plan_call state (asking target.file (access n target.life c.in-Ok-framed.op))) (sym c.requires.node)) c.answer_access.ensures

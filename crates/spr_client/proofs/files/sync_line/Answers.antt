@@ -1,15 +1,16 @@
-use Rattle.std.proofs.Common.{[], refl, sym, ◌∙◌}
+use Rattle.std.proofs.Common.{[], refl, sym, ap, ◌∙◌}
 use Rattle.client_objects.specs.Objects.{object_of}
 use Rattle.run_defs.specs.Plan.{Request, plan_sync, plan_call, asking, sync, ends, reply_of}
 use Rattle.hist_plain.specs.Plain.{Told}
 use Rattle.spr_client.proofs.LineLaws.{done-none, done-as, done-answered, done-lacks, done-refused, named-none, named-some}
+use Rattle.spr_client.proofs.Targets.{found-none, found-some}
 use Rattle.spr_client.proofs.files.sync_line.Goals as goal
 
 pub returns-in_default : goal.returns-in_default
 returns-in_default g c =
     let state = c.args.client.now.state in
     done-none c.args.common.now.mount.now c.args.client.now.caller state _ c.args.pass.now _ state
-    (named-none state (object_of c.args.name.now state.objects) (plan_sync c.args.common.now.mount.now state c.args.keep) (sym c.find.ensures.is ∙ c.in_default.is))
+    (named-none state (object_of c.args.name.now state.objects) (plan_sync c.args.common.now.mount.now state c.args.keep) (found-none c.args.common.now.mount.now state.machine (object_of c.args.name.now state.objects) (sym c.find.ensures.is ∙ c.in_default.is)))
 
 pub returns-in_default-framed_sync : goal.returns-in_default-framed_sync
 returns-in_default-framed_sync g c = done-lacks c.args.common.now.mount.now c.args.client.now.caller c.args.client.now.state _ c.args.pass.now
@@ -18,10 +19,12 @@ pub returns-in-Ok-sync_at : goal.returns-in-Ok-sync_at
 returns-in-Ok-sync_at g c =
     let mount = c.args.common.now.mount.now in
     let state = c.args.client.now.state in
-    let target = c.in-Some.target in
-    let ask : Request = asking target.file (sync target.node c.args.keep) in
+    let found = c.in-Some.found in
+    let target = found.target in
+    let is = found-some mount state.machine (object_of c.args.name.now state.objects) found (sym c.find.ensures.is ∙ c.in-Some.is) in
+    let ask : Request = asking target.file (sync found.node c.args.keep) in
     done-as mount c.args.client.now.caller state (plan_call state ask) _ c.args.pass.now c.sync_at.new.pass c.reply_to.result state
-    (named-some state (object_of c.args.name.now state.objects) target (plan_sync c.args.common.now.mount.now state c.args.keep) (sym c.find.ensures.is ∙ c.in-Some.is))
+    (named-some state (object_of c.args.name.now state.objects) target (plan_sync mount state c.args.keep) is.0 ∙ ap (λ n. plan_call state (asking target.file (sync n c.args.keep))) (sym is.1))
     (done-answered mount c.args.common.now.volume.now c.args.client.now.caller state ask state c.args.pass.now c.sync_at.new.pass [] c.in-Ok-sync_at.answered c.reply_to.result c.requires.may
     c.in-Ok-sync_at.ensures (λ t answer bytes. c.reply_to.ensures t answer (λ read. bytes read ∙ sym c.new.ensures.items)))
 
@@ -29,9 +32,11 @@ pub returns-in-Err : goal.returns-in-Err
 returns-in-Err g c =
     let mount = c.args.common.now.mount.now in
     let state = c.args.client.now.state in
-    let target = c.in-Some.target in
-    let ask : Request = asking target.file (sync target.node c.args.keep) in
+    let found = c.in-Some.found in
+    let target = found.target in
+    let is = found-some mount state.machine (object_of c.args.name.now state.objects) found (sym c.find.ensures.is ∙ c.in-Some.is) in
+    let ask : Request = asking target.file (sync found.node c.args.keep) in
     done-as mount c.args.client.now.caller state (plan_call state ask) _ c.args.pass.now c.sync_at.new.pass c.refused.result state
-    (named-some state (object_of c.args.name.now state.objects) target (plan_sync c.args.common.now.mount.now state c.args.keep) (sym c.find.ensures.is ∙ c.in-Some.is))
+    (named-some state (object_of c.args.name.now state.objects) target (plan_sync mount state c.args.keep) is.0 ∙ ap (λ n. plan_call state (asking target.file (sync n c.args.keep))) (sym is.1))
     (done-refused mount c.args.common.now.volume.now c.args.client.now.caller state (plan_call state ask) ask state (λ (t : Told). ends (reply_of t) state) c.args.pass.now c.sync_at.new.pass [] c.in-Err.err c.refused.result
     c.requires.may refl c.in-Err.ensures c.refused.ensures)

@@ -6,7 +6,7 @@ use Rattle.script_text.specs.declared.script.Reply.{Reply}
 use Rattle.script_text.specs.declared.script.Reply.TheVariants as replies
 use Rattle.client_objects.specs.declared.state.ClientState.{ClientState}
 use Rattle.client_objects.specs.Objects.{OpenObject, with_object}
-use Rattle.run_defs.specs.Plan.{Plan, Request, ends, asking, access, holding, life_in, opened, plan_found, reply_of}
+use Rattle.run_defs.specs.Plan.{Plan, Request, ends, asking, access, holding, life_in, node_at, opened, plan_found, reply_of}
 use Rattle.spr_client.specs.Calls.{CallDone}
 use Rattle.spr_client.specs.Lines.{PlanDone}
 use Rattle.spr_client.proofs.LineLaws.{no-bytes, plan-lacks, plan-ok, plan-refused}
@@ -16,22 +16,23 @@ pub returns-in_default-clause-done : goal.returns-in_default-clause-done
 returns-in_default-clause-done g c = λ objects name is.
     let mount = c.args.common.now.mount.now in
     let state : ClientState = holding c.args.client.now.state objects in
-    let target = c.args.target in
+    let target = c.args.found.target in
     let go_on : Told → Plan = λ told. ends (reply_of told) (holding state (with_object objects name (opened target told))) in
     subst (λ (os : List OpenObject). PlanDone mount c.args.client.now.caller (plan_found mount state name (Some target)) c.args.pass.now c.args.pass.now replies.Memory (holding state os)) (sym (c.give_up_last.ensures objects name target is))
-    (plan-lacks mount c.args.client.now.caller (plan_found mount state name (Some target)) (asking target.file (access target.node 0 ops.Open)) state go_on c.args.pass.now refl)
+    (plan-lacks mount c.args.client.now.caller (plan_found mount state name (Some target)) (asking target.file (access (node_at mount state target) 0 ops.Open)) state go_on c.args.pass.now refl)
 
 pub returns-in-Ok-access_at-clause-done : goal.returns-in-Ok-access_at-clause-done
 returns-in-Ok-access_at-clause-done g c = λ objects name is.
     let mount = c.args.common.now.mount.now in
     let caller = c.args.client.now.caller in
     let state : ClientState = holding c.args.client.now.state objects in
-    let target = c.args.target in
-    let ask : Request = asking target.file (access target.node 0 ops.Open) in
+    let target = c.args.found.target in
+    let ask : Request = asking target.file (access (node_at mount state target) 0 ops.Open) in
     let go_on : Told → Plan = λ told. ends (reply_of told) (holding state (with_object objects name (opened target told))) in
     let answered = c.in-Ok-access_at.answered in
     let out : List ℕ = c.access_at.new.out in
-    let called = subst (λ (op : Op). CallDone caller (asking target.file (access target.node 0 op)) c.args.pass.now c.access_at.new.pass out c.access_at.result) c.in-Ok.ensures c.access_at.ensures in
+    let there = subst (λ (op : Op). CallDone caller (asking target.file (access c.args.found.node 0 op)) c.args.pass.now c.access_at.new.pass out c.access_at.result) c.in-Ok.ensures c.access_at.ensures in
+    let called = subst (λ n. CallDone caller (asking target.file (access n 0 ops.Open)) c.args.pass.now c.access_at.new.pass out c.access_at.result) c.requires.node there in
     let done = subst (λ r. CallDone caller ask c.args.pass.now c.access_at.new.pass out r) c.in-Ok-access_at.is called in
     plan-ok mount c.args.common.now.volume.now caller (plan_found mount state name (Some target)) ask state go_on c.args.pass.now c.access_at.new.pass out answered c.reply_to.result (holding state c.set_life.new.self) c.requires.may refl done
     (λ t answer bytes.
@@ -47,11 +48,12 @@ returns-clause-done g c = λ objects name is.
     let mount = c.args.common.now.mount.now in
     let caller = c.args.client.now.caller in
     let state : ClientState = holding c.args.client.now.state objects in
-    let target = c.args.target in
-    let ask : Request = asking target.file (access target.node 0 ops.Open) in
+    let target = c.args.found.target in
+    let ask : Request = asking target.file (access (node_at mount state target) 0 ops.Open) in
     let go_on : Told → Plan = λ told. ends (reply_of told) (holding state (with_object objects name (opened target told))) in
     let out : List ℕ = c.access_at.new.out in
-    let called = subst (λ (op : Op). CallDone caller (asking target.file (access target.node 0 op)) c.args.pass.now c.access_at.new.pass out c.access_at.result) c.in-Ok.ensures c.access_at.ensures in
+    let there = subst (λ (op : Op). CallDone caller (asking target.file (access c.args.found.node 0 op)) c.args.pass.now c.access_at.new.pass out c.access_at.result) c.in-Ok.ensures c.access_at.ensures in
+    let called = subst (λ n. CallDone caller (asking target.file (access n 0 ops.Open)) c.args.pass.now c.access_at.new.pass out c.access_at.result) c.requires.node there in
     let done = subst (λ r. CallDone caller ask c.args.pass.now c.access_at.new.pass out r) c.in-Err.is called in
     subst (λ (os : List OpenObject). PlanDone mount caller (plan_found mount state name (Some target)) c.args.pass.now c.access_at.new.pass c.refused.result (holding state os)) (sym (c.give_up_last-in-Err.ensures objects name target is))
     (plan-refused mount c.args.common.now.volume.now caller (plan_found mount state name (Some target)) ask state go_on c.args.pass.now c.access_at.new.pass out c.in-Err.err c.refused.result c.requires.may refl done c.refused.ensures)

@@ -2,6 +2,7 @@ use Rattle.std.proofs.Common.{List, Option, Some, sym, ap, subst, ◌∙◌}
 use Rattle.script_text.specs.declared.script.Reply.TheVariants as replies
 use Rattle.name_context.specs.Names.{kept_object}
 use Rattle.client_objects.specs.declared.target.Target.{Target}
+use Rattle.client_objects.specs.declared.target.Found.{Found}
 use Rattle.client_objects.specs.Objects.{OpenObject}
 use Rattle.client_objects.specs.declared.why.NotReceived.{NotReceived}
 use Rattle.client_objects.specs.Received.{RefusesReceived}
@@ -13,19 +14,23 @@ use Rattle.spr_client.proofs.Targets.{on_machine-either, received_target}
 use Rattle.spr_client.proofs.opening.open_stored.Goals as goal
 
 pub open_received-requires-clause-target : goal.open_received-requires-clause-target
-open_received-requires-clause-target g c κs within = received_target c.args.common.now.mount.now (Some (kept_object c.args.stored.now)) c.in-Ok.target c.nodes-nodes.ensures.sound c.in-Ok.ensures.ok.0
+open_received-requires-clause-target g c κs within =
+    received_target c.args.common.now.mount.now c.args.client.now.state.machine (Some (kept_object c.args.stored.now)) c.in-Ok.found c.nodes-nodes.ensures.sound c.in-Ok.ensures.read c.in-Ok.ensures.node
+
+pub open_received-requires-clause-node : goal.open_received-requires-clause-node
+open_received-requires-clause-node g c κs within = ap (λ (f : Found). f.node) c.in-Ok.ensures.node
 
 pub returns-in-Ok-clause-done : goal.returns-in-Ok-clause-done
 returns-in-Ok-clause-done g c =
     let state = c.args.client.now.state in
-    subst (λ (o : Option Target). PlanDone c.args.common.now.mount.now c.args.client.now.caller (plan_found c.args.common.now.mount.now state c.args.name o) c.args.pass.now c.open_received.new.pass c.open_received.result c.open_received.new.client.state) (sym c.in-Ok.ensures.ok.0)
-    (c.open_received.ensures.done state.objects c.args.name c.in-Ok.ensures.ok.1)
+    subst (λ (o : Option Target). PlanDone c.args.common.now.mount.now c.args.client.now.caller (plan_found c.args.common.now.mount.now state c.args.name o) c.args.pass.now c.open_received.new.pass c.open_received.result c.open_received.new.client.state) (sym c.in-Ok.ensures.read)
+    (c.open_received.ensures.done state.objects c.args.name c.in-Ok.ensures.opened)
 
 pub returns-in-Ok-clause-on : goal.returns-in-Ok-clause-on
 returns-in-Ok-clause-on g c =
     let state = c.args.client.now.state in
-    on_machine-either c.args.common.now.mount.now c.open_received.new.client.state state c.args.name c.in-Ok.target (Some (kept_object c.args.stored.now)) c.requires.on c.in-Ok.ensures.ok.0
-    (c.open_received.ensures.on state.objects c.args.name c.in-Ok.ensures.ok.1)
+    on_machine-either c.args.common.now.mount.now c.open_received.new.client.state state c.args.name c.in-Ok.found.target (Some (kept_object c.args.stored.now)) c.requires.on c.in-Ok.ensures.read
+    (c.open_received.ensures.on state.objects c.args.name c.in-Ok.ensures.opened)
 
 pub returns-in-Err-BadObject-clause-done : goal.returns-in-Err-BadObject-clause-done
 returns-in-Err-BadObject-clause-done g c =
