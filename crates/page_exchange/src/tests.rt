@@ -7,6 +7,7 @@ ghost use Rattle.page_messages.specs.declared.kinds.Asked.{Asked as AQuestion};
 ghost use Rattle.page_messages.specs.declared.kinds.Called.{Called as AnOrder};
 ghost use Rattle.page_exchange.specs.declared.table.Table.TheVariants.{Layer};
 ghost use Rattle.page_exchange.specs.Table.{MayAskAbout, MayObeyAbout, file_of};
+ghost use Rattle.page_exchange.specs.Exchange.{IsPair};
 ghost use Rattle.page_exchange.specs.Ground.{IsUnder};
 
 use super::*;
@@ -127,6 +128,13 @@ fn may_deny(table: &Table) -> bool
     }
 }
 
+/// Whether the node is child 2 of a layer, of one file.
+fn is_pair(own: &Table, above: &Node) -> bool
+    ensures { IsTrue result → IsPair own.now above.now 2 }
+{
+    own.file() == above.file() && above.has_child(2)
+}
+
 /// The table of a layer that got page 0 from a disk, whose store fails at one write.
 fn fetched(
     rt: &impl Abort,
@@ -158,8 +166,7 @@ fn a_page_goes_down_and_comes_back(rt: HostRuntime) -> Result<(), Fail> {
         leaf: Leaf::new(rt.alloc(), 64, 2, 1, 0)?,
     };
     // The child asks, and its parent serves it.
-    assert!(rt; own.file() == above.file());
-    assert!(rt; above.has_child(2));
+    assert!(rt; is_pair(&own, &above));
     assert!(rt; above.may_write(0));
     wire.ask_above(&mut own, &mut above, 2, Asked::PageInWrite, 0)?;
     assert_eq!(rt; at(&own), Some((Right::Write, [0, 0])));
@@ -167,8 +174,7 @@ fn a_page_goes_down_and_comes_back(rt: HostRuntime) -> Result<(), Fail> {
     assert!(rt; own.file().page_size == 64 && own.may_write(0));
     own.change(0, 0, b"ab");
     // The parent orders, and the child obeys.
-    assert!(rt; own.file() == above.file());
-    assert!(rt; above.has_child(2));
+    assert!(rt; is_pair(&own, &above));
     assert!(rt; above.child_right(0, 2) == Right::Write);
     assert!(rt; may_deny(&own));
     wire.call_below(&mut own, &mut above, 2, Called::DenyWrites, 0);

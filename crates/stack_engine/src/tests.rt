@@ -1,5 +1,5 @@
-//! Towers of two layers, one upon the other, or of a leaf upon a layer, over a file of three pages of 64 bytes. What each try
-//! does is as the plan has it, worked by hand.
+//! Towers of two layers, one upon the other, or of one leaf or three upon a layer, over a file of three pages of 64 bytes. What
+//! each try does is as the plan has it, worked by hand.
 
 ghost use Rattle.std.specs.Prelude.{◌≡◌, ◌≤◌, ℕ, IfOk, IsTrue};
 ghost use Rattle.hist_plain.specs.Plain.{asked_by};
@@ -115,6 +115,13 @@ fn leaf(alloc: Global) -> Result<Tree, AllocError>
     ensures { IfOk result (λ t. (node : ℕ) → frames_of t node ≤ 1024) }
 {
     Tree::new(alloc, &[0, 0, 1], &[0, 0, 2])
+}
+
+/// The tree of a layer, and three leaves of one frame upon it.
+fn leaves(alloc: Global) -> Result<Tree, AllocError>
+    ensures { IfOk result (λ t. (node : ℕ) → frames_of t node ≤ 1024) }
+{
+    Tree::new(alloc, &[0, 0, 1, 1, 1], &[0, 0, 1, 1, 1])
 }
 
 /// Whether the disk has three pages of 64 bytes.
@@ -379,5 +386,51 @@ fn the_page_used_longest_ago_goes_out(rt: HostRuntime) -> Result<(), Fail> {
     assert_eq!(rt; len, 20);
     assert_eq!(rt; trail.bytes(11), b"one".as_slice());
     assert_eq!(rt; bytes, Some([0, 0, 0]));
+    Ok(())
+}
+
+/// The second and the third of three leaves, of which the first is `UPPER`.
+const SECOND: u32 = 3;
+
+const THIRD: u32 = 4;
+
+/// The tries of three callers, each at a leaf of its own upon one layer, and how each ends. Each writes page 0, the others
+/// read what it wrote, and the sync brings the last to the disk.
+const WRITERS: [(u32, u32, Try, End); 22] = [
+    (0, UPPER, Writes(*b"one"), Sends("zero_fill", LOWER)),
+    (0, UPPER, Writes(*b"one"), Sends("zero_fill", UPPER)),
+    (0, UPPER, Writes(*b"one"), Answers(Answer::Done)),
+    (1, SECOND, Reads, Sends("deny_writes", UPPER)),
+    (1, SECOND, Reads, Sends("page_in", SECOND)),
+    (1, SECOND, Reads, Gives(*b"one")),
+    (2, THIRD, Reads, Sends("page_in", THIRD)),
+    (2, THIRD, Reads, Gives(*b"one")),
+    (1, SECOND, Writes(*b"two"), Sends("delete_range", THIRD)),
+    (1, SECOND, Writes(*b"two"), Sends("delete_range", UPPER)),
+    (1, SECOND, Writes(*b"two"), Sends("page_in", SECOND)),
+    (1, SECOND, Writes(*b"two"), Answers(Answer::Done)),
+    (2, THIRD, Writes(*b"six"), Sends("flush_back", SECOND)),
+    (2, THIRD, Writes(*b"six"), Sends("page_in", THIRD)),
+    (2, THIRD, Writes(*b"six"), Answers(Answer::Done)),
+    (0, UPPER, Reads, Sends("deny_writes", THIRD)),
+    (0, UPPER, Reads, Sends("page_in", UPPER)),
+    (0, UPPER, Reads, Gives(*b"six")),
+    (1, SECOND, Reads, Sends("page_in", SECOND)),
+    (1, SECOND, Reads, Gives(*b"six")),
+    (0, UPPER, Syncs, Sends("sync", LOWER)),
+    (0, UPPER, Syncs, Answers(Answer::Done)),
+];
+
+#[test]
+fn three_leaves_with_a_writer_each(rt: HostRuntime) -> Result<(), Fail> {
+    let leaves = leaves(rt.alloc())?;
+    let Some(mut tower) = tower(rt.alloc(), leaves, 0)? else {
+        return Err(Fail::from(AllocError));
+    };
+    let wrong = first_wrong(rt.alloc(), &mut tower, &WRITERS);
+    let (mut disk, _trail) = tower.close();
+    let bytes = first_bytes(&mut disk);
+    assert_eq!(rt; wrong, None);
+    assert_eq!(rt; bytes, Some(*b"six"));
     Ok(())
 }

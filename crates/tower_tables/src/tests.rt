@@ -146,10 +146,14 @@ fn child_right(tables: &Tables, above: u32, node: u32) -> Option<Right>
     requires page { PAGE < (paged_of tables.now).pages }
     ensures { IfSome result (λ right. right ≡ (sides tables.now PAGE above).kids node) }
 {
-    if !is_layer(tables, above) || !tables.node(above).has_child(node) {
+    if !is_layer(tables, above) {
         return None;
     }
-    Some(tables.node(above).child_right(PAGE, node))
+    let upper = tables.node(above);
+    if !upper.has_child(node) {
+        return None;
+    }
+    Some(upper.child_right(PAGE, node))
 }
 
 /// Whether a node, whose child has nothing of the page, may give it the page.
@@ -173,8 +177,7 @@ fn lends(tables: &Tables, above: u32, node: u32, write: bool) -> bool
 fn may_get(tables: &Tables, node: u32, write: bool) -> bool
     requires upper { IsUpper (tree_of tables.now) node }
     requires page { PAGE < (paged_of tables.now).pages }
-    ensures may { IsTrue result → AllowAsking (tree_of tables.now) (sides tables.now PAGE) node
-        (may_be_full (sides tables.now PAGE node) (grant_asked write)) (grant_asked write) }
+    ensures may { IsTrue result → (full : Bool) → AllowAsking (tree_of tables.now) (sides tables.now PAGE) node full (grant_asked write) }
     ensures frames { IsTrue result → MayAskFrames tables.now node (grant_asked write) PAGE }
     ensures known { IsTrue result → IsUpper (tree_of tables.now) (parent (tree_of tables.now) node) →
         (sides tables.now PAGE (parent (tree_of tables.now) node)).kids node ≡ (sides tables.now PAGE node).right }
