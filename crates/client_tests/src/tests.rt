@@ -1,10 +1,11 @@
-//! A client over a volume of one file of two pages of 64 bytes, with one layer on its disk. What its lines are answered is worked by
-//! hand.
+//! A client over a volume of one file of two pages of 64 bytes, with one layer on its disk, and maybe a manager on that. What its lines
+//! are answered, and what happens at the file, is worked by hand.
 
 ghost use Rattle.std.specs.Prelude.{◌≡◌, ◌≤◌, ◌∷◌, [], ℕ, IfOk, IfSome, IsTrue, length, map};
 ghost use Rattle.disk_format.specs.Shape.{IsShape};
 ghost use Rattle.disk_layer.specs.Disk.{seen_of};
 ghost use Rattle.disk_layer.specs.Seen.{faults_in, opened_in};
+ghost use Rattle.tower_core.specs.TreeShape.{frames_of};
 ghost use Rattle.tower_tables.specs.Tables.{IsUnderFile};
 ghost use Rattle.stack_names.specs.Views.{names_at_start};
 ghost use Rattle.spr_volume.specs.Passes.{IsOf};
@@ -13,6 +14,7 @@ ghost use Rattle.spr_client.specs.Lines.{AreCalls, IsCallOf};
 
 use disk_format::ImageShape;
 use disk_layer::Disk;
+use hist_plain::{Event, Op};
 use marshal_buf::Buf;
 use page_messages::PagedFile;
 use pager_channel::Ops;
@@ -23,7 +25,7 @@ use spr_client::{Client, run_phase};
 use spr_io::{MemStore, OpenGate};
 use spr_volume::{Pass, Volume};
 use stack_accept::{Mounted, accept};
-use stack_engine::Tower;
+use stack_engine::{Tower, Trail};
 use stack_names::start_names;
 use stack_text::{StackText, parse_stack};
 use std::alloc::{AllocError, Global};
@@ -37,6 +39,14 @@ type Ram = Disk<MemStore>;
 
 /// The file `f` of two pages, on the disk `d`, and the layer `c`.
 const STACK: &str = "page 64\nfile f 2\ndisk d m\ncoherency c m d\n";
+
+/// The same, and the manager `v` on the layer, on the client's machine.
+const MANAGED: &str = "page 64\nfile f 2\ndisk d m\ncoherency c m d\nvmm v m c 2\n";
+
+/// The number of the layer.
+const LAYER: u32 = 1;
+/// The number of the manager.
+const MANAGER: u32 = 2;
 
 /// The lines of a client. Under `q` stands an object of a subcontract that the program has not.
 const SCRIPT: &str =
@@ -72,17 +82,51 @@ const ANSWERS: [(u32, &str); 23] = [
     (25, " unmapped 63"),
 ];
 
-fn stack_of(alloc: Global) -> Result<StackText, Fail>
+/// The lines of a client that binds a caching object, opens it, and writes by it.
+const CACHING: &str = "client a m\nphase\na bind q caching c f\na open x q\na write x 0 0 61\n";
+
+/// What they are answered.
+const CACHED: [(u32, &str); 3] = [(3, " done"), (4, " life 0"), (5, " done")];
+
+/// What happens at a node of a file.
+#[derive(Clone, Copy, Debug, PartialEq, Eq)]
+enum Step {
+    Opens(u32),
+    Writes(u32),
+    HasZerosToWrite(u32),
+    Other,
+}
+
+use Step::*;
+
+/// The calls of a caching object go to the manager's cache on the client's machine, where the stack has one, and else to the view.
+const STEPS: [(&str, &[Step]); 2] = [
+    (
+        MANAGED,
+        &[
+            Opens(MANAGER),
+            HasZerosToWrite(LAYER),
+            HasZerosToWrite(MANAGER),
+            Writes(MANAGER),
+        ],
+    ),
+    (
+        STACK,
+        &[Opens(LAYER), HasZerosToWrite(LAYER), Writes(LAYER)],
+    ),
+];
+
+fn stack_of(alloc: Global, text: &str) -> Result<StackText, Fail>
     ensures { IfOk result (λ stack. length stack.lines ≤ 128) }
 {
-    match parse_stack(alloc, STACK.as_bytes()) {
+    match parse_stack(alloc, text.as_bytes()) {
         Ok(stack) => Ok(stack),
         Err(_) => Err(Fail::from("the text")),
     }
 }
 
-fn mounted(alloc: Global) -> Result<Mounted, Fail> {
-    match accept(alloc, &stack_of(alloc)?) {
+fn mounted(alloc: Global, text: &str) -> Result<Mounted, Fail> {
+    match accept(alloc, &stack_of(alloc, text)?) {
         Ok(mount) => Ok(mount),
         Err(_) => Err(Fail::from("the stack")),
     }
@@ -95,7 +139,7 @@ fn is_call(mount: &Mounted, line: &CallLine) -> bool
     match &line.call {
         Call::Bind {
             path,
-            sub: Sub::Cluster,
+            sub: Sub::Cluster | Sub::Caching,
             view,
             file,
         } => {
@@ -129,10 +173,10 @@ fn are_calls(mount: &Mounted, lines: &[CallLine]) -> bool
 }
 
 /// The lines of the phase.
-fn lines_of(alloc: Global, mount: &Mounted) -> Result<Items<CallLine>, Fail>
+fn lines_of(alloc: Global, mount: &Mounted, text: &str) -> Result<Items<CallLine>, Fail>
     ensures { IfOk result (AreCalls mount.now) }
 {
-    let Ok(script) = parse_script(alloc, SCRIPT.as_bytes()) else {
+    let Ok(script) = parse_script(alloc, text.as_bytes()) else {
         return Err(Fail::from("the script"));
     };
     match script.phases.into_vec().pop() {
@@ -192,6 +236,34 @@ fn has_one_layer(mount: &Mounted) -> bool
         && tree.frames(1) == 0
 }
 
+/// Whether the stack has one layer on its ground, and a manager of two frames on that.
+fn has_manager(mount: &Mounted) -> bool
+    ensures { IsTrue result → mount.now.tree ≡ record { parents = 0 ∷ 0 ∷ 1 ∷ []; frames = 0 ∷ 0 ∷ 2 ∷ [] } }
+{
+    let tree = mount.tree();
+    tree.nodes() == 3
+        && tree.parent(0) == 0
+        && tree.parent(1) == 0
+        && tree.parent(2) == 1
+        && tree.frames(0) == 0
+        && tree.frames(1) == 0
+        && tree.frames(2) == 2
+}
+
+/// The stack's tree again, if it is one of these.
+fn tree(alloc: Global, mount: &Mounted) -> Result<Option<Tree>, AllocError>
+    ensures same { IfOk result (λ found. IfSome found (λ t. t ≡ mount.now.tree)) }
+    ensures frames { IfOk result (λ found. IfSome found (λ t. (node : ℕ) → frames_of t node ≤ 1024)) }
+{
+    if has_one_layer(mount) {
+        return Ok(Some(Tree::new(alloc, &[0, 0], &[0, 0])?));
+    }
+    if has_manager(mount) {
+        return Ok(Some(Tree::new(alloc, &[0, 0, 1], &[0, 0, 2])?));
+    }
+    Ok(None)
+}
+
 /// A tower of the stack's file.
 fn tower(alloc: Global, mount: &Mounted, fails_at: u64) -> Result<Option<Tower<Ram>>, AllocError>
     ensures { IfOk result (λ found. IfSome found (λ t. AreOfStack mount.now (t ∷ []))) }
@@ -199,10 +271,12 @@ fn tower(alloc: Global, mount: &Mounted, fails_at: u64) -> Result<Option<Tower<R
     let Some(disk) = disk(alloc, fails_at)? else {
         return Ok(None);
     };
-    if !has_small_file(mount) || !has_one_layer(mount) || !is_under(&disk) {
+    let Some(tree) = tree(alloc, mount)? else {
+        return Ok(None);
+    };
+    if !has_small_file(mount) || !is_under(&disk) {
         return Ok(None);
     }
-    let tree = Tree::new(alloc, &[0, 0], &[0, 0])?;
     let file = PagedFile {
         number: 0,
         page_size: 64,
@@ -317,8 +391,8 @@ fn are_answered(
 #[test]
 fn a_client(rt: HostRuntime) -> Result<(), Fail> {
     let alloc = rt.alloc();
-    let mount = mounted(alloc)?;
-    let lines = lines_of(alloc, &mount)?;
+    let mount = mounted(alloc, STACK)?;
+    let lines = lines_of(alloc, &mount, SCRIPT)?;
     for (fails_at, last) in [(0, " done"), (3, " store d 1")] {
         let (volume, mut pass) = volume(alloc, &mount, fails_at)?;
         let bound = bind_stranger(&rt, alloc, &volume, &mut pass);
@@ -331,6 +405,68 @@ fn a_client(rt: HostRuntime) -> Result<(), Fail> {
         assert!(rt; bound?);
         assert!(rt; is_answered(alloc, &mount, &sync, (26, last))?);
         assert!(rt; are_answered(alloc, &mount, &said, &ANSWERS)?);
+    }
+    Ok(())
+}
+
+/// What an event does.
+fn step_of(event: &Event) -> Step {
+    match event {
+        Event::Access {
+            node,
+            op: Op::Open,
+            ..
+        } => Opens(*node),
+        Event::Access {
+            node,
+            op: Op::Write { .. },
+            ..
+        } => Writes(*node),
+        Event::ZeroFill {
+            node,
+            write: true,
+            ..
+        } => HasZerosToWrite(*node),
+        _ => Other,
+    }
+}
+
+/// Whether these are all the steps that happened at the file.
+fn has_steps(trail: &Trail, want: &[Step]) -> bool {
+    for (place, want) in want.iter().enumerate() {
+        match trail.get(place as u64) {
+            Some(event) if step_of(event) == *want => (),
+            _ => return false,
+        }
+    }
+    trail.len() == want.len() as u64
+}
+
+/// A client does the lines of a caching object over the stack: its answers, and what happened at the file.
+fn caching_client<R: Wait>(
+    rt: &R,
+    alloc: Global,
+    mount: &Mounted,
+) -> Result<(Vec<Said>, Trail), Fail> {
+    let lines = lines_of(alloc, mount, CACHING)?;
+    let (volume, mut pass) = volume(alloc, mount, 0)?;
+    let said = client_does(rt, alloc, mount, &volume, &mut pass, lines.as_slice());
+    let (mut towers, _names) = volume.unmount(pass);
+    let Some(tower) = towers.pop() else {
+        return Err(Fail::from("no file"));
+    };
+    let (_disk, trail) = tower.close();
+    Ok((said?, trail))
+}
+
+#[test]
+fn a_caching_object(rt: HostRuntime) -> Result<(), Fail> {
+    let alloc = rt.alloc();
+    for (stack, want) in STEPS {
+        let mount = mounted(alloc, stack)?;
+        let (said, trail) = caching_client(&rt, alloc, &mount)?;
+        assert!(rt; are_answered(alloc, &mount, &said, &CACHED)?);
+        assert!(rt; has_steps(&trail, want));
     }
     Ok(())
 }
