@@ -1,15 +1,16 @@
 -- The files over the stores that are out, one after another.
 use Rattle.std.proofs.Common.{◌≡◌, ℕ, zero, suc, Bool, true, false, ◌+◌, ◌*◌, ◌<◌, ◌≤◌, List, [], ◌∷◌, ◌++◌, length, map, take, drop, Option, Some, None, refl, sym, ap, subst, ◌∙◌, arith, append_assoc, length-append}
-use Rattle.std.specs.Prelude.{slice_get, slice_index, is_some}
+use Rattle.std.specs.Prelude.{slice_get, slice_index, slice_index_or, is_some}
 use Rattle.std.proofs.lemmas.List.{length-map, map-append}
 use Rattle.std.specs.List.{AllByRecursion}
+use Rattle.stack_accept.specs.declared.entries.Kind.{Kind}
+use Rattle.stack_accept.specs.declared.entries.Kind.TheVariants as kinds
 use Rattle.stack_accept.specs.declared.entries.NodeEntry.{NodeEntry}
 use Rattle.stack_accept.specs.Mount.{Mount}
-use Rattle.stack_accept.specs.Sound.{IsMount}
+use Rattle.stack_accept.specs.Sound.{IsLayerKind, IsMount}
 use Rattle.tower_core.specs.TreeShape.{TreeShape, frames_of}
 use Rattle.page_messages.specs.declared.paged.PagedFile.{PagedFile}
 use Rattle.page_messages.specs.Paged.{IsPagedFile}
-use Rattle.run_defs.specs.Stack.{IsBuilt}
 use Rattle.disk_format.specs.declared.shape.ImageShape.{ImageShape}
 use Rattle.disk_format.specs.Shape.{IsShape}
 use Rattle.disk_format.proofs.ShapeLaws.{page-sized}
@@ -227,14 +228,29 @@ all-keys keys towers closed rest shut left =
     ∙ (ap (λ (ks : List StoreKey). ks ++ keys_of rest) (shut-keys keys towers closed shut)
     ∙ (ap (λ (ks : List StoreKey). take (length towers) keys ++ ks) left ∙ take-and-drop (length towers) keys))
 
-frames-none : (nodes : List NodeEntry) (node : ℕ) → AllByRecursion (λ n. n.frames ≡ 0) nodes → slice_index (map (λ n. n.frames) nodes) node ≡ 0
-frames-none [] node bare = refl
-frames-none (n ∷ nodes) zero bare = bare.0
-frames-none (n ∷ nodes) (suc node) bare = frames-none nodes node bare.1
+layer-frames : (kind : Kind) (frames : ℕ) → IsLayerKind kind frames → frames ≤ 1024
+layer-frames kinds.Coherency frames is = omega (arith, is)
+layer-frames kinds.Dfs frames is = omega (arith, is)
+layer-frames kinds.Vmm frames is = let few = is.1 in omega (arith, few)
+layer-frames kinds.Disk frames is = absurd is
+layer-frames kinds.Mirror frames is = absurd is
 
--- no layer of a stack that can be built has frames
-pub no-frames : (mount : Mount) (node : ℕ) → IsMount mount → IsBuilt mount → frames_of mount.tree node ≡ 0
-no-frames mount node sound built = ap (λ (t : TreeShape). frames_of t node) sound.served ∙ frames-none mount.nodes node built.bare
+-- a node of the stack has few frames: the ground has none, and a layer has some only if it is a memory manager
+node-frames : (mount : Mount) (node : ℕ) (d : NodeEntry) → IsMount mount → node < length mount.nodes → (slice_index_or mount.nodes node d).frames ≤ 1024
+node-frames mount zero d sound lt = let none = (sound.ground_node d).bare in omega (arith, none)
+node-frames mount (suc node) d sound lt =
+    let n = slice_index_or mount.nodes (suc node) d in
+    layer-frames n.kind n.frames (sound.layer_node (suc node) d (omega arith) lt).kind
+
+frames-few : (nodes : List NodeEntry) (node : ℕ) → ((k : ℕ) (d : NodeEntry) → k < length nodes → (slice_index_or nodes k d).frames ≤ 1024) → slice_index (map (λ n. n.frames) nodes) node ≤ 1024
+frames-few [] node few = omega arith
+frames-few (n ∷ nodes) zero few = few 0 n (omega arith)
+frames-few (n ∷ nodes) (suc node) few = frames-few nodes node (λ k d lt. few (suc k) d (omega (arith, lt)))
+
+-- no node of a mounted stack has more frames than a memory manager may have
+pub few-frames : (mount : Mount) (node : ℕ) → IsMount mount → frames_of mount.tree node ≤ 1024
+few-frames mount node sound =
+    subst (λ (t : TreeShape). frames_of t node ≤ 1024) (sym sound.served) (frames-few mount.nodes node (λ k d lt. node-frames mount k d sound lt))
 
 -- the file of a store, as its messages name it
 pub paged-of : (mount : Mount) (key : StoreKey) (file : PagedFile) → IsMount mount → key.file < length mount.files → IsShape (image_shape mount key) → file ≡ paged mount key.file → IsPagedFile file

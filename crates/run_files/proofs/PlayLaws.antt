@@ -25,6 +25,7 @@ use Rattle.stack_engine.specs.Engine.{log_in}
 use Rattle.stack_engine.specs.Tower.{TowerSeen}
 use Rattle.spr_volume.specs.Passes.{AreBack, AreNamesBack, Knows, as_known, known, logs}
 use Rattle.spr_client.specs.Lines.{IsOnMachine}
+use Rattle.spr_client.proofs.Spaces.{on_machine-start}
 use Rattle.run_phases.specs.declared.worker.Worker.{Worker}
 use Rattle.run_phases.specs.Workers.{IsStarted, AreStarted, AreReady, IsSilent}
 use Rattle.run_phases.specs.Phases.{ClientDone, ClientsDone, PhasesDone}
@@ -171,7 +172,7 @@ pub ready : (stack : Mount) (first : ℕ) (lines : List ClientLine) (workers : L
 ready stack first lines [] some h = tt
 ready stack first [] (w ∷ ws) some h = absurd h
 ready stack first (l ∷ ls) (w ∷ ws) some h =
-    (h.0.caller_is, subst (λ (s : ClientState). IsOnMachine stack s) (sym h.0.state_is) (record { machine = number-below stack.machines l.machine some; objects = tt }), ready stack (suc first) ls ws some h.1)
+    (h.0.caller_is, subst (λ (s : ClientState). IsOnMachine stack s) (sym h.0.state_is) (on_machine-start stack l (number-below stack.machines l.machine some)), ready stack (suc first) ls ws some h.1)
 
 -- they have said nothing
 pub silent : (stack : Mount) (first : ℕ) (lines : List ClientLine) (workers : List Worker) → AreStarted stack first lines workers → AllByRecursion IsSilent workers

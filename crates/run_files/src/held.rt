@@ -4,7 +4,6 @@ ghost use Rattle.std.specs.Prelude.{◌≡◌, ◌<◌, ◌≤◌, [], Some, IfO
 ghost use Rattle.disk_layer.specs.Calls.{Opened};
 ghost use Rattle.stack_engine.specs.Engine.{log_in};
 ghost use Rattle.stack_engine.specs.Start as engines;
-ghost use Rattle.run_defs.specs.Stack.{IsBuilt};
 ghost use Rattle.spr_volume.specs.Passes.{logs};
 ghost use Rattle.file_stores.specs.Keys.{EachAt, AreStores, IsStore, image_shape};
 ghost use Rattle.file_stores.specs.Held.{IsRoom, IsFit, keys_of};
@@ -56,7 +55,6 @@ fn open_tower<S: Store>(
     disk: Disk<S>,
     ops: &Ops,
 ) -> Result<Tower<WholeDisk<S>>, Disk<S>>
-    requires built { IsBuilt mount.now }
     requires store { IsStore mount.now key }
     requires shape { disk.shape ≡ image_shape mount.now key }
     ensures opened { IfOk result (λ t. engines.Opens mount.now.tree (paged mount.now key.file) (seen_whole disk) t.engine) }
@@ -91,7 +89,6 @@ fn open_store<S: Store>(
     held: Held<S>,
     ops: &Ops,
 ) -> Result<Tower<WholeDisk<S>>, (Stop, Held<S>)>
-    requires built { IsBuilt mount.now }
     requires store { IsStore mount.now held.key }
     requires fit { IsFit mount.now held }
     ensures opened { IfOk result (Opens mount.now held) }
@@ -123,7 +120,6 @@ pub(crate) fn open_files<S: Store>(
     towers: &mut Vec<Tower<WholeDisk<S>>>,
     rest: &mut Vec<Held<S>>,
 ) -> Result<(), Stop>
-    requires built { IsBuilt mount.now }
     requires stores { AreStores mount.now (keys_of stores.items) }
     requires fit { EachAt (λ at store. IsFit mount.now store) stores.items }
     requires towers { IsRoom (length stores.items) towers.old }

@@ -63,13 +63,11 @@ fn stack_of(alloc: Global) -> Result<StackText, Fail>
     }
 }
 
-/// Whether the ground of a stack is its one disk, and no layer has frames.
+/// Whether the ground of a stack is its one disk.
 fn is_built(mount: &Mounted) -> bool
     ensures { IsTrue result → IsBuilt mount.now }
 {
-    mount.disks().len() == 1
-        && matches!(mount.ground(), GroundPlan::Disk { disk: 0 })
-        && mount.nodes().iter().all(|node| node.frames == 0)
+    mount.disks().len() == 1 && matches!(mount.ground(), GroundPlan::Disk { disk: 0 })
 }
 
 fn mounted(alloc: Global) -> Result<Mounted, Fail>

@@ -9,7 +9,7 @@ use Rattle.run_defs.specs.Fits.{lines_of}
 use Rattle.spr_client.specs.Lines.{IsOnMachine}
 use Rattle.run_phases.specs.declared.worker.Worker.{Worker}
 
--- a client on its machine, with no object open, that has answered nothing
+-- a client on its machine, with no object open and nothing mapped, that has answered nothing
 pub record IsStarted (mount : Mount) (caller : ℕ) (line : ClientLine) (worker : Worker) : Type 0 where
   pub caller_is : worker.client.caller ≡ caller
   pub state_is : worker.client.state ≡ start_state mount line
@@ -22,7 +22,7 @@ AreStarted mount caller [] (worker ∷ workers) = ⊥
 AreStarted mount caller (line ∷ lines) [] = ⊥
 AreStarted mount caller (line ∷ lines) (worker ∷ workers) = IsStarted mount caller line worker × AreStarted mount (suc caller) lines workers
 
--- each worker is the client of the next number, and its objects are of the stack
+-- each worker is the client of the next number, and its objects and regions are of the stack
 abbrev pub AreReady : Mount → ℕ → List Worker → Type 0
 AreReady mount first [] = Unit {0}
 AreReady mount first (worker ∷ workers) =

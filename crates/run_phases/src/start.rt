@@ -50,7 +50,7 @@ fn lines_of(script: &Script, client: u32) -> usize
     count
 }
 
-/// A client on its machine, without objects and answers, with room for so many answers.
+/// A client on its machine, without objects, regions and answers, with room for so many answers.
 fn worker_of(
     alloc: Global,
     mount: &Mounted,
@@ -63,7 +63,7 @@ fn worker_of(
 {
     let machine = machine_of(mount, &line.machine)?;
     Ok(Worker {
-        client: Client::new(alloc, caller, machine),
+        client: Client::new(alloc, mount, caller, machine)?,
         said: Vec::with_capacity(alloc, lines)?,
     })
 }

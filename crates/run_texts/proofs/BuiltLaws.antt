@@ -1,4 +1,4 @@
--- An accepted stack that asks for no layer that a run does not build has one disk, which is its ground, and no layer has frames.
+-- An accepted stack that asks for no layer that a run does not build has one disk, which is its ground.
 use Rattle.std.proofs.Common.{◌≡◌, ℕ, zero, suc, ◌+◌, ◌≤◌, List, [], ◌∷◌, length, reverse, count_by, Bool, true, false, ◌&&◌, cond, ltb, Option, Some, None, refl, sym, ap, subst, ◌∙◌, inl, inr, arith}
 use Rattle.std.specs.Prelude.{position}
 use Rattle.std.specs.Option.{option_map}
@@ -46,31 +46,6 @@ IsSoon line = is_later line ≡ false
 all_soon : (lines : List StackLine) → list_any (λ line. is_later line) lines ≡ false → AllByRecursion IsSoon lines
 all_soon [] e = tt
 all_soon (line ∷ lines) e = let parts = or_parts (is_later line) (list_any (λ l. is_later l) lines) e in (parts.0, all_soon lines parts.1)
-
--- nodes without frames
-
-bare_node : (machines : List (List ℕ)) (nodes : List StackLine) (line : StackLine) (rest : List NodeEntry) → IsSoon line
-    → AllByRecursion (λ node. node.frames ≡ 0) rest → AllByRecursion (λ node. node.frames ≡ 0) (cons_option (node_of machines nodes line) rest)
-bare_node machines nodes (Page size) rest e h = h
-bare_node machines nodes (File name pages) rest e h = h
-bare_node machines nodes (Disk name machine) rest e h = (refl, h)
-bare_node machines nodes (Mirror name machine left right) rest e h = (refl, h)
-bare_node machines nodes (Coherency name machine below) rest e h = (refl, h)
-bare_node machines nodes (Dfs name machine below) rest e h = (refl, h)
-bare_node machines nodes (Vmm name machine below frames) rest e h = absurd (true≢false e)
-
-bare_nodes : (machines : List (List ℕ)) (nodes lines : List StackLine) → AllByRecursion IsSoon lines
-    → AllByRecursion (λ node. node.frames ≡ 0) (filter_map (λ line. node_of machines nodes line) lines)
-bare_nodes machines nodes [] h = tt
-bare_nodes machines nodes (line ∷ lines) h = bare_node machines nodes line (filter_map (λ l. node_of machines nodes l) lines) h.0 (bare_nodes machines nodes lines h.1)
-
-all_bare : (lines : List StackLine) → IsAccepted lines → AllByRecursion IsSoon lines → AllByRecursion (λ node. node.frames ≡ 0) (nodes_of lines)
-all_bare lines accepted soon =
-    let has = has_nodes lines (kept lines accepted) in
-    let upper : AllByRecursion IsSoon (filter (λ l. is_node lines l) lines) =
-    all_weakly (λ l. (is_node lines l ≡ true) × IsSoon l) IsSoon (λ l h. h.1) (filter (λ l. is_node lines l) lines) (all_filtered IsSoon (λ l. is_node lines l) lines soon) in
-    let ground : IsSoon has.line = all_found IsSoon (λ line. is_storage line && is_named (ground_name lines) line) lines has.line soon has.found in
-    bare_nodes (machines_of lines) (node_lines lines) (node_lines lines) (subst (AllByRecursion IsSoon) (sym has.lines_are) (ground, upper))
 
 -- a ground that is a disk
 
@@ -155,5 +130,4 @@ built_of lines accepted later =
     record {
       disk = one;
       ground = ground.1 ∙ ap (λ n. OnDisk n) first;
-      bare = all_bare lines accepted soon;
     }

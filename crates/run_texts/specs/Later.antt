@@ -4,12 +4,12 @@ use Rattle.std.specs.Option.{option_map, option_or}
 use Rattle.stack_text.specs.declared.stack.StackLine.{StackLine}
 use Rattle.stack_text.specs.declared.stack.StackLine.TheVariants.{Page, File, Disk, Mirror, Coherency, Dfs, Vmm}
 use Rattle.script_text.specs.declared.script.Call.{Call}
-use Rattle.script_text.specs.declared.script.Call.TheVariants.{Context, Bind, Unbind, List as ListNames, Open, Copy, Drop, Read, Write, Clear, Sync}
+use Rattle.script_text.specs.declared.script.Call.TheVariants.{Context, Bind, Unbind, List as ListNames, Open, Copy, Drop, Read, Write, Clear, Sync, Clean, Map, Unmap, Load, Store}
 use Rattle.script_text.specs.declared.script.Sub.{Sub}
 use Rattle.script_text.specs.declared.script.Sub.TheVariants.{Singleton, Cluster}
 use Rattle.script_text.specs.declared.script.CallLine.{CallLine}
 
--- a mirror, a distributed layer or a memory manager
+-- a mirror or a distributed layer
 abbrev pub is_later : StackLine → Bool
 is_later (Page size) = false
 is_later (File name pages) = false
@@ -17,7 +17,7 @@ is_later (Disk name machine) = false
 is_later (Mirror name machine left right) = true
 is_later (Coherency name machine below) = false
 is_later (Dfs name machine below) = true
-is_later (Vmm name machine below frames) = true
+is_later (Vmm name machine below frames) = false
 
 -- the number of the first such line, from 1
 abbrev pub later_line : List StackLine → Option ℕ
@@ -42,6 +42,11 @@ is_built (Read name page off len) = true
 is_built (Write name page off bytes) = true
 is_built (Clear name page) = true
 is_built (Sync name) = true
+is_built (Clean name) = true
+is_built (Map region name address pages write) = true
+is_built (Unmap region) = true
+is_built (Load address len) = true
+is_built (Store address bytes) = true
 is_built call = false
 
 -- the first line of a call that the program does not make

@@ -12,10 +12,7 @@ use stack_text::{MAX_LINES, StackLine, StackText};
 fn is_later(line: &StackLine) -> bool
     ensures { result ≡ is_later line.now }
 {
-    matches!(
-        line,
-        StackLine::Mirror { .. } | StackLine::Dfs { .. } | StackLine::Vmm { .. }
-    )
+    matches!(line, StackLine::Mirror { .. } | StackLine::Dfs { .. })
 }
 
 /// The place of the first such line.
@@ -27,7 +24,7 @@ fn later_place(lines: &[StackLine]) -> Option<usize>
 }
 
 /// The number, from 1, of the first line of a stack that asks for a layer that a run does not build
-/// yet: a mirror, a distributed layer or a memory manager.
+/// yet: a mirror or a distributed layer.
 pub fn later_line(stack: &StackText) -> Option<u32>
     requires { length stack.now.lines ≤ MAX_LINES }
     ensures { result ≡ later_line stack.now.lines }
@@ -53,7 +50,10 @@ fn is_built(call: &Call) -> bool
         Call::Bind { sub, .. } => is_made(sub),
         Call::Context { .. } | Call::Unbind { .. } | Call::List { .. } => true,
         Call::Open { .. } | Call::Copy { .. } | Call::Drop { .. } => true,
-        Call::Read { .. } | Call::Write { .. } | Call::Clear { .. } | Call::Sync { .. } => true,
+        Call::Read { .. } | Call::Write { .. } | Call::Clear { .. } => true,
+        Call::Sync { .. } | Call::Clean { .. } => true,
+        Call::Map { .. } | Call::Unmap { .. } => true,
+        Call::Load { .. } | Call::Store { .. } => true,
         _ => false,
     }
 }

@@ -40,6 +40,13 @@ const MIRRORED: &[u8] =
 
 const SCRIPT: &[u8] = b"client a m\nphase\na open x c/f\n";
 
+/// A memory manager on a layer above the only disk.
+const MANAGED: &[u8] = b"page 64\nfile f 2\ndisk d m\ncoherency c m d\nvmm v m c 2\n";
+
+/// A script of the calls for its address space.
+const MAPPING: &[u8] =
+    b"client a m\nphase\na open x c/f\na map p x 0 2 w\na load 0 1\na store 1 61\nphase\na unmap p\na clean x\n";
+
 const NAMES: TextNames<'static> = TextNames {
     idl: "I",
     stack: "S",
@@ -164,7 +171,7 @@ const REFUSED: [(Texts<'static>, Refusal, &str); 20] = [
     (
         (
             IDL,
-            b"page 64\nfile f 2\ndisk d m\ncoherency c m d\ncoherency k m c\nvmm v m k 2\n",
+            b"page 64\nfile f 2\ndisk d m\ncoherency c m d\nvmm v m c 2\ndfs r m c\n",
             SCRIPT,
         ),
         Refusal::StackLater { line: 6 },
@@ -188,7 +195,7 @@ const REFUSED: [(Texts<'static>, Refusal, &str); 20] = [
         "script 3 verb",
     ),
     (
-        (IDL, STACK, b"client a n\nphase\na sync x\na clean x\n"),
+        (IDL, STACK, b"client a n\nphase\na clean x\na release c f\n"),
         Refusal::ScriptLater { line: 4 },
         "script 4 later",
     ),
@@ -402,11 +409,11 @@ fn a_sink_that_fails(rt: HostRuntime) -> Result<(), Fail> {
 
 #[test]
 fn a_run(rt: HostRuntime) -> Result<(), Fail> {
-    let Ok((mount, script, ops)) = read(rt.alloc(), &NAMES, (IDL, STACK, SCRIPT))? else {
+    let Ok((mount, script, ops)) = read(rt.alloc(), &NAMES, (IDL, MANAGED, MAPPING))? else {
         return Err("the texts".into());
     };
-    assert_eq!(rt; mount.nodes().len(), 2);
-    assert_eq!(rt; script.phases.as_slice().len(), 1);
+    assert_eq!(rt; mount.nodes().len(), 3);
+    assert_eq!(rt; script.phases.as_slice().len(), 2);
     assert_eq!(rt; ops.number(Operation::SetLength), 1);
     assert_eq!(rt; ops.number(Operation::Done), 4);
     Ok(())

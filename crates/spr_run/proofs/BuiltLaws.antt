@@ -69,6 +69,11 @@ call-of mount (calls.Read name page off len) is built known = tt
 call-of mount (calls.Write name page off bytes) is built known = tt
 call-of mount (calls.Clear name page) is built known = tt
 call-of mount (calls.Sync name) is built known = tt
+call-of mount (calls.Clean name) is built known = tt
+call-of mount (calls.Map region name address pages write) is built known = let low = is.2 in omega (arith, low)
+call-of mount (calls.Unmap region) is built known = tt
+call-of mount (calls.Load address len) is built known = let low = is.0 in omega (arith, low)
+call-of mount (calls.Store address bytes) is built known = let low = is.0 in omega (arith, low)
 call-of mount _ is built known = absurd cc
 
 passes-or : (b : Bool) (l : CallLine) (o : Option CallLine) → cond (not b) (Some l) o ≡ None → (b ≡ true) × (o ≡ None)

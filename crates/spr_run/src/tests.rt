@@ -1,5 +1,7 @@
 //! Whole runs over the forms in memory, each with its text and status.
 
+ghost use Rattle.std.specs.Prelude.{◌<◌, IfSome, length};
+
 use crate::spring;
 use hist_plain::Event;
 use seen_values::Text;
@@ -142,6 +144,46 @@ const WRITE_ABOVE_TRACED: &str =
 
 const WRITE_BELOW_TRACED: &str =
     "client a\n3 life 0\n4 done\n6 life 0\n7 61\nfile f\n0 a 0 c 0 open life 0\n1 c zero_fill 0 000200000000000000000000000000000000004002000000 000200040000000000000000000000000000004002040000\n2 a 1 c 0 write 0 0 61 done\n3 a 2 k 0 open life 0\n4 k page_in 0 000200000000000000000000000000000000004001000000 000200000000000000000000000000000000004001030000\n5 a 3 k 0 read 0 0 1 61\n6 c sync 0 000200030000000000000000000000000000004002010000 000200030000000000000000000000000000004002020000\n7 mount 0 c synced 6 done\nnames\n0 a 0 resolve c/f done\n1 a 1 resolve k/f done\nstatus 0\n";
+
+/// A memory manager of one frame, and one of two, on a layer.
+const ONE_FRAME: &[u8] = b"page 64\nfile f 2\ndisk d m\ncoherency c m d\nvmm v m c 1\n";
+
+const MANAGED: &[u8] = b"page 64\nfile f 2\ndisk d m\ncoherency c m d\nvmm v m c 2\n";
+
+/// Two pages are loaded in turn: with one frame, each goes out before the other comes.
+const TURNS: &[u8] =
+    b"client a m\nphase\na open x c/f\na map p x 0 2 r\na load 0 1\na load 64 1\na load 0 1\n";
+
+const TURNS_TRACED: &str =
+    "client a\n3 life 0\n4 life 0\n5 00\n6 00\n7 00\nfile f\n0 a 0 c 0 open life 0\n1 a 1 v 0 open life 0\n2 c zero_fill 0 000200000000000000000000000000000000004001000000 000200040000000000000000000000000000004001040000\n3 v zero_fill 0 000200000000000000000000000000000000004001000000 000200040000000000000000000000000000004001040000\n4 a 2 v 0 read 0 0 1 00\n5 v page_out 0 000200010000000000000000000000000000004000000000 000200010000000000000000000000000000004000020000\n6 c zero_fill 1 000200000000000000000000000000400000004001000000 000200040000000000000000000000400000004001040000\n7 v zero_fill 1 000200000000000000000000000000400000004001000000 000200040000000000000000000000400000004001040000\n8 a 3 v 0 read 1 0 1 00\n9 v page_out 1 000200010000000000000000000000400000004000000000 000200010000000000000000000000400000004000020000\n10 v zero_fill 0 000200000000000000000000000000000000004001000000 000200040000000000000000000000000000004001040000\n11 a 4 v 0 read 0 0 1 00\n12 mount 0 c synced 12 done\nnames\n0 a 0 resolve c/f done\nstatus 0\n";
+
+/// What is stored by an address is read at the view below.
+const STORED: &[u8] =
+    b"client a m\nphase\na open x c/f\na map p x 0 2 w\na store 3 7a\nphase\na read x 0 3 1\n";
+
+const STORED_TRACED: &str =
+    "client a\n3 life 0\n4 life 0\n5 done\n7 7a\nfile f\n0 a 0 c 0 open life 0\n1 a 1 v 0 open life 0\n2 c zero_fill 0 000200000000000000000000000000000000004002000000 000200040000000000000000000000000000004002040000\n3 v zero_fill 0 000200000000000000000000000000000000004002000000 000200040000000000000000000000000000004002040000\n4 a 2 v 0 write 0 3 7a done\n5 v deny_writes 0 000200010000000000000000000000000000004001040000 000200010000000000000000000000000000004001070000\n6 a 3 c 0 read 0 3 1 7a\n7 c sync 0 000200030000000000000000000000000000004002010000 000200030000000000000000000000000000004002020000\n8 mount 0 c synced 7 done\nnames\n0 a 0 resolve c/f done\nstatus 0\n";
+
+/// A layer that was cleaned has the page still, and asks for the right to write alone.
+const CLEANED: &[u8] =
+    b"client a m\nphase\na open x c/f\na write x 0 0 61\na clean x\na write x 0 0 62\n";
+
+const CLEANED_TRACED: &str =
+    "client a\n3 life 0\n4 done\n5 done\n6 done\nfile f\n0 a 0 c 0 open life 0\n1 c zero_fill 0 000200000000000000000000000000000000004002000000 000200040000000000000000000000000000004002040000\n2 a 1 c 0 write 0 0 61 done\n3 c write_out 0 000200020000000000000000000000000000004001010000 000200020000000000000000000000000000004001020000\n4 a 2 c cleaned 3 done\n5 c page_in 0 000200000000000000000000000000000000004002000000 000200000000000000000000000000000000004002020000\n6 a 3 c 0 write 0 0 62 done\n7 c sync 0 000200030000000000000000000000000000004002010000 000200030000000000000000000000000000004002020000\n8 mount 0 c synced 7 done\nnames\n0 a 0 resolve c/f done\nstatus 0\n";
+
+/// Each refusal of an address and of a map, and the last address that there is.
+const MAPPED: &[u8] =
+    b"client a m\nphase\na open x c/f\na map p x 128 1 r\na load 127 1\na load 190 4\na store 128 61\na load 192 1\na load 128 1\na map q x 128 1 r\na map p x 192 1 r\na map q x 129 1 r\na map q x 192 3 r\na unmap q\na load 9223372036854775807 1\na map q x 9223372036854775744 2 r\na load 9223372036854775807 1\na load 9223372036854775807 2\na unmap q\na load 9223372036854775807 1\n";
+
+const MAPPED_REPORT: &str =
+    "client a\n3 life 0\n4 life 0\n5 unmapped 127\n6 crosses page\n7 not writable\n8 unmapped 192\n9 00\n10 overlap\n11 region exists\n12 unaligned\n13 too long\n14 no region\n15 unmapped 9223372036854775807\n16 life 0\n17 00\n18 crosses page\n19 done\n20 unmapped 9223372036854775807\nfile f\n0 a 0 c 0 open life 0\n1 a 1 v 0 open life 0\n4 a 2 v 0 read 0 0 1 00\n5 a 3 v 0 open life 0\n6 a 4 v 0 read 0 63 1 00\n7 mount 0 c synced 7 done\nnames\n0 a 0 resolve c/f done\nstatus 0\n";
+
+/// The same without a manager, and at an object that is not open.
+const UNMANAGED: &[u8] =
+    b"client a m\nphase\na open x c/f\na map p x 0 1 r\na map p y 0 1 r\na load 0 1\n";
+
+const UNMANAGED_REPORT: &str =
+    "client a\n3 life 0\n4 no manager\n5 no object\n6 unmapped 0\nfile f\n0 a 0 c 0 open life 0\n1 mount 0 c synced 1 done\nnames\n0 a 0 resolve c/f done\nstatus 0\n";
 
 /// Three layers, one upon another.
 const DEEP: &[u8] =
@@ -350,9 +392,9 @@ fn refusals(rt: HostRuntime) -> Result<(), Fail> {
         (
             RUN,
             STACK,
-            b"client a m\nphase\na clean x\n",
+            b"client a m\nphase\na clean x\na release c f\n",
             Status::Refused,
-            "script 3 later\nstatus 3\n",
+            "script 4 later\nstatus 3\n",
         ),
         (
             RUN,
@@ -370,10 +412,10 @@ fn refusals(rt: HostRuntime) -> Result<(), Fail> {
         ),
         (
             RUN,
-            b"page 64\nfile f 2\ndisk d m\ncoherency c m d\nvmm v m c 2\n",
+            b"page 64\nfile f 2\ndisk d m\ncoherency c m d\nvmm v m c 2\ndfs r m c\n",
             b"",
             Status::Refused,
-            "stack 5 later\nstatus 3\n",
+            "stack 6 later\nstatus 3\n",
         ),
         (
             &["run", "unknown", "S", "T"],
@@ -431,7 +473,7 @@ fn refusals(rt: HostRuntime) -> Result<(), Fail> {
 #[test]
 fn runs(rt: HostRuntime) -> Result<(), Fail> {
     let empty = "file f\n0 mount 0 c synced 0 done\nnames\nstatus 0\n";
-    let rows: [(&[&str], &[u8], &[u8], &str); 19] = [
+    let rows: [(&[&str], &[u8], &[u8], &str); 24] = [
         (RUN, STACK, UNSAVED, UNSAVED_REPORT),
         (RUN, STACK, SCRIPT, REPORT),
         (RUN, STACK, b"", empty),
@@ -456,6 +498,11 @@ fn runs(rt: HostRuntime) -> Result<(), Fail> {
         (TRACE, STACK, ZEROS, ZEROS_TRACED),
         (TRACE, TWO_LAYERS, WRITE_ABOVE, WRITE_ABOVE_TRACED),
         (TRACE, TWO_LAYERS, WRITE_BELOW, WRITE_BELOW_TRACED),
+        (TRACE, ONE_FRAME, TURNS, TURNS_TRACED),
+        (TRACE, MANAGED, STORED, STORED_TRACED),
+        (TRACE, STACK, CLEANED, CLEANED_TRACED),
+        (RUN, MANAGED, MAPPED, MAPPED_REPORT),
+        (RUN, STACK, UNMANAGED, UNMANAGED_REPORT),
     ];
     for (words, stack, script, text) in rows {
         let (got, sink) = run(&rt, rt.alloc(), words, stack, script, &SOUND)?;
@@ -841,7 +888,9 @@ const A_WROTE: &[u8] = b"a 1 c 0 write 0 0 61616161 done\n";
 const B_WROTE: &[u8] = b"b 1 c 0 write 0 0 62626262 done\n";
 
 /// Where a part stands first in a text.
-fn place_of(text: &[u8], part: &[u8]) -> Option<usize> {
+fn place_of(text: &[u8], part: &[u8]) -> Option<usize>
+    ensures { IfSome result (λ place. place < length text.now) }
+{
     for start in 0..text.len() {
         if text[start..].starts_with(part) {
             return Some(start);
@@ -962,6 +1011,33 @@ fn clients_run_at_once(rt: HostRuntime) -> Result<(), Fail> {
     let (got, _sink) = command_past(&rt, alloc, RUN, STACK, MEETERS, &SOUND, &mut bay, &gate)?;
     let late = gate.late.load(Ordering::SeqCst);
     assert_eq!(rt; (got, late), (Status::Good, false));
+    Ok(())
+}
+
+/// Two clients that load two pages in turn, eight loads each, in one phase.
+const LOADERS: &[u8] =
+    b"client a m\nclient b m\nphase\na open x c/f\na map p x 0 2 r\na load 0 1\na load 64 1\na load 0 1\na load 64 1\na load 0 1\na load 64 1\na load 0 1\na load 64 1\nb open y c/f\nb map q y 0 2 r\nb load 0 1\nb load 64 1\nb load 0 1\nb load 64 1\nb load 0 1\nb load 64 1\nb load 0 1\nb load 64 1\n";
+
+/// What they are answered.
+const LOADERS_ANSWERS: &[u8] =
+    b"client a\n4 life 0\n5 life 0\n6 00\n7 00\n8 00\n9 00\n10 00\n11 00\n12 00\n13 00\nclient b\n14 life 0\n15 life 0\n16 00\n17 00\n18 00\n19 00\n20 00\n21 00\n22 00\n23 00\nfile f\n";
+
+/// Two clients take the one frame from each other, and both end: each load stands once in the history, which has fewer than 10,000
+/// events, since four digits at most are the place of the closing sync.
+#[test]
+fn loaders_at_once(rt: HostRuntime) -> Result<(), Fail> {
+    for _round in 0..20 {
+        let (got, sink) = run(&rt, rt.alloc(), RUN, ONE_FRAME, LOADERS, &SOUND)?;
+        assert_eq!(rt; got, Status::Good);
+        let text = sink.bytes();
+        assert!(rt; text.starts_with(LOADERS_ANSWERS));
+        assert_eq!(rt; times(text, b" v 0 read "), 16);
+        let Some(closing) = place_of(text, b" mount 0 c synced ") else {
+            return Err("the closing sync".into());
+        };
+        let behind = place_of(&text[closing..], b" done\n");
+        assert!(rt; matches!(behind, Some(19..=22)), "at {behind:?}");
+    }
     Ok(())
 }
 
