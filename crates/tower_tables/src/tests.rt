@@ -1,7 +1,7 @@
 //! A node on the ground, and two on that node, which share page 1 of a file of two pages of 64 bytes. What each has after
 //! a message is as the rules of the messages have it.
 
-ghost use Rattle.std.specs.Prelude.{◌≡◌, ◌≢◌, ◌<◌, Bool, IfSome, IsTrue};
+ghost use Rattle.std.specs.Prelude.{◌≡◌, ◌≢◌, ◌<◌, IfSome, IsTrue, true};
 ghost use Rattle.disk_format.specs.Shape.{IsShape};
 ghost use Rattle.disk_layer.specs.Disk.{seen_of};
 ghost use Rattle.tower_core.specs.TreeShape.{IsUpper, frames_of, parent};
@@ -39,18 +39,6 @@ enum Move {
 }
 
 use Move::*;
-
-/// The question for the page.
-fn question(write: bool) -> Asked
-    ensures is { result ≡ grant_asked write }
-    ensures of_page { result ≢ AQuestion.Done }
-{
-    if write {
-        Asked::PageInWrite
-    } else {
-        Asked::PageInRead
-    }
-}
 
 /// A node's right, and the first bytes of its copy if it may read that.
 type Held = (Right, Option<[u8; 2]>);
@@ -161,7 +149,7 @@ fn lends(tables: &Tables, above: u32, node: u32, write: bool) -> bool
     requires above { IsUpper (tree_of tables.now) above }
     requires page { PAGE < (paged_of tables.now).pages }
     ensures known { IsTrue result → (sides tables.now PAGE above).kids node ≡ ARight.Nothing }
-    ensures serves { IsTrue result → (full : Bool) → MayServe (sides tables.now PAGE above) node full (grant_asked write) }
+    ensures serves { IsTrue result → MayServe (sides tables.now PAGE above) node true (grant_asked write) }
 {
     if child_right(tables, above, node) != Some(Right::Nothing) {
         return false;
@@ -177,7 +165,7 @@ fn lends(tables: &Tables, above: u32, node: u32, write: bool) -> bool
 fn may_get(tables: &Tables, node: u32, write: bool) -> bool
     requires upper { IsUpper (tree_of tables.now) node }
     requires page { PAGE < (paged_of tables.now).pages }
-    ensures may { IsTrue result → (full : Bool) → AllowAsking (tree_of tables.now) (sides tables.now PAGE) node full (grant_asked write) }
+    ensures may { IsTrue result → AllowAsking (tree_of tables.now) (sides tables.now PAGE) node true (grant_asked write) }
     ensures frames { IsTrue result → MayAskFrames tables.now node (grant_asked write) PAGE }
     ensures known { IsTrue result → IsUpper (tree_of tables.now) (parent (tree_of tables.now) node) →
         (sides tables.now PAGE (parent (tree_of tables.now) node)).kids node ≡ (sides tables.now PAGE node).right }
@@ -233,7 +221,11 @@ fn make(
     match made {
         Gets(node, write) => {
             assert!(rt; is_upper(tables, node) && may_get(tables, node, write));
-            tables.ask(ground, node, question(write), PAGE)
+            if write {
+                tables.ask(ground, node, Asked::PageInWrite, PAGE)
+            } else {
+                tables.ask(ground, node, Asked::PageInRead, PAGE)
+            }
         }
         Syncs(node) => {
             assert!(rt; is_upper(tables, node) && may_sync(tables, node));
