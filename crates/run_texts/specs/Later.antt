@@ -6,7 +6,7 @@ use Rattle.stack_text.specs.declared.stack.StackLine.TheVariants.{Page, File, Di
 use Rattle.script_text.specs.declared.script.Call.{Call}
 use Rattle.script_text.specs.declared.script.Call.TheVariants.{Context, Bind, Unbind, List as ListNames, Open, Copy, Drop, Read, Write, Clear, Sync, Clean, Map, Unmap, Load, Store}
 use Rattle.script_text.specs.declared.script.Sub.{Sub}
-use Rattle.script_text.specs.declared.script.Sub.TheVariants.{Singleton, Cluster}
+use Rattle.script_text.specs.declared.script.Sub.TheVariants.{Singleton, Cluster, Caching}
 use Rattle.script_text.specs.declared.script.CallLine.{CallLine}
 
 -- a mirror or a distributed layer
@@ -27,6 +27,7 @@ later_line lines = option_map (λ place. place + 1) (position (λ line. is_later
 abbrev pub is_made : Sub → Bool
 is_made Singleton = true
 is_made Cluster = true
+is_made Caching = true
 is_made sub = false
 
 -- a call that the program makes

@@ -39,7 +39,7 @@ pub fn later_line(stack: &StackText) -> Option<u32>
 fn is_made(sub: &Sub) -> bool
     ensures { result ≡ is_made sub.now }
 {
-    matches!(sub, Sub::Singleton | Sub::Cluster)
+    matches!(sub, Sub::Singleton | Sub::Cluster | Sub::Caching)
 }
 
 /// Whether the program makes a call.

@@ -47,7 +47,7 @@ found p xs e = subst (λ (o : Option ℕ). IsSome o) (sym (position_from-zero p 
 made-some : (sub : Sub) → is_made sub ≡ true → IsSome (sub_id sub)
 made-some subs.Singleton e = refl
 made-some subs.Cluster e = refl
-made-some subs.Caching e = absurd cc
+made-some subs.Caching e = refl
 made-some subs.Reconnectable e = absurd cc
 
 call-of : (mount : Mount) (call : Call) → IsCall call → is_built call ≡ true → is_known mount call ≡ true → IsCallOf mount call
