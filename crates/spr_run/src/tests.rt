@@ -185,6 +185,16 @@ const UNMANAGED: &[u8] =
 const UNMANAGED_REPORT: &str =
     "client a\n3 life 0\n4 no manager\n5 no object\n6 unmapped 0\nfile f\n0 a 0 c 0 open life 0\n1 mount 0 c synced 1 done\nnames\n0 a 0 resolve c/f done\nstatus 0\n";
 
+/// An object whose calls go to the manager of the client's machine, if there is one, else to the view.
+const CACHED: &[u8] =
+    b"client a m\nphase\na bind q caching c f\na open x q\na write x 0 0 61\n";
+
+const CACHED_REPORT: &str =
+    "client a\n3 done\n4 life 0\n5 done\nfile f\n0 a 0 v 0 open life 0\n3 a 1 v 0 write 0 0 61 done\n6 mount 0 c synced 4 done\nnames\n0 a 0 bind q done\n1 a 1 resolve q done\nstatus 0\n";
+
+const NOT_CACHED_REPORT: &str =
+    "client a\n3 done\n4 life 0\n5 done\nfile f\n0 a 0 c 0 open life 0\n2 a 1 c 0 write 0 0 61 done\n4 mount 0 c synced 3 done\nnames\n0 a 0 bind q done\n1 a 1 resolve q done\nstatus 0\n";
+
 /// Three layers, one upon another.
 const DEEP: &[u8] =
     b"page 64\nfile f 2\ndisk d m\ncoherency c m d\ncoherency k m c\ncoherency l m k\n";
@@ -473,7 +483,7 @@ fn refusals(rt: HostRuntime) -> Result<(), Fail> {
 #[test]
 fn runs(rt: HostRuntime) -> Result<(), Fail> {
     let empty = "file f\n0 mount 0 c synced 0 done\nnames\nstatus 0\n";
-    let rows: [(&[&str], &[u8], &[u8], &str); 24] = [
+    let rows: [(&[&str], &[u8], &[u8], &str); 26] = [
         (RUN, STACK, UNSAVED, UNSAVED_REPORT),
         (RUN, STACK, SCRIPT, REPORT),
         (RUN, STACK, b"", empty),
@@ -503,6 +513,8 @@ fn runs(rt: HostRuntime) -> Result<(), Fail> {
         (TRACE, STACK, CLEANED, CLEANED_TRACED),
         (RUN, MANAGED, MAPPED, MAPPED_REPORT),
         (RUN, STACK, UNMANAGED, UNMANAGED_REPORT),
+        (RUN, MANAGED, CACHED, CACHED_REPORT),
+        (RUN, STACK, CACHED, NOT_CACHED_REPORT),
     ];
     for (words, stack, script, text) in rows {
         let (got, sink) = run(&rt, rt.alloc(), words, stack, script, &SOUND)?;
