@@ -208,7 +208,11 @@ const REFUSED: [(Texts<'static>, Refusal, &str); 20] = [
         "script 3 name",
     ),
     (
-        (IDL, STACK, b"client a m\nphase\na bind t reconnectable c f\n"),
+        (
+            IDL,
+            STACK,
+            b"client a m\nphase\na bind t reconnectable c f\n",
+        ),
         Refusal::ScriptLater { line: 3 },
         "script 3 later",
     ),

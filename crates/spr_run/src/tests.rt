@@ -186,8 +186,7 @@ const UNMANAGED_REPORT: &str =
     "client a\n3 life 0\n4 no manager\n5 no object\n6 unmapped 0\nfile f\n0 a 0 c 0 open life 0\n1 mount 0 c synced 1 done\nnames\n0 a 0 resolve c/f done\nstatus 0\n";
 
 /// An object whose calls go to the manager of the client's machine, if there is one, else to the view.
-const CACHED: &[u8] =
-    b"client a m\nphase\na bind q caching c f\na open x q\na write x 0 0 61\n";
+const CACHED: &[u8] = b"client a m\nphase\na bind q caching c f\na open x q\na write x 0 0 61\n";
 
 const CACHED_REPORT: &str =
     "client a\n3 done\n4 life 0\n5 done\nfile f\n0 a 0 v 0 open life 0\n3 a 1 v 0 write 0 0 61 done\n6 mount 0 c synced 4 done\nnames\n0 a 0 bind q done\n1 a 1 resolve q done\nstatus 0\n";
