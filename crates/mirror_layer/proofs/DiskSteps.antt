@@ -70,7 +70,7 @@ write-refused a b p x f s e h =
     refuses a b f (faulted b.faults (cell_of a)) (cells s.disk s.generation e s.kept refl) (refused lt) refl r
 
 abbrev besides : ℕ → ImageShape → Option (Option Imaged) → ℕ → Beside
-besides disk shape kept opened = record { disk = disk; shape = shape; told = is_some kept; opened = opened }
+besides disk shape kept opened = record { disk = disk; shape = shape; there = true; told = is_some kept; opened = opened }
 
 pub write-beside : (a b : Disk) → SameBut a b → beside_of b ≡ beside_of a
 write-beside a b s =

@@ -70,7 +70,7 @@ Changes g u = Pairs (Change (all_told g.beside) (live_pages g.row)) g.row u
 next-ground : (g : Ground) (q : Bool) (u : List Seat) → IsGround g → Changes g u → Has IsLive u → (all_told g.beside ≡ true → (F : List (List ℕ)) × Every (HasPages F) u × (length F ≡ g.shape.pages)) → Even q u → top u ≤ limit
     → After g (ground g.shape q u g.beside)
 next-ground g q u i c l p e w =
-    let r : IsGround (ground g.shape q u g.beside) = record { live = l; shapes = i.shapes; differ = i.differ; counts = counts-after i.counts c; pages = p; even = e; within = w } in
+    let r : IsGround (ground g.shape q u g.beside) = record { live = l; there = i.there; shapes = i.shapes; differ = i.differ; counts = counts-after i.counts c; pages = p; even = e; within = w } in
     record {
       whole = r;
       keeps = keeps-by (seen_of g) (seen_of (ground g.shape q u g.beside)) refl refl

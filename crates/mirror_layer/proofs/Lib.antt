@@ -6,3 +6,11 @@ pub mod RowLaws
 pub mod SeenLaws
 pub mod ChangeLaws
 pub mod GroundLaws
+pub mod CloseSteps
+pub mod JoinSteps
+pub mod PlaceSteps
+pub mod EnterSteps
+pub mod WinSteps
+pub mod MeetSteps
+pub mod AdmitSteps
+pub mod CedeSteps

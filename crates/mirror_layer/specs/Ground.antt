@@ -66,10 +66,11 @@ Differ (b ∷ bs) = Every (λ x. x.disk ≢ b.disk) bs × Differ bs
 pub data Counted (b : Beside) (x : Seat) : Type 0 where
   counted : disk_of x ≡ b.disk → b.opened ≤ faults_of x → Counted b x
 
--- what is true of every ground: a disk is live; the disks have the ground's shape, and numbers that differ; the live disks have the
--- same pages, if they are told, and as many as the shape says; and if no raise is owed, they are at the top
+-- what is true of every ground: a disk is live; each store is there; the disks have the ground's shape, and numbers that differ; the live
+-- disks have the same pages, if they are told, and as many as the shape says; and if no raise is owed, they are at the top
 pub record IsGround (g : Ground) : Type 0 where
   pub live : Has IsLive g.row
+  pub there : Every (λ b. b.there ≡ true) g.beside
   pub shapes : Every (λ b. b.shape ≡ g.shape) g.beside
   pub differ : Differ g.beside
   pub counts : Pairs Counted g.beside g.row

@@ -2,3 +2,9 @@ pub mod Shut
 pub mod View
 pub mod Calls
 pub mod Ground
+pub mod Stores
+pub mod Joining
+pub mod Places
+pub mod Winning
+pub mod Meeting
+pub mod Ceding

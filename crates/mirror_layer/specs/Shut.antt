@@ -1,13 +1,31 @@
 -- A disk that was not opened.
-use Rattle.std.specs.Prelude.{ℕ, Bool, Option}
+use Rattle.std.specs.Prelude.{ℕ, Bool, Option, Some, None}
 use Rattle.spr_io.specs.Content.{Content}
+use Rattle.disk_layer.specs.Disk.{Suits}
 use Rattle.disk_format.specs.declared.shape.ImageShape.{ImageShape}
+use Rattle.disk_format.specs.declared.why.BadImage.{BadImage}
 
--- a disk that was not opened: its store, seen as what it holds
+-- a disk that was not opened: whether it has its store, which is seen as what it holds; and why its blocks are no image, if they were
+-- found so and it was not formatted
 pub record ShutSeen : Type 0 where
   pub disk : ℕ
   pub shape : ImageShape
-  pub bad : Bool
+  pub there : Bool
+  pub bad : Option BadImage
   pub content : Option Content
   pub faults : ℕ
   pub opened : ℕ
+
+-- what a store holds, if there is one and it tells; and its count
+abbrev pub content_in : {T : Type 0} → (T → Option Content) → Option T → Option Content
+content_in content None = None
+content_in content (Some store) = content store
+
+abbrev pub faults_in : {T : Type 0} → (T → ℕ) → Option T → ℕ
+faults_in faults None = 0
+faults_in faults (Some store) = faults store
+
+-- the store, if there is one, has the shape's blocks
+abbrev pub Fits : ImageShape → {T : Type 0} → (T → ℕ) → (T → ℕ) → Option T → Type 0
+Fits shape size number None = Unit {0}
+Fits shape size number (Some store) = Suits shape (size store) (number store)

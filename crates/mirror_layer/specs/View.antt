@@ -1,5 +1,5 @@
 -- A ground as the machine of mirrors sees it, and what a ground tells beside that.
-use Rattle.std.specs.Prelude.{ℕ, List, [], ◌∷◌, ◌++◌, Bool, true, false, is_some, Option, Some, None}
+use Rattle.std.specs.Prelude.{ℕ, List, [], ◌∷◌, ◌++◌, Bool, true, false, not, ◌||◌, is_some, Option, Some, None}
 use Rattle.std.specs.Option.{option_map}
 use Rattle.spr_io.specs.Content.{Content}
 use Rattle.disk_format.specs.declared.shape.ImageShape.{ImageShape}
@@ -58,22 +58,24 @@ store_of s = record {
 
 abbrev pub tree_of : {D H : Type 0} → Node D H → Tree
 tree_of (Opened m d) = Leaf (seat_of m (cell_of d))
-tree_of (Shut s) = Leaf (Out s.bad (store_of s))
+tree_of (Shut s) = Leaf (Out (is_some s.bad) (store_of s))
 tree_of (Coherency' p t) = machine.Coherent (tree_of t)
 tree_of (Mirror' p l q r) = machine.Mirror (tree_of l) (tree_of r)
 
--- what no call changes: a disk's number, its shape, whether it tells what it holds, and its count of faults when it was opened
+-- what no call changes: a disk's number, its shape, whether its store is there, and whether it tells what it holds if it is, and its count of faults when it
+-- was opened
 pub record Beside : Type 0 where
   pub disk : ℕ
   pub shape : ImageShape
+  pub there : Bool
   pub told : Bool
   pub opened : ℕ
 
 abbrev pub beside_of : disk_layer.Disk → Beside
-beside_of d = record { disk = d.disk; shape = d.shape; told = is_some (kept_on d); opened = d.opened }
+beside_of d = record { disk = d.disk; shape = d.shape; there = true; told = is_some (kept_on d); opened = d.opened }
 
 abbrev pub beside_in : {D H : Type 0} → Node D H → List Beside
 beside_in (Opened m d) = beside_of d ∷ []
-beside_in (Shut s) = record { disk = s.disk; shape = s.shape; told = is_some s.content; opened = s.opened } ∷ []
+beside_in (Shut s) = record { disk = s.disk; shape = s.shape; there = s.there; told = not s.there || is_some s.content; opened = s.opened } ∷ []
 beside_in (Coherency' p t) = beside_in t
 beside_in (Mirror' p l q r) = beside_in l ++ beside_in r

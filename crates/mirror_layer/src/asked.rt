@@ -1,13 +1,13 @@
 //! One disk that is asked.
 
-ghost use Rattle.std.specs.Prelude.{◌≡◌, ◌<◌, ◌≤◌, ◌^◌, ℕ, List, Result, Ok, Err, OnOk, IfErr, length, true};
+ghost use Rattle.std.specs.Prelude.{◌≡◌, ◌<◌, ◌≤◌, ◌^◌, ℕ, List, Result, Ok, Err, OnOk, IfErr, length, nat_lt, true, false};
 ghost use Rattle.disk_layer.specs.Disk.{Disk};
 ghost use Rattle.mirror_rules.specs.Steps as steps;
 ghost use Rattle.mirror_layer.specs.View.{beside_of, leaf_of};
 ghost use Rattle.mirror_layer.specs.Calls.{Suits, act_of, said, ReadsLeaf};
 
-use disk_layer::{Disk, Ground, StoreFault};
-use spr_io::{MemStore, Store};
+use disk_layer::{Disk, Generations, Ground, StoreFault};
+use spr_io::Store;
 use std::marker::Model;
 
 /// A call to each live disk.
@@ -27,43 +27,6 @@ pub enum Call<'a> {
     },
     /// Flushes.
     Flush,
-}
-
-/// Writes a page.
-fn write_disk<S: Store>(disk: &mut Disk<S>, page: u32, bytes: &[u8]) -> Result<bool, StoreFault>
-    requires page { page < disk.old.shape.pages }
-    requires size { length bytes.now ≡ disk.old.shape.page_size }
-    ensures passes { steps.Passes (steps.Write page bytes.now) (leaf_of disk.old) (said result) (leaf_of disk.new) }
-    ensures beside { beside_of disk.new ≡ beside_of disk.old }
-{
-    match disk.write(page, bytes) {
-        Ok(()) => Ok(true),
-        Err(fault) => Err(fault),
-    }
-}
-
-/// Gives it another generation.
-fn raise_disk<S: Store>(disk: &mut Disk<S>, generation: u64) -> Result<bool, StoreFault>
-    requires low { 1 ≤ generation }
-    requires high { generation < 2 ^ 63 }
-    ensures passes { steps.Passes (steps.Raise generation) (leaf_of disk.old) (said result) (leaf_of disk.new) }
-    ensures beside { beside_of disk.new ≡ beside_of disk.old }
-{
-    match disk.raise(generation) {
-        Ok(()) => Ok(true),
-        Err(fault) => Err(fault),
-    }
-}
-
-/// Flushes it.
-fn flush_disk<S: Store>(disk: &mut Disk<S>) -> Result<bool, StoreFault>
-    ensures passes { steps.Passes steps.Flush (leaf_of disk.old) (said result) (leaf_of disk.new) }
-    ensures beside { beside_of disk.new ≡ beside_of disk.old }
-{
-    match disk.flush() {
-        Ok(()) => Ok(true),
-        Err(fault) => Err(fault),
-    }
 }
 
 /// A disk, as mirrors ask it. It need not go to another thread.
@@ -90,56 +53,52 @@ pub trait Side: Drop {
         ensures level { result ≡ (disk self.now).generation }
         ensures low { 1 ≤ result }
         ensures high { result < 2 ^ 63 };
+
+    /// Whether a call to it has failed since it was opened.
+    fn failed(&self) -> bool
+        ensures { result ≡ nat_lt (disk self.now).opened (disk self.now).faults };
 }
 
-/// Asks a disk, whatever its store, and answers that no side became stale.
-pub fn ask_disk<S: Store>(disk: &mut Disk<S>, call: Call) -> Result<bool, StoreFault>
-    requires { Suits call disk.old }
-    ensures passes { steps.Passes (act_of call.entry) (leaf_of disk.old) (said result) (leaf_of disk.new) }
-    ensures beside { beside_of disk.new ≡ beside_of disk.old }
-{
-    match call {
-        Call::Write { page, bytes } => write_disk(disk, page, bytes),
-        Call::Raise { generation } => raise_disk(disk, generation),
-        Call::Flush => flush_disk(disk),
-    }
-}
-
-/// Reads a page of a disk, whatever its store.
-pub fn look_disk<S: Store>(disk: &mut Disk<S>, page: u32, out: &mut [u8]) -> Result<(), StoreFault>
-    requires page { page < disk.old.shape.pages }
-    requires size { length out.old ≡ disk.old.shape.page_size }
-    ensures taken { OnOk result (ReadsLeaf page out.new disk.old disk.new) }
-    ensures refused { IfErr result (λ e. (x : List ℕ) → steps.Reads page x (leaf_of disk.old) (steps.Fault e.disk e.count) (leaf_of disk.new)) }
-    ensures beside { beside_of disk.new ≡ beside_of disk.old }
-{
-    match disk.read(page, out) {
-        Ok(()) => Ok(()),
-        Err(fault) => Err(fault),
-    }
-}
-
-// A method of an impl may not call what needs `Send` of its type's parameter, so the impls are for each store alone.
-impl Side for Disk<MemStore> {
+impl<S: Store> Side for Disk<S> {
     ghost disk = { λ d. d };
 
     fn ask(&mut self, call: Call) -> Result<bool, StoreFault> {
-        ask_disk(self, call)
+        match call {
+            Call::Write { page, bytes } => match self.write(page, bytes) {
+                Ok(()) => Ok(true),
+                Err(fault) => Err(fault),
+            },
+            Call::Raise { generation } => match Generations::raise(self, generation) {
+                Ok(()) => Ok(true),
+                Err(fault) => Err(fault),
+            },
+            Call::Flush => match self.flush() {
+                Ok(()) => Ok(true),
+                Err(fault) => Err(fault),
+            },
+        }
     }
 
     fn look(&mut self, page: u32, out: &mut [u8]) -> Result<(), StoreFault> {
-        look_disk(self, page, out)
+        match self.read(page, out) {
+            Ok(()) => Ok(()),
+            Err(fault) => Err(fault),
+        }
     }
 
     fn level(&self) -> u64 {
-        self.generation()
+        Generations::generation(self)
+    }
+
+    fn failed(&self) -> bool {
+        self.has_failed()
     }
 }
 
 /// A disk that contracts see as one.
 #[derive(Drop)]
 pub struct Held<D: Side> {
-    disk: D,
+    pub(crate) disk: D,
 }
 
 impl<D: Side> Model for Held<D> {
@@ -184,4 +143,12 @@ pub fn level<D: Side>(held: &Held<D>) -> u64
     ensures high { result < 2 ^ 63 }
 {
     held.disk.level()
+}
+
+/// Whether a call to it has failed since it was opened.
+pub fn has_failed<D: Side>(held: &Held<D>) -> bool
+    ensures failed { result ≡ true → held.now.opened < held.now.faults }
+    ensures calm { result ≡ false → held.now.faults ≤ held.now.opened }
+{
+    held.disk.failed()
 }

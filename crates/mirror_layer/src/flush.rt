@@ -35,7 +35,9 @@ pub fn top<D: Side, H: Unopened>(node: &Node<D, H>) -> u64
 /// The greatest generation of every live disk.
 #[tactic(auto, using(crate::proofs::RowLaws::generation_append))]
 pub fn generation<D: Side, H: Unopened>(node: &Node<D, H>) -> u64
-    ensures { result ≡ machine.generation (machine.seats (tree_of node.now)) }
+    ensures generation { result ≡ machine.generation (machine.seats (tree_of node.now)) }
+    ensures low { machine.is_live (tree_of node.now) ≡ true → 1 ≤ result }
+    ensures high { result < 2 ^ 63 }
 {
     match node {
         Node::Opened(mark, disk) => match mark {

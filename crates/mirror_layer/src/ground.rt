@@ -80,6 +80,15 @@ impl<D: Side + Send, H: Unopened + Send> MirrorGround<D, H> {
         generation(&self.node)
     }
 
+    /// What it is made of.
+    pub fn into_node(self) -> Node<D, H>
+        ensures row { machine.seats (tree_of result) ≡ self.row }
+        ensures beside { beside_in result ≡ self.beside }
+        ensures ground { IsGround self }
+    {
+        self.node
+    }
+
     /// What holds of every ground, for proofs alone.
     pub fn sound(&self)
         ensures { IsGround self.now }

@@ -7,7 +7,7 @@ ghost use Rattle.mirror_layer.specs.Shut.{ShutSeen};
 ghost use Rattle.mirror_layer.specs.View.{seat_of, tree_of, beside_in};
 
 use crate::asked::{Held, Side};
-use disk_format::ImageShape;
+use disk_format::{BadImage, ImageShape};
 use spr_io::Store;
 use std::marker::Model;
 
@@ -25,21 +25,26 @@ pub enum Mark {
 /// A disk that was not opened, or not formatted.
 #[derive(Drop)]
 pub struct Shut<S: Store> {
-    store: S,
-    disk: u32,
-    shape: ImageShape,
-    /// Its blocks were no image, and it was not formatted yet.
-    bad: bool,
+    /// Its store, but for the time in which that is taken.
+    pub(crate) store: Option<S>,
+    pub(crate) disk: u32,
+    pub(crate) shape: ImageShape,
+    /// Why its blocks are no image, if they are none and it was not formatted.
+    pub(crate) bad: Option<BadImage>,
     /// The store's count of faults when the ground took it.
-    opened: u64,
+    pub(crate) opened: u64,
 }
 
 impl<S: Store> Model for Shut<S> {
-    ghost use Rattle.mirror_layer.specs.Shut.{ShutSeen};
+    ghost use Rattle.std.specs.Prelude.{is_some};
+    ghost use Rattle.disk_format.specs.Shape.{IsShape};
+    ghost use Rattle.mirror_layer.specs.Shut.{ShutSeen, Fits, content_in, faults_in};
 
     ghost Value = { ShutSeen };
 
-    ghost view = { λ s. record { disk = s.disk; shape = s.shape; bad = s.bad; content = S.content s.store; faults = S.faults s.store; opened = s.opened } };
+    ghost view = { λ s. record { disk = s.disk; shape = s.shape; there = is_some s.store; bad = s.bad; content = content_in (λ t. S.content t) s.store; faults = faults_in (λ t. S.faults t) s.store; opened = s.opened } };
+
+    ghost invariant = { λ s. IsShape s.shape × Fits s.shape (λ t. S.size t) (λ t. S.number t) s.store };
 }
 
 /// A disk that was not opened, whatever its store.
@@ -55,7 +60,7 @@ impl<S: Store> Unopened for Shut<S> {
 /// A disk that was not opened, which contracts see as one.
 #[derive(Drop)]
 pub struct Kept<H: Unopened> {
-    shut: H,
+    pub(crate) shut: H,
 }
 
 impl<H: Unopened> Model for Kept<H> {

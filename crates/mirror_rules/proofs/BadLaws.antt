@@ -1,15 +1,12 @@
 -- Durability where an opening that answers Ok found a bad disk: a guarding disk goes on if it was above generation 1, or is live.
-use Rattle.std.proofs.Common.{◌≡◌, ℕ, suc, ◌+◌, ◌<◌, ◌≤◌, ◌⊎◌, inl, inr, Bool, true, false, List, length, Option, Some, refl, sym, ◌∙◌, ap, subst, arith}
-use Rattle.mirror_rules.specs.Tree.{Image, Cell, Store, Seat, In, Out, generation}
+use Rattle.std.proofs.Common.{◌≡◌, ℕ, ◌<◌, ◌≤◌, ◌⊎◌, inl, inr, Bool, true, List, Option, Some, sym, ◌∙◌, ap, arith}
+use Rattle.mirror_rules.specs.Tree.{Image, Cell, Store, Seat, In, generation}
 use Rattle.mirror_rules.specs.Claims.{Pairs, pairs_none, pairs_more, Every, every_none, every_more, Has, Nth, IsLive, Kind, kind_in, kind_out}
-use Rattle.mirror_rules.specs.Steps.{Raise, Says, Done, Fault, is_done, faulted, written, raise_taken, Asked, asked_out, asked_stale, asked_took, asked_lost, Looked, looked_out, looked_stale, looked_same, looked_refused}
-use Rattle.mirror_rules.specs.Opening.{Meets, meets_good, meets_bad, meets_down, Wins, wins_here, wins_later, wins_out, settled, Copies, copy_same, copy_differs, copy_left, copy_gone, copy_even, copy_settled, copy_unflushed, copy_unraised, Enters, enter_end, enter_next, enter_joins, enter_gone, Readies, ready_higher, ready_raised, NotBad, Renews, renew_end, renew_next, renew_unraised, renew_refused, renew_joins, renew_gone, Good, Opens, open_good}
+use Rattle.mirror_rules.specs.Opening.{Meets, meets_bad, meets_down, NotBad, Good, Opens}
 use Rattle.mirror_rules.specs.Fates.{Fate, fate_old, fate_new, fate_fresh, fate_made, State, state_bad, state_down, state_made, state_left, state_live, Sized}
 use Rattle.mirror_rules.specs.Guards.{Stands, Shows, shows_now, shows_out, At, at_place, Guarded, Guarding, live_at, Made, made_here, made_later}
-use Rattle.mirror_rules.proofs.RoundLaws.{pairs-map}
 use Rattle.mirror_rules.proofs.OpenLaws.{nth-same, nth-back, state-generation}
 use Rattle.mirror_rules.proofs.GivesLaws.{bad-or, opens-winner, opens-answer, downed-good, downed-bad}
-use Rattle.mirror_rules.proofs.LeftLaws.{Fines, fines_rest, Around, fines-step, around-step, around-only, begin, only-begin, end, fines-length, pairs-length, fines-size}
 use Rattle.mirror_rules.proofs.GuardLaws.{guards-open-bad, live-nth, some-same, some-none, good-image, stood, opens-kind}
 
 -- a disk that was formatted was bad
@@ -43,7 +40,7 @@ live-number e (state_left a f) h = cc
 live-number e (state_live a f p k) shows_now = k
 
 pub guards-open-live : {A : ℕ → List ℕ → Type 0} {L : ℕ → Bool} {size n d : ℕ} {b owed : Bool} {c : Cell} {ss : List Store} {xs us : List Seat} (K : ℕ → Bool)
-    → Opens size n xs (Good owed) us → Pairs Meets ss xs → Every (Sized n) ss → L d ≡ true → Nth d xs (In b c) → Guarded A L ss
+    → Opens true size n xs (Good owed) us → Pairs Meets ss xs → Every (Sized n) ss → L d ≡ true → Nth d xs (In b c) → Guarded A L ss
     → ((e : ℕ) → K e ≡ true → L e ≡ true) → ((e : ℕ) (i : Image) → K e ≡ true → At Stands e ss i → (1 < i.generation) ⊎ (live_at us e ≡ true)) → Guarding A K us
 guards-open-live {A} {L} {ss = ss} {xs = xs} {us = us} K h m z ld up g sub hi = guards-open-bad K h m z ld up g sub above where
   high : Made ss us → 1 < generation us

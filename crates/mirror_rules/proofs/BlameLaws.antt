@@ -1,10 +1,10 @@
 -- Whose fault a refused opening names, and an opening without a refusal.
 use Rattle.std.proofs.Common.{◌≡◌, ℕ, ◌≤◌, inl, inr, Bool, true, false, List, Option, Some, refl, sym, ◌∙◌, arith}
 use Rattle.std.proofs.Math.Nat.{eq-or-lt_of_le}
-use Rattle.mirror_rules.specs.Tree.{Image, Store, Seat, In, Out, generation}
+use Rattle.mirror_rules.specs.Tree.{Image, Cell, Store, Seat, In, Out, generation}
 use Rattle.mirror_rules.specs.Claims.{Pairs, pairs_none, pairs_more}
 use Rattle.mirror_rules.specs.Steps.{Raise, Says, Done, Fault, faulted, written, raise_taken, Asked, asked_out, asked_stale, asked_took, asked_lost, asked_none, Looked, looked_out, looked_stale, looked_same, looked_refused, Named, named_here, named_later}
-use Rattle.mirror_rules.specs.Opening.{opened, Meets, meets_good, meets_bad, meets_down, Wins, wins_here, wins_later, wins_out, settled, Copies, copy_same, copy_differs, copy_left, copy_gone, copy_even, copy_settled, copy_unflushed, copy_unraised, Enters, enter_end, enter_next, enter_joins, enter_gone, Readies, ready_higher, ready_raised, fresh, formatted, Unformatted, unformatted, Renews, renew_end, renew_next, renew_unraised, renew_refused, renew_joins, renew_gone, all_live, Good, Lost, LastDown, last_here, last_later, Opens, open_down, open_gone, open_unrenewed, open_again}
+use Rattle.mirror_rules.specs.Opening.{Meets, meets_good, meets_bad, meets_down, Wins, wins_here, wins_later, wins_out, settled, Copies, copy_same, copy_differs, copy_left, copy_gone, copy_even, copy_settled, copy_unflushed, copy_unraised, Enters, enter_end, enter_next, enter_joins, enter_gone, Readies, ready_higher, ready_raised, Formats, Unformatted, unformatted, Renews, renew_end, renew_next, renew_unraised, renew_refused, renew_joins, renew_gone, all_live, Good, Lost, LastDown, last_here, last_later, Opens, open_down, open_gone, open_unrenewed, open_again}
 use Rattle.mirror_rules.specs.Fates.{Fate, fate_old, fate_new, fate_fresh, fate_made, faults_of, disk_of, Excused, excused_live, excused_left, Blamed, blamed_here, blamed_later, Calmly, calmly, Behind, behind_pages, behind_lower, behind_level}
 use Rattle.mirror_rules.proofs.PageLaws.{pairs-then}
 use Rattle.mirror_rules.proofs.RoundLaws.{pairs-map, refuses-fault}
@@ -35,15 +35,15 @@ look-all h m = pairs-then (λ s x y. look-counts) h m
 more : {s : Store} {x : Seat} (y : Seat) → disk_of y ≡ disk_of x → faults_of x ≤ faults_of y → Counts s x → Counts s y
 more y e l (counts q k) = counts (e ∙ q) (omega arith)
 
-copies-count : {i n p : ℕ} {e : Bool} {s : Says} {ss : List Store} {xs ys : List Seat} → Copies i e n p xs s ys → Pairs Counts ss xs → Pairs Counts ss ys
+copies-count : {told : Bool} {i n p : ℕ} {e : Bool} {s : Says} {ss : List Store} {xs ys : List Seat} {wrote : Bool} → Copies told i e n p xs s wrote ys → Pairs Counts ss xs → Pairs Counts ss ys
 copies-count (copy_same h k q r) f = copies-count r (look-all f h.each)
-copies-count (copy_differs {p = p} {x = x} {c = c} h ne k r) f = copies-count r (only-pairs k (λ s. more (In false (written p x c)) refl (omega arith)) (look-all f h.each))
+copies-count (copy_differs {p = p} {z = x} {c = c} h ne q k r) f = copies-count r (only-pairs k (λ s. more (In false (written p x c)) refl (omega arith)) (look-all f h.each))
 copies-count (copy_left {m = m} {c = c} h l k) f = only-pairs k (λ s. more (In false (faulted m c)) refl (omega arith)) (look-all f h.each)
 copies-count (copy_gone h) f = look-all f h.each
 copies-count (copy_even {c = c} k) f = only-pairs k (λ s. more (In true c) refl (omega arith)) f
 copies-count (copy_settled {c = c} {xs = xs} k) f = only-pairs k (λ s. more (In true (settled (generation xs) c)) refl (omega arith)) f
 copies-count (copy_unflushed {d = d} h k) f = let r = refuses-fault h in only-pairs k (λ s. more (In false d) (sym r.0) (omega (arith, r.1))) f
-copies-count (copy_unraised {d = d} h k) f = let r = refuses-fault h in only-pairs k (λ s. more (In false d) (sym r.0) (omega (arith, r.1))) f
+copies-count (copy_unraised {d = d} h q k) f = let r = refuses-fault h in only-pairs k (λ s. more (In false d) (sym r.0) (omega (arith, r.1))) f
 
 named-blamed : {d k : ℕ} {ss : List Store} {xs ys : List Seat} → Pairs Counts ss xs → Named d k xs ys → Blamed d k ss ys
 named-blamed pairs_none h = elim h [ ]
@@ -54,23 +54,23 @@ abbrev pub Blames : Says → List Store → List Seat → Type 0
 Blames (Done w) ss ys = Unit {0}
 Blames (Fault d k) ss ys = Blamed d k ss ys
 
-copies-blame : {i n p : ℕ} {e : Bool} {s : Says} {ss : List Store} {xs ys : List Seat} → Copies i e n p xs s ys → Pairs Counts ss xs → Blames s ss ys
+copies-blame : {told : Bool} {i n p : ℕ} {e : Bool} {s : Says} {ss : List Store} {xs ys : List Seat} {wrote : Bool} → Copies told i e n p xs s wrote ys → Pairs Counts ss xs → Blames s ss ys
 copies-blame (copy_same h k q r) f = copies-blame r (look-all f h.each)
-copies-blame (copy_differs {p = p} {x = x} {c = c} h ne k r) f = copies-blame r (only-pairs k (λ s. more (In false (written p x c)) refl (omega arith)) (look-all f h.each))
+copies-blame (copy_differs {p = p} {z = x} {c = c} h ne q k r) f = copies-blame r (only-pairs k (λ s. more (In false (written p x c)) refl (omega arith)) (look-all f h.each))
 copies-blame (copy_left h l k) f = tt
 copies-blame (copy_gone h) f = named-blamed f h.found
 copies-blame (copy_even k) f = tt
 copies-blame (copy_settled k) f = tt
 copies-blame (copy_unflushed h k) f = tt
-copies-blame (copy_unraised h k) f = tt
+copies-blame (copy_unraised h q k) f = tt
 
-enters-count : {n i m : ℕ} {s : Says} {ss : List Store} {xs ys : List Seat} → Enters n i m xs s ys → Pairs Counts ss xs → Pairs Counts ss ys
+enters-count : {told : Bool} {n i m : ℕ} {s : Says} {ss : List Store} {xs ys : List Seat} {wrote : Bool} → Enters told n i m xs s wrote ys → Pairs Counts ss xs → Pairs Counts ss ys
 enters-count enter_end f = f
 enters-count (enter_next h p r) f = enters-count r f
 enters-count (enter_joins h q k r) f = enters-count r (copies-count k f)
 enters-count (enter_gone h q k) f = copies-count k f
 
-enters-blame : {n i m : ℕ} {s : Says} {ss : List Store} {xs ys : List Seat} → Enters n i m xs s ys → Pairs Counts ss xs → Blames s ss ys
+enters-blame : {told : Bool} {n i m : ℕ} {s : Says} {ss : List Store} {xs ys : List Seat} {wrote : Bool} → Enters told n i m xs s wrote ys → Pairs Counts ss xs → Blames s ss ys
 enters-blame enter_end f = tt
 enters-blame (enter_next h p r) f = enters-blame r f
 enters-blame (enter_joins h q k r) f = enters-blame r (copies-count k f)
@@ -85,19 +85,19 @@ ready-blame (ready_higher l) f = tt
 ready-blame (ready_raised {s = Done v} q r) f = tt
 ready-blame (ready_raised {s = Fault d k} q r) f = named-blamed f r.answer
 
-format-count : {b s : Store} (size n : ℕ) → Counts s (Out true b) → Counts s (In false (formatted size n b))
-format-count size n (counts e l) = counts e l
+format-count : {told : Bool} {size n : ℕ} {b s : Store} {c : Cell} → Formats told size n b c → Counts s (Out true b) → Counts s (In false c)
+format-count f (counts e l) = counts (f.disk ∙ e) (omega (arith, f.faults))
 
 unformat-count : {size n : ℕ} {b t s : Store} → Unformatted size n b t → Counts s (Out true b) → Counts s (Out false t)
 unformat-count (unformatted d e f) (counts q l) = counts (d ∙ q) (omega (arith, e))
 
-renews-blame : {size n i m : ℕ} {s : Says} {ss : List Store} {xs ys : List Seat} → Renews size n i m xs s ys → Pairs Counts ss xs → Blames s ss ys
+renews-blame : {told : Bool} {size n i m : ℕ} {s : Says} {ss : List Store} {xs ys : List Seat} → Renews told size n i m xs s ys → Pairs Counts ss xs → Blames s ss ys
 renews-blame renew_end f = tt
 renews-blame (renew_next h p r) f = renews-blame r f
 renews-blame (renew_unraised h q) f = ready-blame q f
 renews-blame (renew_refused q u k r) f = renews-blame r (only-pairs k (λ s. unformat-count u) (ready-count q f))
-renews-blame {size} {n} (renew_joins q k c r) f = renews-blame r (copies-count c (only-pairs k (λ s. format-count size n) (ready-count q f)))
-renews-blame {size} {n} (renew_gone q k c) f = copies-blame c (only-pairs k (λ s. format-count size n) (ready-count q f))
+renews-blame (renew_joins q z k c r) f = renews-blame r (copies-count c (only-pairs k (λ s. format-count z) (ready-count q f)))
+renews-blame (renew_gone q z k c) f = copies-blame c (only-pairs k (λ s. format-count z) (ready-count q f))
 
 met-count : {s : Store} {x : Seat} → Meets s x → Counts s x
 met-count (meets_good e) = counts refl (omega arith)
@@ -115,7 +115,7 @@ down-blame (pairs_more (meets_down a b f) m) (last_here p q h) = blamed_here (sy
 down-blame (pairs_more h m) (last_later k) = blamed_later (down-blame m k)
 
 -- a StoreFault of an opening names a disk whose count rose in it
-pub opens-blame : {size n : ℕ} {d k : ℕ} {ss : List Store} {xs us : List Seat} → Opens size n xs (Lost d k) us → Pairs Meets ss xs → Blamed d k ss us
+pub opens-blame : {told : Bool} {size n : ℕ} {d k : ℕ} {ss : List Store} {xs us : List Seat} → Opens told size n xs (Lost d k) us → Pairs Meets ss xs → Blamed d k ss us
 opens-blame (open_down h l) m = down-blame m l
 opens-blame (open_gone w e y) m = enters-blame e (wins-count w (pairs-map (λ s x. met-count) m))
 opens-blame (open_unrenewed w e r) m = renews-blame r (enters-count e (wins-count w (pairs-map (λ s x. met-count) m)))
@@ -127,7 +127,7 @@ calm-all pairs_none pairs_none = refl
 calm-all (pairs_more excused_live m) (pairs_more c k) = calm-all m k
 calm-all (pairs_more (excused_left l) m) (pairs_more (calmly e) k) = absurd (omega (arith, e))
 
-pub opens-whole : {size n : ℕ} {owed : Bool} {ss : List Store} {xs us : List Seat} → Opens size n xs (Good owed) us → Pairs Meets ss xs → Pairs Calmly ss us → all_live us ≡ true
+pub opens-whole : {told : Bool} {size n : ℕ} {owed : Bool} {ss : List Store} {xs us : List Seat} → Opens told size n xs (Good owed) us → Pairs Meets ss xs → Pairs Calmly ss us → all_live us ≡ true
 opens-whole h m c = calm-all (opens-excused h m) c
 
 -- an opening, also a refused one: a disk that was lower, or is new, stays below the ground until all pages stand on it, and none is above it

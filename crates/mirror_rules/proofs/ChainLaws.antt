@@ -10,7 +10,8 @@ use Rattle.mirror_rules.specs.History.{Under, Link, Running, Ended, Chain, chain
 use Rattle.mirror_rules.proofs.PageLaws.{write_round, write-holds, refused-holds, read-holds, keeps-holds, flush_keeps}
 use Rattle.mirror_rules.proofs.GenLaws.{flush-paid, raise-top, raise-reaches, pays-bounded, round-bounded, flush-bounded, flush-even, flush-levels, puts-even, look-even, look-bounded, write-bounded}
 use Rattle.mirror_rules.proofs.OpenLaws.{state-pages, nth-same, nth-back, state-generation, grown-most}
-use Rattle.mirror_rules.proofs.GivesLaws.{opens-answer, nth-reaches, opens-even, kinds-then, kind-same, asked-kind, look-kind, not-false}
+use Rattle.mirror_rules.proofs.LevelLaws.{opens-even}
+use Rattle.mirror_rules.proofs.GivesLaws.{opens-answer, nth-reaches, kinds-then, kind-same, asked-kind, look-kind, not-false}
 use Rattle.mirror_rules.proofs.GuardLaws.{every-nth, live-nth, good-image, some-same, some-none, live-shows, guards-found, guards-close, opens-within}
 
 lower-more : {g h : ℕ} {xs : List Seat} → g ≤ h → Every (Lower g) xs → Every (Lower h) xs
@@ -195,7 +196,7 @@ chain-linked (chain_open {c = c} {ss = ss} {us = us} h m z o ld up l) =
     let b = r.0.won.reach c.now.generation (nth-reaches up) in
     let ms : Every (Upto r.0.won.w.generation) ss = upto-more (omega arith) a.most in
     record {
-      even = opens-even o m z;
+      even = opens-even o m;
       pages = r.0.won.w.pages;
       have = state-pages r.0.ready.states;
       bounded = l;
@@ -204,5 +205,5 @@ chain-linked (chain_open {c = c} {ss = ss} {us = us} h m z o ld up l) =
 
 -- the pages of the flush that the last mount ended with
 pub chain-durable : {size n d : ℕ} {F : List (List ℕ)} {L : ℕ → Bool} {b owed : Bool} {c : Cell} {ss : List Store} {xs us : List Seat}
-    → Chain size n (Ended F L ss) → Pairs Meets ss xs → Every (Sized n) ss → Opens size n xs (Good owed) us → L d ≡ true → Nth d xs (In b c) → (G : List (List ℕ)) × Every (HasPages G) us × Within (Now F) G
+    → Chain size n (Ended F L ss) → Pairs Meets ss xs → Every (Sized n) ss → Opens true size n xs (Good owed) us → L d ≡ true → Nth d xs (In b c) → (G : List (List ℕ)) × Every (HasPages G) us × Within (Now F) G
 chain-durable h m z o ld up = opens-within o m z ld up (chain-linked h).guarded

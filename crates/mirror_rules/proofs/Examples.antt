@@ -76,11 +76,11 @@ look-won = reads-look {t = won} {u = won} (read_right_only refl (read_taken refl
 look-joined : Look 0 (1 ∷ []) (seats d-joined) (Done true) (seats d-joined)
 look-joined = reads-look {t = d-joined} {u = d-joined} (read_left (read_left (read_taken refl)))
 
-opening : Opens 1 1 (seats found) (Good false) (seats all-joined)
+opening : Opens true 1 1 (seats found) (Good false) (seats all-joined)
 opening = open_good {ys = seats won} {zs = seats all-joined}
     (wins_later (lit< tt) (wins_later (lit< tt) (wins_here refl every_none)))
-    (enter_joins nth_here refl (copy_differs look-won zero-one only_here (copy_settled only_here))
-    (enter_joins (nth_later nth_here) refl (copy_same look-joined (nth_later nth_here) refl (copy_settled (only_later only_here)))
+    (enter_joins nth_here refl (copy_differs look-won (λ q. zero-one) (λ q. refl) only_here (copy_settled only_here))
+    (enter_joins (nth_later nth_here) refl (copy_same look-joined (nth_later nth_here) (λ q. refl) (copy_settled (only_later only_here)))
     (enter_next (nth_later (nth_later nth_here)) passed_live enter_end)))
     (renew_next nth_here good_in (renew_next (nth_later nth_here) good_in (renew_next (nth_later (nth_later nth_here)) good_in renew_end)))
 

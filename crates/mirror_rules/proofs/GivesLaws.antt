@@ -3,13 +3,13 @@ use Rattle.std.proofs.Common.{◌≡◌, ◌≢◌, ℕ, suc, ◌+◌, ◌<◌, 
 use Rattle.std.proofs.lemmas.Bool.{cases_lt}
 use Rattle.std.proofs.lemmas.Bool.Decides.{eqb_tells}
 use Rattle.mirror_rules.specs.Tree.{Image, Cell, Store, Seat, In, Out, Tree, Leaf, Coherent, Mirror, seats, top, generation}
-use Rattle.mirror_rules.specs.Claims.{Pairs, pairs_none, pairs_more, Every, every_none, every_more, Has, has_here, has_later, Nth, nth_here, nth_later, IsLive, HasPages, HasLevel, level_live, Even, Kind, kind_in, kind_out}
+use Rattle.mirror_rules.specs.Claims.{Pairs, pairs_none, pairs_more, Every, every_none, every_more, Has, has_here, has_later, Nth, nth_here, nth_later, IsLive, HasPages, HasLevel, level_live, Kind, kind_in, kind_out}
 use Rattle.mirror_rules.specs.Steps.{Act, Says, Done, Fault, is_done, Asked, asked_out, asked_stale, asked_took, asked_lost, asked_none, Looked, looked_out, looked_stale, looked_same, looked_refused}
 use Rattle.mirror_rules.specs.Opening.{Meets, meets_good, meets_down, AtMost, most_in, most_out, Wins, wins_here, wins_later, wins_out, Only, only_here, only_later, Copies, copy_same, copy_differs, copy_left, copy_gone, copy_even, copy_settled, copy_unflushed, copy_unraised, Enters, enter_end, enter_next, enter_joins, enter_gone, Readies, ready_higher, ready_raised, NotBad, good_in, good_down, Renews, renew_end, renew_next, renew_unraised, renew_refused, renew_joins, renew_gone, all_live, Outcome, Good, Bad, Lost, NotGood, not_good, IsBad, is_bad, Opens, open_down, open_bad, open_good, open_gone, open_unrenewed, open_again, IsGoodAt, good_at, GivesWay, way_none, way_out, way_waits, way_left, Yields, Downed, downed_not, downed, DownedTree, downed_leaf, downed_below, downed_mirror, Gives, gives_image, gives_below, gives_left, gives_right, gives_left_alone, gives_right_alone, Opened}
 use Rattle.mirror_rules.specs.Fates.{State, state_bad, state_down, state_made, state_left, state_live, Final, Grown, Sized}
 use Rattle.mirror_rules.proofs.PageLaws.{pairs-then, pairs-every}
 use Rattle.mirror_rules.proofs.RoundLaws.{pairs-map}
-use Rattle.mirror_rules.proofs.OpenLaws.{nth-same, Ready, Renewed, copies-state, only-pairs, blank-live, bad-down, bad-fresh, fresh-joins, state-pages, state-generation, enters-state, renews-state, ready-state, grown-most, wins-size, start-state, final-all}
+use Rattle.mirror_rules.proofs.OpenLaws.{nth-same, Ready, Renewed, copies-state, only-pairs, blank-live, bad-down, bad-fresh, fresh-joins, fresh-only, state-pages, state-generation, enters-state, renews-state, ready-state, grown-most, wins-size, start-state, final-all}
 
 -- of the disks of two sides the winner is in the left one, or in the right one and above all of the left
 data Below (g : ℕ) : Seat → Type 0 where
@@ -108,17 +108,17 @@ only-kind (only_here {xs = xs}) = pairs_more kind_in (kind-same xs)
 only-kind (only_later {z = In b c} h) = pairs_more kind_in (only-kind h)
 only-kind (only_later {z = Out b s} h) = pairs_more kind_out (only-kind h)
 
-copies-kind : {i n p : ℕ} {e : Bool} {s : Says} {xs ys : List Seat} → Copies i e n p xs s ys → Pairs Kind xs ys
+copies-kind : {told : Bool} {i n p : ℕ} {e : Bool} {s : Says} {xs ys : List Seat} {wrote : Bool} → Copies told i e n p xs s wrote ys → Pairs Kind xs ys
 copies-kind (copy_same h k q r) = kinds-then (look-kind h.each) (copies-kind r)
-copies-kind (copy_differs h ne k r) = kinds-then (look-kind h.each) (kinds-then (only-kind k) (copies-kind r))
+copies-kind (copy_differs h ne z k r) = kinds-then (look-kind h.each) (kinds-then (only-kind k) (copies-kind r))
 copies-kind (copy_left h l k) = kinds-then (look-kind h.each) (only-kind k)
 copies-kind (copy_gone h) = look-kind h.each
 copies-kind (copy_even k) = only-kind k
 copies-kind (copy_settled k) = only-kind k
 copies-kind (copy_unflushed h k) = only-kind k
-copies-kind (copy_unraised h k) = only-kind k
+copies-kind (copy_unraised h q k) = only-kind k
 
-pub enters-kind : {n i m : ℕ} {s : Says} {xs ys : List Seat} → Enters n i m xs s ys → Pairs Kind xs ys
+pub enters-kind : {told : Bool} {n i m : ℕ} {s : Says} {xs ys : List Seat} {wrote : Bool} → Enters told n i m xs s wrote ys → Pairs Kind xs ys
 enters-kind (enter_end {xs = xs}) = kind-same xs
 enters-kind (enter_next h p r) = enters-kind r
 enters-kind (enter_joins h q k r) = kinds-then (copies-kind k) (enters-kind r)
@@ -165,13 +165,13 @@ ready-kind (ready_higher {xs = xs} l) = kind-same xs
 ready-kind (ready_raised q r) = asked-kind r.each
 
 -- where none is bad nothing is done
-pub renews-none : {size n i m : ℕ} {s : Says} {xs ys : List Seat} → Renews size n i m xs s ys → Every NotBad xs → xs ≡ ys
+pub renews-none : {told : Bool} {size n i m : ℕ} {s : Says} {xs ys : List Seat} → Renews told size n i m xs s ys → Every NotBad xs → xs ≡ ys
 renews-none renew_end h = refl
 renews-none (renew_next k p r) h = renews-none r h
 renews-none (renew_unraised k q) h = absurd (bad-not (nth-bad k) h)
 renews-none (renew_refused q u k r) h = absurd (bad-not (bad-kind (ready-kind q) (only-bad k)) h)
-renews-none (renew_joins q k c r) h = absurd (bad-not (bad-kind (ready-kind q) (only-bad k)) h)
-renews-none (renew_gone q k c) h = absurd (bad-not (bad-kind (ready-kind q) (only-bad k)) h)
+renews-none (renew_joins q f k c r) h = absurd (bad-not (bad-kind (ready-kind q) (only-bad k)) h)
+renews-none (renew_gone q f k c) h = absurd (bad-not (bad-kind (ready-kind q) (only-bad k)) h)
 
 -- a bad disk at one of the places that are visited
 pub data BadFrom : ℕ → ℕ → List Seat → Type 0 where
@@ -191,7 +191,7 @@ after F w ss ys (Done v) e h l r = omega (arith, state-generation r.1.states r.1
 after F w ss ys (Fault d n) e h l r = cc
 
 -- where a disk was bad the ground ends above 1
-pub renews-bad : {F : List (List ℕ)} {w size n i m : ℕ} {xs ys : List Seat} {ss : List Store} {s : Says} → Renews size n i m xs s ys → is_done s ≡ true → BadFrom i m xs → (g : ℕ) → Pairs (State F w g) ss xs → Has IsLive xs → length F ≡ n → w ≤ g → 1 < generation ys
+pub renews-bad : {F : List (List ℕ)} {w size n i m : ℕ} {xs ys : List Seat} {ss : List Store} {s : Says} → Renews true size n i m xs s ys → is_done s ≡ true → BadFrom i m xs → (g : ℕ) → Pairs (State F w g) ss xs → Has IsLive xs → length F ≡ n → w ≤ g → 1 < generation ys
 renews-bad renew_end e (bad_from a b h) g st lv le wg = absurd (omega arith)
 renews-bad (renew_next k p r) e (bad_from a b h) g st lv le wg = renews-bad r e (from-next k p a b h) g st lv le wg
 renews-bad (renew_unraised k q) e o g st lv le wg = cc
@@ -199,12 +199,13 @@ renews-bad {F} {w} {size} {n} {ss = ss} (renew_refused {s = s} {us = us} q u k r
     let a = ready-state q refl st lv in
     let wh : w ≤ a.0 = omega (arith, grown-most g a.0 a.1.grown) in
     after F w ss us s e a.0 a.2 (renews-state r a.0 (only-pairs k (λ t. bad-down size n a.2 le u) a.1.states) (blank-live k a.1.live) le wh)
-renews-bad {F} {w} {size} {n} {i} {ss = ss} (renew_joins {b = b} {s = s} {vs = vs} q k c r) e o g st lv le wg =
+renews-bad {F} {w} {size} {n} {i} {ss = ss} (renew_joins {b = b} {s = s} {vs = vs} q f k c r) e o g st lv le wg =
     let a = ready-state q refl st lv in
     let wh : w ≤ a.0 = omega (arith, grown-most g a.0 a.1.grown) in
+    let k = fresh-only f k in
     let o = copies-state c (only-pairs k (λ t. bad-fresh size n a.2 le) a.1.states) (blank-live k a.1.live) (omega arith) wh (fresh-joins F a.0 i b size n le k) in
     after F w ss vs s e a.0 a.2 (renews-state r a.0 o.0 o.1 le wh)
-renews-bad (renew_gone q k c) e o g st lv le wg = cc
+renews-bad (renew_gone q f k c) e o g st lv le wg = cc
 
 bad-place : {xs : List Seat} → Has IsBad xs → (j : ℕ) × (b : Store) × Nth j xs (Out true b) × (j < length xs)
 bad-place (has_here (is_bad {s = s})) = (0, s, nth_here, omega arith)
@@ -303,7 +304,7 @@ pub record Won (ss : List Store) (xs : List Seat) : Type 0 where
 abbrev won : {w : Image} {ss : List Store} {xs ys : List Seat} → Pairs Meets ss xs → Wins w xs ys → Won ss xs
 won {w} {xs = xs} {ys = ys} m h = record { w = w; vs = xs; ys = ys; down = downed-row xs; met = m; wins = h; reach = most-reach (wins-most h) }
 
-abbrev won-again : {w : Image} {ss : List Store} {xs ys zs us : List Seat} → Wins w xs ys → Yields w.generation xs zs us → Won ss us → Won ss xs
+abbrev won-again : {wrote : Bool} {w : Image} {ss : List Store} {xs ys zs us : List Seat} → Wins w xs ys → Yields w.generation wrote xs zs us → Won ss us → Won ss xs
 won-again {w} h y r = record {
   w = r.w;
   vs = r.vs;
@@ -333,12 +334,12 @@ Answered n (Good owed) ss xs us = WellOpened n ss xs us × (owed ≡ not (all_li
 Answered n (Bad d) ss xs us = Every NotGood xs × (us ≡ xs)
 Answered n (Lost d k) ss xs us = (Every NotGood xs × (us ≡ xs)) ⊎ IllOpened ss xs us
 
-answer-again : {w : Image} (n : ℕ) (o : Outcome) (ss : List Store) (xs vs us : List Seat) {ys zs : List Seat} → Wins w xs ys → Yields w.generation xs zs vs → Answered n o ss vs us → Answered n o ss xs us
+answer-again : {wrote : Bool} {w : Image} (n : ℕ) (o : Outcome) (ss : List Store) (xs vs us : List Seat) {ys zs : List Seat} → Wins w xs ys → Yields w.generation wrote xs zs vs → Answered n o ss vs us → Answered n o ss xs us
 answer-again n (Good owed) ss xs vs us h y a = (record { won = won-again h y a.0.won; size = a.0.size; g = a.0.g; ready = a.0.ready }, a.1)
 answer-again n (Bad d) ss xs vs us h y a = absurd (good-not a.0 y.other)
 answer-again n (Lost d k) ss xs vs us h y a = elim a [ inl q ↦ absurd (good-not q.0 y.other) | inr q ↦ inr (record { won = won-again h y q.won; g = q.g; grown = q.grown; finals = q.finals }) ]
 
-pub opens-answer : {size n : ℕ} {o : Outcome} {ss : List Store} {xs us : List Seat} → Opens size n xs o us → Pairs Meets ss xs → Every (Sized n) ss → Answered n o ss xs us
+pub opens-answer : {size n : ℕ} {o : Outcome} {ss : List Store} {xs us : List Seat} → Opens true size n xs o us → Pairs Meets ss xs → Every (Sized n) ss → Answered n o ss xs us
 opens-answer (open_down h l) m z = inl (h, refl)
 opens-answer (open_bad h) m z = (bad-not-good h, refl)
 opens-answer (open_good {w = w} {ys = ys} h e r) m z =
@@ -374,7 +375,7 @@ pub record Winner (xs us : List Seat) : Type 0 where
   pub pages : Every (HasPages w.pages) us
   pub reached : Reached w.generation vs (generation us)
 
-pub opens-winner : {size n : ℕ} {owed : Bool} {ss : List Store} {xs us : List Seat} → Opens size n xs (Good owed) us → Pairs Meets ss xs → Every (Sized n) ss → Winner xs us
+pub opens-winner : {size n : ℕ} {owed : Bool} {ss : List Store} {xs us : List Seat} → Opens true size n xs (Good owed) us → Pairs Meets ss xs → Every (Sized n) ss → Winner xs us
 opens-winner {xs = xs} (open_good {w = w} {ys = ys} {zs = zs} {us = us} h e r) m z =
     let le = wins-size m h z in
     let a = start-state le m h z in
@@ -415,7 +416,7 @@ downed-tree (Mirror l m) us h =
     (Mirror a.0 b.0, ap (λ v. v ++ seats b.0) a.1 ∙ ap (λ v. s.0 ++ v) b.1 ∙ s.2, downed_mirror a.2 b.2)
 
 -- the opened ground is what its disks give, once those that gave way are counted as down
-pub opens-gives : {size n : ℕ} {owed : Bool} {ss : List Store} {us : List Seat} (t : Tree) → Opens size n (seats t) (Good owed) us → Pairs Meets ss (seats t) → Every (Sized n) ss
+pub opens-gives : {size n : ℕ} {owed : Bool} {ss : List Store} {us : List Seat} (t : Tree) → Opens true size n (seats t) (Good owed) us → Pairs Meets ss (seats t) → Every (Sized n) ss
     → (F : List (List ℕ)) × (u : Tree) × DownedTree t u × Every (HasPages F) us × Opened u (generation us) F
 opens-gives {us = us} t h m z =
     let a = opens-winner h m z in
@@ -435,9 +436,6 @@ pub not-false : (b : Bool) → not b ≡ false → b ≡ true
 not-false true e = refl
 not-false false e = cc
 
-pub opens-even : {size n : ℕ} {owed : Bool} {ss : List Store} {xs us : List Seat} → Opens size n xs (Good owed) us → Pairs Meets ss xs → Every (Sized n) ss → Even owed us
-opens-even {owed = owed} {us = us} h m z q =
-    let a = opens-answer h m z in
-    let r = all-live-top a.0.ready.states (not-false (all_live us) (sym a.1 ∙ q)) in
-    let k = state-generation a.0.ready.states a.0.ready.live in
-    subst (λ g. Every (HasLevel g) us) (sym (r.1 ∙ k)) r.0
+pub opens-bad : {told : Bool} {size n d : ℕ} {xs us : List Seat} → Opens told size n xs (Bad d) us → Every NotGood xs × (us ≡ xs)
+opens-bad (open_bad h) = (bad-not-good h, refl)
+opens-bad (open_again h e y r) = absurd (good-not (opens-bad r).0 y.other)

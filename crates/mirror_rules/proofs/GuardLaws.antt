@@ -2,16 +2,16 @@
 use Rattle.std.proofs.Common.{◌≡◌, ℕ, zero, suc, ◌<◌, ◌≤◌, ◌⊎◌, inl, inr, Bool, true, false, List, [], ◌∷◌, length, set, get_or, Option, Some, None, refl, sym, ◌∙◌, ap, subst, arith, length-set, get_or-set_same, get_or-set_other}
 use Rattle.std.proofs.lemmas.Bool.Decides.{eqb_tells}
 use Rattle.mirror_rules.specs.Tree.{Image, Cell, Store, Seat, In, Out, top, limit}
-use Rattle.mirror_rules.specs.Claims.{Pairs, pairs_none, pairs_more, Every, every_none, every_more, Has, Nth, nth_here, nth_later, HasPages, pages_live, pages_left, pages_out, HasLevel, level_live, level_left, Even, Keeps, keeps_out, keeps_left, keeps_live, keeps_lost, Writes, writes_out, writes_left, writes_taken, writes_lost, writes_none, Kind, kind_in, kind_out}
+use Rattle.mirror_rules.specs.Claims.{Pairs, pairs_none, pairs_more, Every, every_none, every_more, Has, Nth, nth_here, nth_later, HasPages, pages_live, pages_left, pages_out, HasLevel, level_live, level_left, Even, Writes, writes_out, writes_left, writes_taken, writes_lost, writes_none, Kind, kind_in, kind_out}
 use Rattle.mirror_rules.specs.Steps.{Raise, Flush, Says, Done, faulted, raise_taken, flush_taken, Refuses, refused, raise_unkept, raise_kept, flush_kept, Asked, asked_out, asked_stale, asked_took, asked_lost, asked_none, Looked, looked_out, looked_stale, looked_same, looked_refused, Raised, raised_whole, raised_again, raised_none, Pays, pays_none, pays_raise, Flushes, flush_whole, flush_lost, flush_none, flush_unraised, Puts}
-use Rattle.mirror_rules.specs.Opening.{opened, Meets, meets_good, meets_bad, meets_down, AtMost, most_in, most_out, Wins, wins_here, wins_later, wins_out, NotBad, good_in, Outcome, Good, Bad, Lost, Opens, open_down, open_bad, open_good, open_gone, open_unrenewed, open_again, NotGood, Downed}
+use Rattle.mirror_rules.specs.Opening.{opened, Meets, meets_good, meets_bad, meets_down, AtMost, most_in, Wins, wins_here, wins_later, wins_out, NotBad, good_in, Outcome, Good, Bad, Lost, Opens, open_down, open_bad, open_good, open_gone, open_unrenewed, open_again, NotGood, Downed}
 use Rattle.mirror_rules.specs.Fates.{Mixed, Fate, fate_old, fate_new, fate_fresh, fate_made, Final, final_out, final_made, final_in, Sized, OpeningEnd, ended_same, ended_won}
 use Rattle.mirror_rules.specs.Guards.{Within, Or, Now, Stands, stands, Shows, shows_now, shows_out, At, at_place, Guards, Guarded, Guarding, Leaves, leaves, leaves_none, live_at, Lower, lower_out, Loses, loses_none, loses_image, Made, made_here, made_later}
-use Rattle.mirror_rules.proofs.PageLaws.{pairs-then, pairs-both, pairs-every, flush_keeps, keeps-holds, puts_writes}
+use Rattle.mirror_rules.proofs.PageLaws.{pairs-then, pairs-both, flush_keeps, keeps-holds, puts_writes}
 use Rattle.mirror_rules.proofs.RoundLaws.{pairs-map}
 use Rattle.mirror_rules.proofs.GenLaws.{flush-levels, raise-top, pays-bounded, round-bounded}
 use Rattle.mirror_rules.proofs.OpenLaws.{state-pages, nth-same, nth-back, nth-on, start-state, enters-state, wins-size, final-all}
-use Rattle.mirror_rules.proofs.GivesLaws.{Won, IllOpened, Answered, opens-answer, enters-kind, wins-kind, renews-none, kinds-then, kind-same, Reaches, nth-reaches, wins-most, downed-row, downed-then, downed-good, downed-in, way-downed, way-meets, bad-not-good, good-not}
+use Rattle.mirror_rules.proofs.GivesLaws.{IllOpened, Answered, opens-answer, enters-kind, wins-kind, renews-none, kinds-then, kind-same, Reaches, nth-reaches, downed-row, downed-then, downed-good, downed-in, way-downed, way-meets, bad-not-good, good-not}
 
 pub some-same : (c d : Image) → ◌≡◌ {A = Option Image} (Some c) (Some d) → c ≡ d
 some-same c d e = cc
@@ -320,10 +320,10 @@ ends-of n ss xs us (Good owed) a = let r = a.0 in inr (record { won = r.won; g =
 ends-of n ss xs us (Bad d) a = inl a.1
 ends-of n ss xs us (Lost d k) a = elim a [ inl q ↦ inl q.1 | inr q ↦ inr q ]
 
-pub opens-ends : {size n : ℕ} {o : Outcome} {ss : List Store} {xs us : List Seat} → Opens size n xs o us → Pairs Meets ss xs → Every (Sized n) ss → Ends ss xs us
+pub opens-ends : {size n : ℕ} {o : Outcome} {ss : List Store} {xs us : List Seat} → Opens true size n xs o us → Pairs Meets ss xs → Every (Sized n) ss → Ends ss xs us
 opens-ends {n = n} {o = o} {ss = ss} {xs = xs} {us = us} h m z = ends-of n ss xs us o (opens-answer h m z)
 
-pub opening-end : {size n : ℕ} {o : Outcome} {ss : List Store} {xs us : List Seat} → Opens size n xs o us → Pairs Meets ss xs → Every (Sized n) ss → OpeningEnd ss xs us
+pub opening-end : {size n : ℕ} {o : Outcome} {ss : List Store} {xs us : List Seat} → Opens true size n xs o us → Pairs Meets ss xs → Every (Sized n) ss → OpeningEnd ss xs us
 opening-end h m z = elim (opens-ends h m z) [ inl e ↦ ended_same e | inr r ↦ ended_won r.grown r.finals ]
 
 none-done : {A : ℕ → List ℕ → Type 0} {L : ℕ → Bool} {ss : List Store} {xs us : List Seat} (K : ℕ → Bool) → us ≡ xs → Pairs Meets ss xs → ((d : ℕ) → K d ≡ true → L d ≡ true) → Guarded A L ss → Guarding A K us
@@ -331,7 +331,7 @@ none-done {A} K e m sub g = subst (λ v. Guarding A K v) (sym e) (guards-move {L
 
 -- open and refused, where a disk of L is up: L goes on; where a disk was formatted, without the disks that may leave generation 1
 pub guards-open-bad : {A : ℕ → List ℕ → Type 0} {L : ℕ → Bool} {size n d : ℕ} {b : Bool} {c : Cell} {o : Outcome} {ss : List Store} {xs us : List Seat} (K : ℕ → Bool)
-    → Opens size n xs o us → Pairs Meets ss xs → Every (Sized n) ss → L d ≡ true → Nth d xs (In b c) → Guarded A L ss
+    → Opens true size n xs o us → Pairs Meets ss xs → Every (Sized n) ss → L d ≡ true → Nth d xs (In b c) → Guarded A L ss
     → ((e : ℕ) → K e ≡ true → L e ≡ true) → ((e : ℕ) (i : Image) → K e ≡ true → At Shows e us i → Made ss us → 1 < i.generation) → Guarding A K us
 guards-open-bad {A} {L} {ss = ss} {us = us} K h m z ld up g sub hi = elim (opens-ends h m z) [
   | inl e ↦ none-done K e m sub g
@@ -345,7 +345,7 @@ kinds-good (pairs_more kind_in i) (every_more p h) = every_more good_in (kinds-g
 kinds-good (pairs_more kind_out i) (every_more p h) = every_more p (kinds-good i h)
 
 -- what is opened stays opened, once those that gave way are counted as down
-pub opens-kind : {size n : ℕ} {o : Outcome} {ss : List Store} {xs us : List Seat} → Opens size n xs o us → Pairs Meets ss xs → Every NotBad xs → (vs : List Seat) × Pairs Downed xs vs × Pairs Meets ss vs × Pairs Kind vs us
+pub opens-kind : {told : Bool} {size n : ℕ} {o : Outcome} {ss : List Store} {xs us : List Seat} → Opens told size n xs o us → Pairs Meets ss xs → Every NotBad xs → (vs : List Seat) × Pairs Downed xs vs × Pairs Meets ss vs × Pairs Kind vs us
 opens-kind (open_down {xs = xs} a b) m h = (xs, downed-row xs, m, kind-same xs)
 opens-kind (open_bad a) m h = elim h [ every_more p q ↦ elim p [ ] ]
 opens-kind (open_good {xs = xs} w e r) m h = let k = kinds-then (wins-kind w) (enters-kind e) in (xs, downed-row xs, m, subst (Pairs Kind _) (renews-none r (kinds-good k h)) k)
@@ -366,7 +366,7 @@ kind-moves-all f (pairs_more m ms) (pairs_more k ks) (pairs_more h hs) = pairs_m
 
 -- open and refused, where a disk of L is up and none is bad: L goes on
 pub guards-open : {A : ℕ → List ℕ → Type 0} {L : ℕ → Bool} {size n d : ℕ} {b : Bool} {c : Cell} {o : Outcome} {ss : List Store} {xs us : List Seat}
-    → Opens size n xs o us → Pairs Meets ss xs → Every (Sized n) ss → L d ≡ true → Nth d xs (In b c) → Every NotBad xs → Guarded A L ss → Guarding A L us
+    → Opens true size n xs o us → Pairs Meets ss xs → Every (Sized n) ss → L d ≡ true → Nth d xs (In b c) → Every NotBad xs → Guarded A L ss → Guarding A L us
 guards-open {L = L} h m z ld up nb g = elim (opens-ends h m z) [
   | inl e ↦ none-done L e m (λ d q. q) g
   | inr r ↦ let k = opens-kind h m nb in guards-all g (kind-moves-all (winner-within g m ld up r.won.met r.won.wins r.won.reach) k.2 k.3 r.finals)
@@ -374,7 +374,7 @@ guards-open {L = L} h m z ld up nb g = elim (opens-ends h m z) [
 
 -- and where it answers Ok, the ground's pages are guarded ones: durability
 pub opens-within : {A : ℕ → List ℕ → Type 0} {L : ℕ → Bool} {size n d : ℕ} {b owed : Bool} {c : Cell} {ss : List Store} {xs us : List Seat}
-    → Opens size n xs (Good owed) us → Pairs Meets ss xs → Every (Sized n) ss → L d ≡ true → Nth d xs (In b c) → Guarded A L ss → (F : List (List ℕ)) × Every (HasPages F) us × Within A F
+    → Opens true size n xs (Good owed) us → Pairs Meets ss xs → Every (Sized n) ss → L d ≡ true → Nth d xs (In b c) → Guarded A L ss → (F : List (List ℕ)) × Every (HasPages F) us × Within A F
 opens-within h m z ld up g = let r = (opens-answer h m z).0 in (r.won.w.pages, state-pages r.ready.states, winner-within g m ld up r.won.met r.won.wins r.won.reach)
 
 -- lost: an image is gone
@@ -392,7 +392,7 @@ guards-lost {S = S} {T = T} K m g sub keep = record {
   back e b (at_place n q) = let s = nth-back m n in at_place s.1 (stands (one b s.2 (stood q)))
 
 -- astray: no guarding disk is up, and none is bad. Then nothing above the winner's number is written
-calm-answer : {size n : ℕ} {o : Outcome} {ss : List Store} {xs us : List Seat} → Opens size n xs o us → Pairs Meets ss xs → Every (Sized n) ss → Every NotBad xs
+calm-answer : {size n : ℕ} {o : Outcome} {ss : List Store} {xs us : List Seat} → Opens true size n xs o us → Pairs Meets ss xs → Every (Sized n) ss → Every NotBad xs
     → (Every NotGood xs × (us ≡ xs)) ⊎ ((w : Image) × ((e : ℕ) × At Stands e ss w) × Pairs (Final w.pages w.generation w.generation) ss us)
 calm-answer (open_down a b) m z nb = inl (a, refl)
 calm-answer (open_bad a) m z nb = inl (bad-not-good a, refl)
@@ -439,7 +439,7 @@ shows-out f m (kind_in {a = a} {c = c}) h = absurd (f a c refl)
 shows-out f m kind_out (stands q) = shows_out (met-image m ∙ q)
 
 pub guards-astray : {A : ℕ → List ℕ → Type 0} {L : ℕ → Bool} {size n : ℕ} {o : Outcome} {ss : List Store} {xs us : List Seat}
-    → Opens size n xs o us → Pairs Meets ss xs → Every (Sized n) ss → Every NotBad xs → ((d : ℕ) → L d ≡ true → (b : Bool) (c : Cell) → Nth d xs (In b c) → ⊥) → Guarded A L ss → Guarding A L us
+    → Opens true size n xs o us → Pairs Meets ss xs → Every (Sized n) ss → Every NotBad xs → ((d : ℕ) → L d ≡ true → (b : Bool) (c : Cell) → Nth d xs (In b c) → ⊥) → Guarded A L ss → Guarding A L us
 guards-astray {A} {L} {ss = ss} {xs = xs} {us = us} h m z nb away g = elim (calm-answer h m z nb) [
   | inl e ↦ none-done L e.1 m (λ d q. q) g
   | inr r ↦ won r.0 r.1 r.2

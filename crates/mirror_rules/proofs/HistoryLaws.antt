@@ -42,5 +42,5 @@ since-sound (since_lost K h m sub keep) = guards-lost K m (since-sound h) sub ke
 -- after a flush that answered Ok, each opening that answers Ok gives for each page what that flush made lasting or something written later,
 -- as long as a disk that guards is up in it
 pub durable : {size n d : ℕ} {F : List (List ℕ)} {ws : List (ℕ × List ℕ)} {L : ℕ → Bool} {b owed : Bool} {c : Cell} {ss : List Store} {xs us : List Seat}
-    → Since size n F ws L (Closed ss) → Pairs Meets ss xs → Every (Sized n) ss → Opens size n xs (Good owed) us → L d ≡ true → Nth d xs (In b c) → (G : List (List ℕ)) × Every (HasPages G) us × Within (Since_then F ws) G
+    → Since size n F ws L (Closed ss) → Pairs Meets ss xs → Every (Sized n) ss → Opens true size n xs (Good owed) us → L d ≡ true → Nth d xs (In b c) → (G : List (List ℕ)) × Every (HasPages G) us × Within (Since_then F ws) G
 durable h m z o ld up = opens-within o m z ld up (since-sound h)

@@ -3,7 +3,7 @@ use Rattle.std.proofs.Common.{◌≡◌, ℕ, zero, suc, ◌+◌, ◌<◌, ◌�
 use Rattle.mirror_rules.specs.Tree.{Image, Cell, Store, Seat, In, Out, generation}
 use Rattle.mirror_rules.specs.Claims.{Pairs, pairs_none, pairs_more, Nth, nth_here, nth_later}
 use Rattle.mirror_rules.specs.Steps.{Raise, Says, is_done, faulted, written, raise_taken, Asked, asked_out, asked_stale, asked_took, asked_lost, asked_none, Looked, looked_out, looked_stale, looked_same, looked_refused}
-use Rattle.mirror_rules.specs.Opening.{formatted, Meets, meets_good, meets_bad, meets_down, Wins, wins_here, wins_later, wins_out, Only, only_here, only_later, settled, Copies, copy_same, copy_differs, copy_left, copy_gone, copy_even, copy_settled, copy_unflushed, copy_unraised, Passed, passed_live, passed_out, Enters, enter_end, enter_next, enter_joins, enter_gone, Readies, ready_higher, ready_raised, Unformatted, unformatted, NotBad, good_in, good_down, Renews, renew_end, renew_next, renew_unraised, renew_refused, renew_joins, renew_gone, Good, Opens, open_good, open_again}
+use Rattle.mirror_rules.specs.Opening.{Meets, meets_good, meets_bad, meets_down, Wins, wins_here, wins_later, wins_out, Only, only_here, only_later, settled, Copies, copy_same, copy_differs, copy_left, copy_gone, copy_even, copy_settled, copy_unflushed, copy_unraised, Passed, passed_live, passed_out, Enters, enter_end, enter_next, enter_joins, enter_gone, Readies, ready_higher, ready_raised, Unformatted, unformatted, NotBad, good_in, good_down, Renews, renew_end, renew_next, renew_unraised, renew_refused, renew_joins, renew_gone, Good, Opens, open_good, open_again}
 use Rattle.mirror_rules.specs.Fates.{Excused, excused_live, excused_left}
 use Rattle.mirror_rules.proofs.PageLaws.{pairs-then}
 use Rattle.mirror_rules.proofs.RoundLaws.{pairs-map, refuses-fault}
@@ -83,15 +83,15 @@ mid-met d l s (fine_left k f) = fine_left (omega arith) (λ e. omega arith)
 mid-live : {c : Cell} (d : Cell) → c.faults ≤ d.faults → (s : Store) → Mid s (In false c) → Met s (In true d)
 mid-live d l s (fine_left k f) = fine_live (omega arith)
 
-copies-met : {v w a b : Bool} {i n p : ℕ} {e : Bool} {s : Says} {ss : List Store} {xs ys : List Seat} → Copies i e n p xs s ys → is_done s ≡ true → Around (Fine v w) Mid (Fine a b) i ss xs → Around (Fine v w) Met (Fine a b) i ss ys
+copies-met : {told : Bool} {v w a b : Bool} {i n p : ℕ} {e : Bool} {s : Says} {ss : List Store} {xs ys : List Seat} {wrote : Bool} → Copies told i e n p xs s wrote ys → is_done s ≡ true → Around (Fine v w) Mid (Fine a b) i ss xs → Around (Fine v w) Met (Fine a b) i ss ys
 copies-met (copy_same h k q r) e f = copies-met r e (around-step (λ s x y. look-fine) (λ s x y. look-fine) (λ s x y. look-fine) f h.each)
-copies-met (copy_differs {p = p} {x = x} {c = c} h ne k r) e f = copies-met r e (around-only k (mid-left (written p x c) (omega arith)) (around-step (λ s x y. look-fine) (λ s x y. look-fine) (λ s x y. look-fine) f h.each))
+copies-met (copy_differs {p = p} {z = x} {c = c} h ne q k r) e f = copies-met r e (around-only k (mid-left (written p x c) (omega arith)) (around-step (λ s x y. look-fine) (λ s x y. look-fine) (λ s x y. look-fine) f h.each))
 copies-met (copy_left {m = m} {c = c} h l k) e f = around-only k (mid-met (faulted m c) l) (around-step (λ s x y. look-fine) (λ s x y. look-fine) (λ s x y. look-fine) f h.each)
 copies-met (copy_gone h) e f = cc
 copies-met (copy_even {c = c} k) e f = around-only k (mid-live c (omega arith)) f
 copies-met (copy_settled {c = c} {xs = xs} k) e f = around-only k (mid-live (settled (generation xs) c) (omega arith)) f
 copies-met (copy_unflushed {d = d} h k) e f = let r = (refuses-fault h).1 in around-only k (mid-met d (omega arith)) f
-copies-met (copy_unraised {d = d} h k) e f = let r = (refuses-fault h).1 in around-only k (mid-met d (omega arith)) f
+copies-met (copy_unraised {d = d} h q k) e f = let r = (refuses-fault h).1 in around-only k (mid-met d (omega arith)) f
 
 met-any : {w : Bool} (s : Store) (x : Seat) → Met s x → Fine true w s x
 met-any s (In true c) (fine_live l) = fine_live l
@@ -114,7 +114,7 @@ Entering i ss xs = Fines (Fine true false) (Fine false false) i ss xs
 abbrev Renewing : ℕ → List Store → List Seat → Type 0
 Renewing i ss xs = Fines Met (Fine true false) i ss xs
 
-enters-met : {n i m : ℕ} {s : Says} {ss : List Store} {xs ys : List Seat} → Enters n i m xs s ys → is_done s ≡ true → Entering i ss xs → Entering (i + m) ss ys
+enters-met : {told : Bool} {n i m : ℕ} {s : Says} {ss : List Store} {xs ys : List Seat} {wrote : Bool} → Enters told n i m xs s wrote ys → is_done s ≡ true → Entering i ss xs → Entering (i + m) ss ys
 enters-met {i = i} {ss = ss} (enter_end {xs = xs}) e f = let q : i ≡ i + 0 = omega arith in subst (λ v. Entering v ss xs) q f
 enters-met {ss = ss} (enter_next {i = i} {m = m} {xs = xs} {ys = ys} h p r) e f =
     let q : (i + 1) + m ≡ i + suc m = omega arith in let t : suc i ≡ i + 1 = omega arith in
@@ -140,7 +140,7 @@ bad-met (unformatted d e f) s (fine_bad l q) = fine_down (omega arith)
 bad-mid : {b : Store} (d : Cell) → b.faults ≤ d.faults → (s : Store) → Fine true false s (Out true b) → Mid s (In false d)
 bad-mid d m s (fine_bad l q) = fine_left (omega arith) (λ e. cc)
 
-renews-met : {size n i m : ℕ} {s : Says} {ss : List Store} {xs ys : List Seat} → Renews size n i m xs s ys → is_done s ≡ true → Renewing i ss xs → Renewing (i + m) ss ys
+renews-met : {told : Bool} {size n i m : ℕ} {s : Says} {ss : List Store} {xs ys : List Seat} → Renews told size n i m xs s ys → is_done s ≡ true → Renewing i ss xs → Renewing (i + m) ss ys
 renews-met {i = i} {ss = ss} (renew_end {xs = xs}) e f = let q : i ≡ i + 0 = omega arith in subst (λ v. Renewing v ss xs) q f
 renews-met {ss = ss} (renew_next {i = i} {m = m} {xs = xs} {ys = ys} h p r) e f =
     let q : (i + 1) + m ≡ i + suc m = omega arith in let t : suc i ≡ i + 1 = omega arith in
@@ -149,10 +149,10 @@ renews-met (renew_unraised h q) e f = cc
 renews-met {ss = ss} (renew_refused {i = i} {m = m} {zs = zs} {us = us} q u k r) e f =
     let o : (i + 1) + m ≡ i + suc m = omega arith in let t : suc i ≡ i + 1 = omega arith in
     subst (λ v. Renewing v ss us) o (renews-met r e (subst (λ v. Renewing v ss zs) t (end {R = Met} (λ s x k. k) (only-begin k (bad-met u) (ready-met q f)))))
-renews-met {size} {n} {ss = ss} (renew_joins {i = i} {m = m} {b = b} {us = us} {vs = vs} q k c r) e f =
+renews-met {size} {n} {ss = ss} (renew_joins {i = i} {m = m} {b = b} {c = d} {us = us} {vs = vs} q z k c r) e f =
     let o : (i + 1) + m ≡ i + suc m = omega arith in let t : suc i ≡ i + 1 = omega arith in
-    subst (λ v. Renewing v ss vs) o (renews-met r e (subst (λ v. Renewing v ss us) t (end met-any (copies-met c refl (only-begin k (bad-mid (formatted size n b) (omega arith)) (ready-met q f))))))
-renews-met (renew_gone q k c) e f = cc
+    subst (λ v. Renewing v ss vs) o (renews-met r e (subst (λ v. Renewing v ss us) t (end met-any (copies-met c refl (only-begin k (bad-mid d (omega (arith, z.faults))) (ready-met q f))))))
+renews-met (renew_gone q z k c) e f = cc
 
 -- at the start, and at the end
 started : {w : Image} {ss : List Store} {xs ys : List Seat} → Pairs Meets ss xs → Wins w xs ys → Pairs (Fine false false) ss ys
@@ -187,7 +187,7 @@ met-excused s (Out true t) (fine_bad l e) = cc
 met-excused s (Out false t) (fine_down l) = excused_left l
 
 -- after an opening that answers Ok each disk is live, or refused a call in it
-pub opens-excused : {size n : ℕ} {owed : Bool} {ss : List Store} {xs us : List Seat} → Opens size n xs (Good owed) us → Pairs Meets ss xs → Pairs Excused ss us
+pub opens-excused : {told : Bool} {size n : ℕ} {owed : Bool} {ss : List Store} {xs us : List Seat} → Opens told size n xs (Good owed) us → Pairs Meets ss xs → Pairs Excused ss us
 opens-excused {ss = ss} (open_good {ys = ys} {zs = zs} {us = us} h e r) m =
     let a = enters-met e refl (fines_rest (started m h)) in
     let la : length zs ≡ length ys = fines-size a ∙ sym (pairs-length (started m h)) in

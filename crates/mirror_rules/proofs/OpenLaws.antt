@@ -7,7 +7,7 @@ use Rattle.std.proofs.lemmas.List.{ext_get_or, length-replicate}
 use Rattle.mirror_rules.specs.Tree.{Image, Cell, Store, Seat, In, Out, generation}
 use Rattle.mirror_rules.specs.Claims.{Pairs, pairs_none, pairs_more, Every, every_none, every_more, Has, has_here, has_later, Nth, nth_here, nth_later, IsLive, live_in, HasPages, pages_live, pages_left, pages_out}
 use Rattle.mirror_rules.specs.Steps.{Raise, Says, Done, Fault, is_done, faulted, headed, kept_now, written, raise_taken, refused, raise_unkept, raise_kept, flush_kept, Asked, asked_out, asked_stale, asked_took, asked_lost, asked_none, Looked, looked_out, looked_stale, looked_same, looked_refused}
-use Rattle.mirror_rules.specs.Opening.{opened, Meets, meets_good, meets_bad, meets_down, AtMost, most_in, most_out, Wins, wins_here, wins_later, wins_out, Only, only_here, only_later, settled, Copies, copy_same, copy_differs, copy_left, copy_gone, copy_even, copy_settled, copy_unflushed, copy_unraised, Enters, enter_end, enter_next, enter_joins, enter_gone, Readies, ready_higher, ready_raised, fresh, formatted, Unformatted, unformatted, Renews, renew_end, renew_next, renew_unraised, renew_refused, renew_joins, renew_gone}
+use Rattle.mirror_rules.specs.Opening.{Meets, meets_good, meets_bad, meets_down, AtMost, most_in, most_out, Wins, wins_here, wins_later, wins_out, Only, only_here, only_later, settled, Copies, copy_same, copy_differs, copy_left, copy_gone, copy_even, copy_settled, copy_unflushed, copy_unraised, Enters, enter_end, enter_next, enter_joins, enter_gone, Readies, ready_higher, ready_raised, fresh, formatted, Formats, Unformatted, unformatted, Renews, renew_end, renew_next, renew_unraised, renew_refused, renew_joins, renew_gone}
 use Rattle.mirror_rules.specs.Fates.{Mixed, Fate, fate_old, fate_new, fate_fresh, fate_made, State, state_bad, state_down, state_made, state_left, state_live, Fates, Final, final_out, final_made, final_in, Grown, Sized}
 use Rattle.mirror_rules.proofs.RoundLaws.{pairs-map}
 use Rattle.mirror_rules.proofs.PageLaws.{pairs-then, read-gives}
@@ -27,7 +27,7 @@ nth-on pairs_none k = elim k [ ]
 nth-on (pairs_more {y = y} h i) nth_here = (y, nth_here, h)
 nth-on (pairs_more h i) (nth_later k) = let r = nth-on i k in (r.0, nth_later r.1, r.2)
 
-only-from : {x y : Seat} {n : ℕ} {xs ys : List Seat} → Only x y n xs ys → Nth n xs x
+pub only-from : {x y : Seat} {n : ℕ} {xs ys : List Seat} → Only x y n xs ys → Nth n xs x
 only-from only_here = nth_here
 only-from (only_later h) = nth_later (only-from h)
 
@@ -55,12 +55,12 @@ cell-of : Cell → Seat → Cell
 cell-of c (In b d) = d
 cell-of c (Out b s) = c
 
-same-cell : {n : ℕ} {xs : List Seat} {c d : Cell} → Nth n xs (In false c) → Nth n xs (In false d) → c ≡ d
+pub same-cell : {n : ℕ} {xs : List Seat} {c d : Cell} → Nth n xs (In false c) → Nth n xs (In false d) → c ≡ d
 unfolding cell-of
 same-cell {c = c} h i = ap (cell-of c) (nth-same h i)
 
 -- reads
-look-live : {s : Says} {xs ys : List Seat} → Pairs (Looked s) xs ys → Has IsLive xs → Has IsLive ys
+pub look-live : {s : Says} {xs ys : List Seat} → Pairs (Looked s) xs ys → Has IsLive xs → Has IsLive ys
 look-live pairs_none h = elim h [ ]
 look-live (pairs_more looked_out i) (has_here h) = elim h [ ]
 look-live (pairs_more looked_stale i) (has_here h) = elim h [ ]
@@ -68,7 +68,7 @@ look-live (pairs_more (looked_same e) i) (has_here h) = has_here live_in
 look-live (pairs_more (looked_refused l) i) (has_here h) = has_here live_in
 look-live (pairs_more h i) (has_later k) = has_later (look-live i k)
 
-look-nth : {s : Says} {n : ℕ} {xs ys : List Seat} {c : Cell} → Pairs (Looked s) xs ys → Nth n ys (In false c) → Nth n xs (In false c)
+pub look-nth : {s : Says} {n : ℕ} {xs ys : List Seat} {c : Cell} → Pairs (Looked s) xs ys → Nth n ys (In false c) → Nth n xs (In false c)
 look-nth (pairs_more looked_stale i) nth_here = nth_here
 look-nth (pairs_more h i) (nth_later k) = nth_later (look-nth i k)
 look-nth pairs_none k = elim k [ ]
@@ -215,14 +215,15 @@ half {F} {w} {g} {h} {o} {c} e m wg f = subst (λ v. Fates F w g o (headed v (ke
 full : {F : List (List ℕ)} {w g h : ℕ} {o : Option Image} {c : Cell} → c.now.pages ≡ F → h ≡ g → w ≤ g → Fates F w g o c → Fates F w g o (settled h c)
 full e m wg f = fates-kept (half e m wg f)
 
-pub copies-state : {F : List (List ℕ)} {w g i n p : ℕ} {e : Bool} {s : Says} {ss : List Store} {xs ys : List Seat} → Copies i e n p xs s ys → Pairs (State F w g) ss xs → Has IsLive xs → length F ≡ p + n → w ≤ g → Joining F g i p e xs
+pub copies-state : {F : List (List ℕ)} {w g i n p : ℕ} {e : Bool} {s : Says} {ss : List Store} {xs ys : List Seat} {wrote : Bool} → Copies true i e n p xs s wrote ys → Pairs (State F w g) ss xs → Has IsLive xs → length F ≡ p + n → w ≤ g → Joining F g i p e xs
     → Pairs (State F w g) ss ys × Has IsLive ys
 copies-state {F} (copy_same {p = p} {x = x} {c = c} {ys = ys} h k q r) st lv le wg j =
     copies-state r (look-state st h.each) (look-live h.each lv) (omega arith) wg
     (λ d z. let o = j d (look-nth h.each z) in
-    (same-more p F d.now.pages o.0 (ap (λ (v : Cell). get_or v.now.pages p []) (sym (same-cell k z)) ∙ q ∙ sym (read-gives h.found.0 (state-pages st))), o.1))
-copies-state {F} {w} {g} (copy_differs {p = p} {x = x} {c = c} h ne k r) st lv le wg j =
-    let e : get_or F p [] ≡ x = read-gives h.found.0 (state-pages st) in
+    (same-more p F d.now.pages o.0 (ap (λ (v : Cell). get_or v.now.pages p []) (sym (same-cell k z)) ∙ q refl ∙ sym (read-gives h.found.0 (state-pages st))), o.1))
+copies-state {F} {w} {g} (copy_differs {p = p} {x = y} {z = x} {c = c} h nq q k r) st lv le wg j =
+    let e : get_or F p [] ≡ x = read-gives h.found.0 (state-pages st) ∙ sym (q refl) in
+    let ne : get_or c.now.pages p [] ≢ x = λ t. nq refl (t ∙ q refl) in
     let l : p < length F = omega arith in
     copies-state r (only-pairs k (λ s. left-fate (written p x c) (fates-written c p x l e ne)) (look-state st h.each)) (only-live k (look-live h.each lv)) (omega arith) wg
     (λ d z. (subst (λ (v : Cell). SameTo (p + 1) F v.now.pages) (same-cell (only-to k) z) (same-set p F c.now.pages x (j c (look-nth h.each (only-from k))).0 l e), λ q. cc))
@@ -237,13 +238,13 @@ copies-state {F} {g = g} (copy_settled {p = p} {c = c} {xs = xs} k) st lv le wg 
     (only-pairs k (λ s. live-fate (settled (generation xs) c) (λ o f. full e m wg f) e m) st, only-live k lv)
 copies-state (copy_unflushed {c = c} (refused {n = m} l) k) st lv le wg j = (only-pairs k (λ s. left-fate (faulted m c) fates-faulted) st, only-live k lv)
 copies-state (copy_unflushed {c = c} (flush_kept {n = m} l) k) st lv le wg j = (only-pairs k (λ s. left-fate (faulted m (kept_now c)) (λ o f. fates-faulted o (fates-kept f))) st, only-live k lv)
-copies-state (copy_unraised {c = c} (refused {n = m} l) k) st lv le wg j = (only-pairs k (λ s. left-fate (faulted m (kept_now c)) (λ o f. fates-faulted o (fates-kept f))) st, only-live k lv)
-copies-state {F} {g = g} (copy_unraised {p = p} {c = c} {xs = xs} (raise_unkept {n = r} l) k) st lv le wg j =
+copies-state (copy_unraised {c = c} (refused {n = m} l) q k) st lv le wg j = (only-pairs k (λ s. left-fate (faulted m (kept_now c)) (λ o f. fates-faulted o (fates-kept f))) st, only-live k lv)
+copies-state {F} {g = g} (copy_unraised {p = p} {c = c} {xs = xs} (raise_unkept {n = r} l) q k) st lv le wg j =
     let e : c.now.pages ≡ F = same-all p F c.now.pages (j c (only-from k)).0 le in
     let m = state-generation st lv in
     let d : Cell = faulted r (headed (generation xs) (kept_now c)) in
     (only-pairs k (λ s. left-fate d (λ o f. fates-faulted o (half e m wg f))) st, only-live k lv)
-copies-state {F} {g = g} (copy_unraised {p = p} {c = c} {xs = xs} (raise_kept {n = r} l) k) st lv le wg j =
+copies-state {F} {g = g} (copy_unraised {p = p} {c = c} {xs = xs} (raise_kept {n = r} l) q k) st lv le wg j =
     let e : c.now.pages ≡ F = same-all p F c.now.pages (j c (only-from k)).0 le in
     let m = state-generation st lv in
     let d : Cell = faulted r (settled (generation xs) c) in
@@ -259,7 +260,7 @@ joins {F} {g = g} {xs = xs} e c st lv h q d z = (
   λ t. ap (λ (v : Cell). v.now.generation) (sym (same-cell h z)) ∙ eqb-true c.now.generation (generation xs) (q ∙ t) ∙ state-generation st lv,
 )
 
-pub enters-state : {F : List (List ℕ)} {w g n i m : ℕ} {s : Says} {ss : List Store} {xs ys : List Seat} → Enters n i m xs s ys → Pairs (State F w g) ss xs → Has IsLive xs → length F ≡ n → w ≤ g → Pairs (State F w g) ss ys × Has IsLive ys
+pub enters-state : {F : List (List ℕ)} {w g n i m : ℕ} {s : Says} {ss : List Store} {xs ys : List Seat} {wrote : Bool} → Enters true n i m xs s wrote ys → Pairs (State F w g) ss xs → Has IsLive xs → length F ≡ n → w ≤ g → Pairs (State F w g) ss ys × Has IsLive ys
 enters-state enter_end st lv le wg = (st, lv)
 enters-state (enter_next h p r) st lv le wg = enters-state r st lv le wg
 enters-state (enter_joins {e = e} {c = c} h q k r) st lv le wg = let a = copies-state k st lv (omega arith) wg (joins e c st lv h q) in enters-state r a.0 a.1 le wg
@@ -331,6 +332,9 @@ bad-down size n l le (unformatted d f (inr q)) (state_bad a b) = state_made a q 
 pub bad-fresh : {F : List (List ℕ)} {w g : ℕ} {s b : Store} (size n : ℕ) → 1 < g → length F ≡ n → State F w g s (Out true b) → State F w g s (In false (formatted size n b))
 bad-fresh {F} {w} {g} size n l le (state_bad a b) = (let f : Fate F w g None (fresh size n) = fate_fresh refl l (length-replicate n (replicate size 0) ∙ sym le) in state_left a (record { now = f }))
 
+pub fresh-only : {size n i : ℕ} {b : Store} {c : Cell} {xs ys : List Seat} → Formats true size n b c → Only (Out true b) (In false c) i xs ys → Only (Out true b) (In false (formatted size n b)) i xs ys
+fresh-only {i = i} {b = b} {xs = xs} {ys = ys} f k = subst (λ v. Only (Out true b) (In false v) i xs ys) (f.cell refl) k
+
 pub fresh-joins : (F : List (List ℕ)) (g i : ℕ) (b : Store) {x : Seat} {xs ys : List Seat} (size n : ℕ) → length F ≡ n → Only x (In false (formatted size n b)) i xs ys → Joining F g i 0 false ys
 fresh-joins F g i b size n le k d z =
     (same-none F d.now.pages (ap (λ (v : Cell). length v.now.pages) (sym (same-cell (only-to k) z)) ∙ length-replicate n (replicate size 0) ∙ sym le), λ q. cc)
@@ -344,7 +348,7 @@ renewed-then : (F : List (List ℕ)) (w : ℕ) (s : Says) (g h : ℕ) (ss : List
 renewed-then F w (Done v) g h ss ys k r = (r.0, record { grown = grown-then g h r.0 k r.1.grown; states = r.1.states; live = r.1.live })
 renewed-then F w (Fault d n) g h ss ys k r = (r.0, grown-then g h r.0 k r.1, r.2)
 
-pub renews-state : {F : List (List ℕ)} {w size n i m : ℕ} {s : Says} {ss : List Store} {xs ys : List Seat} → Renews size n i m xs s ys → (g : ℕ) → Pairs (State F w g) ss xs → Has IsLive xs → length F ≡ n → w ≤ g → Renewed F w g s ss ys
+pub renews-state : {F : List (List ℕ)} {w size n i m : ℕ} {s : Says} {ss : List Store} {xs ys : List Seat} → Renews true size n i m xs s ys → (g : ℕ) → Pairs (State F w g) ss xs → Has IsLive xs → length F ≡ n → w ≤ g → Renewed F w g s ss ys
 renews-state renew_end g st lv le wg = (g, record { grown = inl refl; states = st; live = lv })
 renews-state (renew_next h p r) g st lv le wg = renews-state r g st lv le wg
 renews-state (renew_unraised h q) g st lv le wg = unready-final q refl st lv
@@ -352,14 +356,16 @@ renews-state {F} {w} {size} {n} {ss = ss} (renew_refused {s = s} {us = us} q u k
     let a = ready-state q refl st lv in
     renewed-then F w s g a.0 ss us a.1.grown
     (renews-state r a.0 (only-pairs k (λ t. bad-down size n a.2 le u) a.1.states) (blank-live k a.1.live) le (omega (arith, grown-most g a.0 a.1.grown)))
-renews-state {F} {w} {size} {n} {i} {ss = ss} (renew_joins {b = b} {s = s} {vs = vs} q k c r) g st lv le wg =
+renews-state {F} {w} {size} {n} {i} {ss = ss} (renew_joins {b = b} {s = s} {vs = vs} q f k c r) g st lv le wg =
     let a = ready-state q refl st lv in
     let wh : w ≤ a.0 = omega (arith, grown-most g a.0 a.1.grown) in
+    let k = fresh-only f k in
     let o = copies-state c (only-pairs k (λ t. bad-fresh size n a.2 le) a.1.states) (blank-live k a.1.live) (omega arith) wh (fresh-joins F a.0 i b size n le k) in
     renewed-then F w s g a.0 ss vs a.1.grown (renews-state r a.0 o.0 o.1 le wh)
-renews-state {F} {w} {size} {n} {i} {ss = ss} (renew_gone {b = b} q k c) g st lv le wg =
+renews-state {F} {w} {size} {n} {i} {ss = ss} (renew_gone {b = b} q f k c) g st lv le wg =
     let a = ready-state q refl st lv in
     let wh : w ≤ a.0 = omega (arith, grown-most g a.0 a.1.grown) in
+    let k = fresh-only f k in
     let o = copies-state c (only-pairs k (λ t. bad-fresh size n a.2 le) a.1.states) (blank-live k a.1.live) (omega arith) wh (fresh-joins F a.0 i b size n le k) in
     (a.0, a.1.grown, final-all o.0)
 

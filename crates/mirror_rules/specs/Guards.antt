@@ -1,5 +1,5 @@
 -- Which pages the disks guard, from one session to the next.
-use Rattle.std.specs.Prelude.{◌≡◌, ℕ, zero, suc, ◌<◌, ◌≤◌, ◌⊎◌, Bool, true, false, List, [], ◌∷◌, length, get_or, Some, None}
+use Rattle.std.specs.Prelude.{◌≡◌, ℕ, zero, suc, ◌<◌, ◌⊎◌, Bool, true, false, List, [], ◌∷◌, length, get_or, Some, None}
 use Rattle.mirror_rules.specs.Tree.{Image, Cell, Store, Seat, In, Out}
 use Rattle.mirror_rules.specs.Claims.{Nth}
 

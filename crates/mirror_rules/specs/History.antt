@@ -31,20 +31,20 @@ pub data Since (size n : ℕ) (F : List (List ℕ)) : List (ℕ × List ℕ) →
   since_flush : {ws : List (ℕ × List ℕ)} {L : ℕ → Bool} {o q : Bool} {s : Says} {xs ys : List Seat} → Since size n F ws L (Session o xs) → Flushes o xs s q ys → Since size n F ws L (Session q ys)
   since_close : {ws : List (ℕ × List ℕ)} {L : ℕ → Bool} {o : Bool} {xs : List Seat} {ss : List Store} → Since size n F ws L (Session o xs) → Pairs Leaves xs ss → Since size n F ws L (Closed ss)
   -- a guarding disk is up, and none is bad
-  since_open : {ws : List (ℕ × List ℕ)} {L : ℕ → Bool} {d : ℕ} {b owed : Bool} {c : Cell} {ss : List Store} {xs us : List Seat} → Since size n F ws L (Closed ss) → Pairs Meets ss xs → Every (Sized n) ss → Opens size n xs (Good owed) us
+  since_open : {ws : List (ℕ × List ℕ)} {L : ℕ → Bool} {d : ℕ} {b owed : Bool} {c : Cell} {ss : List Store} {xs us : List Seat} → Since size n F ws L (Closed ss) → Pairs Meets ss xs → Every (Sized n) ss → Opens true size n xs (Good owed) us
       → L d ≡ true → Nth d xs (In b c) → Every NotBad xs → top us ≤ limit → Since size n F ws L (Session owed us)
-  since_refused : {ws : List (ℕ × List ℕ)} {L : ℕ → Bool} {d : ℕ} {b : Bool} {c : Cell} {o : Outcome} {ss tt : List Store} {xs us : List Seat} → Since size n F ws L (Closed ss) → Pairs Meets ss xs → Every (Sized n) ss → Opens size n xs o us
+  since_refused : {ws : List (ℕ × List ℕ)} {L : ℕ → Bool} {d : ℕ} {b : Bool} {c : Cell} {o : Outcome} {ss tt : List Store} {xs us : List Seat} → Since size n F ws L (Closed ss) → Pairs Meets ss xs → Every (Sized n) ss → Opens true size n xs o us
       → L d ≡ true → Nth d xs (In b c) → Every NotBad xs → Pairs Leaves us tt → Since size n F ws L (Closed tt)
   -- a bad one too: all go on; where a disk was formatted, those that end above generation 1
   since_open_bad : {ws : List (ℕ × List ℕ)} {L : ℕ → Bool} {d : ℕ} {b owed : Bool} {c : Cell} {ss : List Store} {xs us : List Seat} (K : ℕ → Bool) → Since size n F ws L (Closed ss) → Pairs Meets ss xs → Every (Sized n) ss
-      → Opens size n xs (Good owed) us → L d ≡ true → Nth d xs (In b c) → ((e : ℕ) → K e ≡ true → L e ≡ true) → ((e : ℕ) (i : Image) → K e ≡ true → At Shows e us i → Made ss us → 1 < i.generation) → top us ≤ limit
+      → Opens true size n xs (Good owed) us → L d ≡ true → Nth d xs (In b c) → ((e : ℕ) → K e ≡ true → L e ≡ true) → ((e : ℕ) (i : Image) → K e ≡ true → At Shows e us i → Made ss us → 1 < i.generation) → top us ≤ limit
       → Since size n F ws K (Session owed us)
   since_refused_bad : {ws : List (ℕ × List ℕ)} {L : ℕ → Bool} {d : ℕ} {b : Bool} {c : Cell} {o : Outcome} {ss tt : List Store} {xs us : List Seat} (K : ℕ → Bool) → Since size n F ws L (Closed ss) → Pairs Meets ss xs → Every (Sized n) ss
-      → Opens size n xs o us → L d ≡ true → Nth d xs (In b c) → ((e : ℕ) → K e ≡ true → L e ≡ true) → ((e : ℕ) (i : Image) → K e ≡ true → At Shows e us i → Made ss us → 1 < i.generation) → Pairs Leaves us tt → Since size n F ws K (Closed tt)
+      → Opens true size n xs o us → L d ≡ true → Nth d xs (In b c) → ((e : ℕ) → K e ≡ true → L e ≡ true) → ((e : ℕ) (i : Image) → K e ≡ true → At Shows e us i → Made ss us → 1 < i.generation) → Pairs Leaves us tt → Since size n F ws K (Closed tt)
   -- none is up: reads, writes, a close, no flush
-  since_astray : {ws : List (ℕ × List ℕ)} {L : ℕ → Bool} {owed : Bool} {ss : List Store} {xs us : List Seat} → Since size n F ws L (Closed ss) → Pairs Meets ss xs → Every (Sized n) ss → Opens size n xs (Good owed) us → Away L xs → Every NotBad xs
+  since_astray : {ws : List (ℕ × List ℕ)} {L : ℕ → Bool} {owed : Bool} {ss : List Store} {xs us : List Seat} → Since size n F ws L (Closed ss) → Pairs Meets ss xs → Every (Sized n) ss → Opens true size n xs (Good owed) us → Away L xs → Every NotBad xs
       → Since size n F ws L (Astray owed us)
-  since_astray_refused : {ws : List (ℕ × List ℕ)} {L : ℕ → Bool} {o : Outcome} {ss tt : List Store} {xs us : List Seat} → Since size n F ws L (Closed ss) → Pairs Meets ss xs → Every (Sized n) ss → Opens size n xs o us → Away L xs → Every NotBad xs
+  since_astray_refused : {ws : List (ℕ × List ℕ)} {L : ℕ → Bool} {o : Outcome} {ss tt : List Store} {xs us : List Seat} → Since size n F ws L (Closed ss) → Pairs Meets ss xs → Every (Sized n) ss → Opens true size n xs o us → Away L xs → Every NotBad xs
       → Pairs Leaves us tt → Since size n F ws L (Closed tt)
   since_astray_read : {ws : List (ℕ × List ℕ)} {L : ℕ → Bool} {o : Bool} {s : Says} {xs ys : List Seat} → Since size n F ws L (Astray o xs) → Pairs (Looked s) xs ys → Since size n F ws L (Astray o ys)
   since_astray_write : {ws : List (ℕ × List ℕ)} {L : ℕ → Bool} {p : ℕ} {x : List ℕ} {o q : Bool} {s : Says} {xs ys : List Seat} → Since size n F ws L (Astray o xs) → Puts p x o xs s q ys → Since size n F ((p, x) ∷ ws) L (Astray q ys)
@@ -69,5 +69,5 @@ pub data Chain (size n : ℕ) : Link → Type 0 where
   chain_flush : {o q : Bool} {s : Says} {xs ys : List Seat} → Chain size n (Running o xs) → Flushes o xs s q ys → top ys < limit → Chain size n (Running q ys)
   chain_end : {o q w : Bool} {F : List (List ℕ)} {xs ys : List Seat} {ss : List Store} → Chain size n (Running o xs) → Flushes o xs (Done w) q ys → top ys < limit → Every (HasPages F) xs → Pairs Leaves ys ss → Chain size n (Ended F (live_at ys) ss)
   -- one of the disks that were live is up
-  chain_open : {F : List (List ℕ)} {L : ℕ → Bool} {d : ℕ} {b owed : Bool} {c : Cell} {ss : List Store} {xs us : List Seat} → Chain size n (Ended F L ss) → Pairs Meets ss xs → Every (Sized n) ss → Opens size n xs (Good owed) us → L d ≡ true → Nth d xs (In b c)
+  chain_open : {F : List (List ℕ)} {L : ℕ → Bool} {d : ℕ} {b owed : Bool} {c : Cell} {ss : List Store} {xs us : List Seat} → Chain size n (Ended F L ss) → Pairs Meets ss xs → Every (Sized n) ss → Opens true size n xs (Good owed) us → L d ≡ true → Nth d xs (In b c)
       → top us ≤ limit → Chain size n (Running owed us)

@@ -28,24 +28,24 @@ pub fn calls_keep_guards()
 /// and no disk is bad, the guards go on.
 pub fn openings_keep_guards()
     ensures within { (F : List (List ℕ)) (ws : List (ℕ × List ℕ)) (L : ℕ → Bool) (size n d : ℕ) (b owed : Bool) (c : Cell) (ss : List Found) (xs us : List Seat) →
-        Opens size n xs (Good owed) us → Pairs Meets ss xs → Every (Sized n) ss → L d ≡ true → Nth d xs (In b c) → Guarded (Since_then F ws) L ss → (G : List (List ℕ)) × Every (HasPages G) us × Within (Since_then F ws) G }
+        Opens true size n xs (Good owed) us → Pairs Meets ss xs → Every (Sized n) ss → L d ≡ true → Nth d xs (In b c) → Guarded (Since_then F ws) L ss → (G : List (List ℕ)) × Every (HasPages G) us × Within (Since_then F ws) G }
     ensures open { (F : List (List ℕ)) (ws : List (ℕ × List ℕ)) (L : ℕ → Bool) (size n d : ℕ) (b : Bool) (c : Cell) (o : Outcome) (ss : List Found) (xs us : List Seat) →
-        Opens size n xs o us → Pairs Meets ss xs → Every (Sized n) ss → L d ≡ true → Nth d xs (In b c) → Every NotBad xs → Guarded (Since_then F ws) L ss → Guarding (Since_then F ws) L us }
+        Opens true size n xs o us → Pairs Meets ss xs → Every (Sized n) ss → L d ≡ true → Nth d xs (In b c) → Every NotBad xs → Guarded (Since_then F ws) L ss → Guarding (Since_then F ws) L us }
     ensures open_bad { (F : List (List ℕ)) (ws : List (ℕ × List ℕ)) (L K : ℕ → Bool) (size n d : ℕ) (b : Bool) (c : Cell) (o : Outcome) (ss : List Found) (xs us : List Seat) →
-        Opens size n xs o us → Pairs Meets ss xs → Every (Sized n) ss → L d ≡ true → Nth d xs (In b c) → Guarded (Since_then F ws) L ss →
+        Opens true size n xs o us → Pairs Meets ss xs → Every (Sized n) ss → L d ≡ true → Nth d xs (In b c) → Guarded (Since_then F ws) L ss →
         ((e : ℕ) → K e ≡ true → L e ≡ true) → ((e : ℕ) (i : Image) → K e ≡ true → At Shows e us i → Made ss us → 1 < i.generation) → Guarding (Since_then F ws) K us }
     ensures open_live { (F : List (List ℕ)) (ws : List (ℕ × List ℕ)) (L K : ℕ → Bool) (size n d : ℕ) (b owed : Bool) (c : Cell) (ss : List Found) (xs us : List Seat) →
-        Opens size n xs (Good owed) us → Pairs Meets ss xs → Every (Sized n) ss → L d ≡ true → Nth d xs (In b c) → Guarded (Since_then F ws) L ss →
+        Opens true size n xs (Good owed) us → Pairs Meets ss xs → Every (Sized n) ss → L d ≡ true → Nth d xs (In b c) → Guarded (Since_then F ws) L ss →
         ((e : ℕ) → K e ≡ true → L e ≡ true) → ((e : ℕ) (i : Image) → K e ≡ true → At Stands e ss i → (1 < i.generation) ⊎ (live_at us e ≡ true)) → Guarding (Since_then F ws) K us }
     ensures astray { (F : List (List ℕ)) (ws : List (ℕ × List ℕ)) (L : ℕ → Bool) (size n : ℕ) (o : Outcome) (ss : List Found) (xs us : List Seat) →
-        Opens size n xs o us → Pairs Meets ss xs → Every (Sized n) ss → Every NotBad xs → Away L xs → Guarded (Since_then F ws) L ss → Guarding (Since_then F ws) L us }
+        Opens true size n xs o us → Pairs Meets ss xs → Every (Sized n) ss → Every NotBad xs → Away L xs → Guarded (Since_then F ws) L ss → Guarding (Since_then F ws) L us }
 {}
 
 /// The durability of a sync, over whole histories. After a flush that was taken, each opening that answers Ok gives for each
 /// page what that flush made lasting, or something written later, as long as a disk that guards is up in it.
 pub fn synced_pages_last()
     ensures { (size n d : ℕ) (F : List (List ℕ)) (ws : List (ℕ × List ℕ)) (L : ℕ → Bool) (b owed : Bool) (c : Cell) (ss : List Found) (xs us : List Seat) →
-        Since size n F ws L (Closed ss) → Pairs Meets ss xs → Every (Sized n) ss → Opens size n xs (Good owed) us → L d ≡ true → Nth d xs (In b c) →
+        Since size n F ws L (Closed ss) → Pairs Meets ss xs → Every (Sized n) ss → Opens true size n xs (Good owed) us → L d ≡ true → Nth d xs (In b c) →
         (G : List (List ℕ)) × Every (HasPages G) us × Within (Since_then F ws) G }
 {}
 
@@ -53,6 +53,6 @@ pub fn synced_pages_last()
 /// mount before, every opening gives the pages of the last flush. Nothing is asked of generations but the limit.
 pub fn chain_of_mounts_lasts()
     ensures { (size n d : ℕ) (F : List (List ℕ)) (L : ℕ → Bool) (b owed : Bool) (c : Cell) (ss : List Found) (xs us : List Seat) →
-        Chain size n (Ended F L ss) → Pairs Meets ss xs → Every (Sized n) ss → Opens size n xs (Good owed) us → L d ≡ true → Nth d xs (In b c) →
+        Chain size n (Ended F L ss) → Pairs Meets ss xs → Every (Sized n) ss → Opens true size n xs (Good owed) us → L d ≡ true → Nth d xs (In b c) →
         (G : List (List ℕ)) × Every (HasPages G) us × Within (Now F) G }
 {}

@@ -1,16 +1,16 @@
-use Rattle.mirror_rules.proofs.GivesLaws.{opens-answer}
+use Rattle.mirror_rules.proofs.GivesLaws.{opens-bad}
 use Rattle.mirror_rules.proofs.LeftLaws.{opens-excused}
 use Rattle.mirror_rules.proofs.BlameLaws.{opens-whole, opens-blame}
 use Rattle.mirror_rules.proofs.opening.opening_leaves_out_who_refused.Goals as goal
 
 pub returns-clause-left : goal.returns-clause-left
-returns-clause-left c = λ size n owed ss xs us h m. opens-excused h m
+returns-clause-left c = λ told owed size n ss xs us h m. opens-excused h m
 
 pub returns-clause-whole : goal.returns-clause-whole
-returns-clause-whole c = λ size n owed ss xs us h m c. opens-whole h m c
+returns-clause-whole c = λ told owed size n ss xs us h m c. opens-whole h m c
 
 pub returns-clause-blames : goal.returns-clause-blames
-returns-clause-blames c = λ size n d k ss xs us h m. opens-blame h m
+returns-clause-blames c = λ told size n d k ss xs us h m. opens-blame h m
 
 pub returns-clause-bad : goal.returns-clause-bad
-returns-clause-bad c = λ size n d ss xs us h m z. opens-answer h m z
+returns-clause-bad c = λ told size n d xs us h. opens-bad h

@@ -1,0 +1,99 @@
+//! A ground as a stack asks for it.
+
+ghost use Rattle.std.specs.Prelude.{◌≡◌, ◌<◌, ℕ, List, [], ◌∷◌, Bool, Some, OnOk, OnErr, IfErr, length, true};
+ghost use Rattle.disk_layer.specs.Seen.{Keeps, IsCalm, IsFault, ReadsPage, AllKept, with_page};
+ghost use Rattle.mirror_rules.specs.Tree as machine;
+ghost use Rattle.mirror_rules.specs.Claims.{Every};
+ghost use Rattle.mirror_rules.specs.Guards.{Guarding, Within, Lower, live_at};
+ghost use Rattle.mirror_rules.specs.History.{Since_then};
+ghost use Rattle.mirror_rules.specs.Steps.{Says, Look, Puts, Flushes};
+ghost use Rattle.mirror_layer.specs.Calls.{answered};
+ghost use Rattle.mirror_layer.specs.Ground.{IsGround, PutsPage, outcome, seen_of};
+ghost use Rattle.mirror_layer.specs.Stores.{GivesBack};
+
+use crate::close::give_back;
+use crate::ground::MirrorGround;
+use crate::node::Shut;
+use disk_layer::{Disk, Ground, StoreFault};
+use spr_io::Store;
+use std::marker::Model;
+
+/// The disks under a file, in mirrors.
+#[derive(Drop)]
+pub struct AnyGround<S: Store> {
+    ground: MirrorGround<Disk<S>, Shut<S>>,
+    /// A place for the store of each disk, by its number.
+    places: Vec<Option<S>>,
+    /// The list in which the stores came, emptied.
+    emptied: Vec<S>,
+}
+
+impl<S: Store> Model for AnyGround<S> {
+    ghost use Rattle.std.specs.Prelude.{vec_capacity};
+    ghost use Rattle.mirror_layer.specs.Ground.{Ground};
+    ghost use Rattle.mirror_layer.specs.Stores.{HasRoom};
+
+    ghost Value = { Ground };
+
+    ghost view = { λ a. a.ground };
+
+    ghost invariant = { λ a. HasRoom a.ground.beside a.places.items a.emptied.items (vec_capacity a.emptied) };
+}
+
+impl<S: Store> AnyGround<S> {
+    /// Gives the stores back, in the order of the disks. It asks no store, and takes no memory.
+    pub fn close(self) -> Vec<S>
+        ensures { GivesBack (λ s. S.content s) (λ s. S.faults s) self.beside self.row result.items }
+    {
+        let mut places = self.places;
+        give_back(self.ground.into_node(), &mut places, self.emptied)
+    }
+}
+
+impl<S: Store> Ground for AnyGround<S> {
+    ghost seen = { seen_of };
+
+    fn read(&mut self, page: u32, out: &mut [u8]) -> Result<(), StoreFault>
+        requires page { page < self.old.shape.pages }
+        requires size { length out.old ≡ self.old.shape.page_size }
+        ensures bytes { OnOk result (ReadsPage (seen_of self.old).pages page out.new) }
+        ensures same { (seen_of self.new).pages ≡ (seen_of self.old).pages }
+        ensures keeps { Keeps (seen_of self.old) (seen_of self.new) }
+        ensures calm { OnOk result (IsCalm (seen_of self.old) (seen_of self.new)) }
+        ensures fault { IfErr result (IsFault (seen_of self.old) (seen_of self.new)) }
+        ensures look { (x : List ℕ) × Look page x self.old.row (answered result) self.new.row }
+        ensures rest { self.new ≡ record self.old { row = self.new.row } }
+        ensures guards { (F : List (List ℕ)) (ws : List (ℕ × List ℕ)) (L : ℕ → Bool) → Guarding (Since_then F ws) L self.old.row → Guarding (Since_then F ws) L self.new.row }
+    {
+        Ground::read(&mut self.ground, page, out)
+    }
+
+    fn write(&mut self, page: u32, bytes: &[u8]) -> Result<(), StoreFault>
+        requires page { page < self.old.shape.pages }
+        requires size { length bytes.now ≡ self.old.shape.page_size }
+        ensures ok { OnOk result ((seen_of self.new).pages ≡ with_page page bytes.now (seen_of self.old).pages) }
+        ensures err { OnErr result ((seen_of self.new).pages ≡ (seen_of self.old).pages) }
+        ensures keeps { Keeps (seen_of self.old) (seen_of self.new) }
+        ensures calm { OnOk result (IsCalm (seen_of self.old) (seen_of self.new)) }
+        ensures fault { IfErr result (IsFault (seen_of self.old) (seen_of self.new)) }
+        ensures puts { PutsPage page bytes.now self.old result self.new }
+        ensures rest { self.new ≡ record self.old { owed = self.new.owed; row = self.new.row } }
+        ensures guards { (F : List (List ℕ)) (ws : List (ℕ × List ℕ)) (L : ℕ → Bool) → Guarding (Since_then F ws) L self.old.row → Guarding (Since_then F ((page, bytes.now) ∷ ws)) L self.new.row }
+    {
+        Ground::write(&mut self.ground, page, bytes)
+    }
+
+    fn flush(&mut self) -> Result<(), StoreFault>
+        ensures same { (seen_of self.new).pages ≡ (seen_of self.old).pages }
+        ensures ok { OnOk result (AllKept (seen_of self.new) (seen_of self.new).pages) }
+        ensures keeps { Keeps (seen_of self.old) (seen_of self.new) }
+        ensures calm { OnOk result (IsCalm (seen_of self.old) (seen_of self.new)) }
+        ensures fault { IfErr result (IsFault (seen_of self.old) (seen_of self.new)) }
+        ensures flushes { Flushes self.old.owed self.old.row (answered result) self.new.owed self.new.row }
+        ensures rest { self.new ≡ record self.old { owed = self.new.owed; row = self.new.row } }
+        ensures guards { (F : List (List ℕ)) (ws : List (ℕ × List ℕ)) (L : ℕ → Bool) (G : List (List ℕ)) → (seen_of self.old).pages ≡ Some G → Within (Since_then F ws) G → Guarding (Since_then F ws) L self.old.row → Guarding (Since_then F ws) L self.new.row }
+        ensures begins { OnOk result ((G : List (List ℕ)) → (seen_of self.old).pages ≡ Some G → machine.top self.new.row < machine.limit → Every (Lower (machine.top self.new.row)) self.new.row → Guarding (Since_then G []) (live_at self.new.row) self.new.row) }
+    {
+        Ground::flush(&mut self.ground)
+    }
+}
