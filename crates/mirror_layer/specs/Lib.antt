@@ -8,3 +8,4 @@ pub mod Places
 pub mod Winning
 pub mod Meeting
 pub mod Ceding
+pub mod Choosing
