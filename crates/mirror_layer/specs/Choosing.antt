@@ -1,5 +1,5 @@
 -- The first part of an opening: a disk wins, and the other good disks join it; a winner that cannot be read may give way.
-use Rattle.std.specs.Prelude.{ℕ, length, Bool, true, false, List, ⊥}
+use Rattle.std.specs.Prelude.{ℕ, length, Bool, true, false, List}
 use Rattle.mirror_rules.specs.Tree.{Image, Seat}
 use Rattle.mirror_rules.specs.Steps.{Says, Done, Fault}
 use Rattle.mirror_rules.specs.Opening.{Wins, Enters, Yields}
