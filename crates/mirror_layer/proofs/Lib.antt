@@ -14,3 +14,8 @@ pub mod WinSteps
 pub mod MeetSteps
 pub mod AdmitSteps
 pub mod CedeSteps
+pub mod FillSteps
+pub mod RefuseSteps
+pub mod OpenSteps
+pub mod NumberSteps
+pub mod BringSteps

@@ -9,3 +9,6 @@ pub mod Winning
 pub mod Meeting
 pub mod Ceding
 pub mod Choosing
+pub mod Filling
+pub mod Bringing
+pub mod Refusing

@@ -13,6 +13,7 @@ use Rattle.mirror_rules.specs.Fates.{disk_of}
 use Rattle.mirror_rules.specs.Tree as machine
 use Rattle.mirror_rules.specs.Claims.{Pairs}
 use Rattle.mirror_rules.specs.Opening.{Meets}
+use Rattle.mirror_layer.specs.declared.node.Mark.TheVariants as mark
 use Rattle.mirror_layer.specs.declared.node.Node.{Node, Opened, Shut, Coherency', Mirror'}
 use Rattle.mirror_layer.specs.Shut.{ShutSeen}
 use Rattle.mirror_layer.specs.Stores.{Finds}
@@ -81,3 +82,17 @@ AllEmpty shape (Opened m d) = ⊥
 AllEmpty shape (Shut s) = IsEmpty shape s
 AllEmpty shape (Coherency' p t) = AllEmpty shape t
 AllEmpty shape (Mirror' p l q r) = AllEmpty shape l × AllEmpty shape r
+
+-- a disk that was opened is not live, and has not given way
+abbrev pub AllLeft : {D H : Type 0} → Node D H → Type 0
+AllLeft (Opened m d) = m ≡ mark.Left
+AllLeft (Shut s) = Unit {0}
+AllLeft (Coherency' p t) = AllLeft t
+AllLeft (Mirror' p l q r) = AllLeft l × AllLeft r
+
+-- each disk that was not opened has its store
+abbrev pub AllThere : {D H : Type 0} → Node D H → Type 0
+AllThere (Opened m d) = Unit {0}
+AllThere (Shut s) = s.there ≡ true
+AllThere (Coherency' p t) = AllThere t
+AllThere (Mirror' p l q r) = AllThere l × AllThere r

@@ -5,21 +5,27 @@ mod admit;
 mod any;
 mod asked;
 mod cede;
+mod choose;
 mod close;
 mod enter;
+mod fill;
 mod flush;
 mod ground;
 mod join;
 mod meet;
 mod node;
+mod open;
 mod place;
 mod plan;
+mod refuse;
+mod renew;
 mod round;
 mod win;
 
 pub use any::AnyGround;
 pub use asked::{Call, Held, Side, hold};
 pub use ground::MirrorGround;
+pub use refuse::{OpenAll, Refusal};
 pub use node::{Kept, Mark, Node, Shut, Unopened};
 
 #[cfg(test)]

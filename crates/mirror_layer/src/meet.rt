@@ -5,7 +5,7 @@ ghost use Rattle.disk_format.specs.Shape.{IsShape};
 ghost use Rattle.disk_layer.specs.declared.refused.OpenWhy.TheVariants.{Memory};
 ghost use Rattle.mirror_rules.specs.Tree as machine;
 ghost use Rattle.mirror_layer.specs.View.{beside_in, tree_of};
-ghost use Rattle.mirror_layer.specs.Meeting.{AllNew, IsNew, MeetsLeaf, Met, Rested, planned, shuts_in};
+ghost use Rattle.mirror_layer.specs.Meeting.{AllLeft, AllNew, AllThere, IsNew, MeetsLeaf, Met, Rested, planned, shuts_in};
 
 use crate::asked::hold;
 use crate::node::{Mark, Node, Shut};
@@ -53,6 +53,8 @@ pub(crate) fn meet<S: Store>(
     ensures rests { Rested (shuts_in node.old) (machine.seats (tree_of node.new)) }
     ensures beside { beside_in node.new ≡ beside_in node.old }
     ensures planned { planned (tree_of node.new) ≡ planned (tree_of node.old) }
+    ensures left { OnOk result (AllLeft node.new) }
+    ensures there { OnOk result (AllThere node.new) }
 {
     match node {
         Node::Opened(_, _) => unreachable!(),

@@ -1,0 +1,98 @@
+-- A tree whose disks have their stores, over plain variables.
+use Rattle.std.proofs.Common.{◌≡◌, ◌≢◌, ℕ, zero, suc, ◌<◌, ◌≤◌, Bool, true, false, not, ◌||◌, List, [], ◌∷◌, length, get_or, map, Option, Some, None, refl, sym, ap, ◌∙◌, subst, arith}
+use Rattle.std.specs.Prelude.{is_some, IfSome}
+use Rattle.std.specs.List.Sorted.{IsPermutation}
+use Rattle.spr_io.specs.Content.{Content}
+use Rattle.disk_format.specs.declared.shape.ImageShape.{ImageShape}
+use Rattle.disk_layer.specs.Disk.{Suits}
+use Rattle.stack_accept.specs.Plan.{numbers_below}
+use Rattle.mirror_rules.specs.Tree.{Seat}
+use Rattle.mirror_rules.specs.Tree as machine
+use Rattle.mirror_rules.specs.Claims.{Every, every_none, every_more, Has, has_here, has_later, Pairs, pairs_none, pairs_more, Nth, nth_here, nth_later}
+use Rattle.mirror_layer.specs.Shut.{ShutSeen}
+use Rattle.mirror_layer.specs.View.{Beside}
+use Rattle.mirror_layer.specs.Ground.{Differ}
+use Rattle.mirror_layer.specs.Stores.{Finds, Numbered}
+use Rattle.mirror_layer.specs.Filling.{HasStore, has_store, Fills, fills, Apart, beside_of_shut}
+use Rattle.mirror_layer.specs.Meeting.{IsNew, Found}
+use Rattle.mirror_layer.specs.Bringing.{Brought, brought, Lies, lies}
+use Rattle.mirror_layer.proofs.NumberSteps.{numbers-apart, numbers-many, numbers-under, numbers-each}
+
+-- each store has its place
+placed-nth : {T : Type 0} (stores : List T) (n : ℕ) (t : T) → get_or (map (λ s. Some s) stores) n None ≡ Some t → Nth n stores t
+placed-nth [] n t e = cc
+placed-nth (s ∷ stores) zero t e = let q : s ≡ t = cc in subst (λ v. Nth zero (s ∷ stores) v) q nth_here
+placed-nth (s ∷ stores) (suc n) t e = nth_later (placed-nth stores n t e)
+
+-- the store of each number that is there
+pub placed-stores : {T : Type 0} {size number : T → ℕ} {shape : ImageShape} (stores : List T) (ns : List ℕ) → Every (λ n. n < length stores) ns → Every (λ s. Suits shape (size s) (number s)) stores
+    → Every (HasStore size number shape (map (λ s. Some s) stores)) ns
+placed-stores stores [] every_none h = every_none
+placed-stores {size = size} {number = number} {shape = shape} stores (n ∷ ns) (every_more l ls) h = every_more (one stores n l h) (placed-stores stores ns ls h)
+  where
+    one : {T : Type 0} {size number : T → ℕ} {shape : ImageShape} (stores : List T) (n : ℕ) → n < length stores → Every (λ s. Suits shape (size s) (number s)) stores → HasStore size number shape (map (λ s. Some s) stores) n
+    one [] n l h = absurd (omega (arith, l))
+    one (s ∷ stores) zero l (every_more p q) = has_store {t = s} refl p
+    one (s ∷ stores) (suc n) l (every_more p q) = elim (one stores n (omega (arith, l)) q) [ has_store {t} e f ↦ has_store {t = t} e f ]
+
+-- what the machine sees of them
+pub brought-all : {T : Type 0} {content : T → Option Content} {faults : T → ℕ} {shape : ImageShape} {stores : List T} {ns : List ℕ} {ss : List ShutSeen} {ts : List machine.Store}
+    → Pairs (Fills content faults shape (map (λ s. Some s) stores)) ns ss → Pairs Found ss ts → Pairs (Brought content faults shape stores) ns ts
+brought-all pairs_none pairs_none = pairs_none
+brought-all {content = content} {faults = faults} {shape = shape} {stores = stores} (pairs_more {x = n} {y = s} (fills {t} e d h c f) fs) (pairs_more {y = u} g gs) =
+    pairs_more (brought {t = t} (placed-nth stores n t e) (subst (λ v. Finds shape n (content t) v u) f (subst (λ v. Finds shape n v s.faults u) c (subst (λ v. Finds shape v s.content s.faults u) d (subst (λ v. Finds v s.disk s.content s.faults u) h g))))) (brought-all fs gs)
+
+pub lies-all : {T : Type 0} {content : T → Option Content} {faults : T → ℕ} {shape : ImageShape} {stores : List T} {ns : List ℕ} {ss : List ShutSeen}
+    → Pairs (Fills content faults shape (map (λ s. Some s) stores)) ns ss → Every IsNew ss → Pairs (Lies content faults shape stores) ns (map beside_of_shut ss)
+lies-all pairs_none every_none = pairs_none
+lies-all {stores = stores} (pairs_more {x = n} {y = s} (fills {t} e d h c f) fs) (every_more w ws) =
+    pairs_more (lies {t = t} (placed-nth stores n t e) (rw (d, h, c, w.there, w.taken ∙ f) refl)) (lies-all fs ws)
+
+-- what is said of each of them
+pub lies-there : {T : Type 0} {content : T → Option Content} {faults : T → ℕ} {shape : ImageShape} {stores : List T} {ns : List ℕ} {bs : List Beside} → Pairs (Lies content faults shape stores) ns bs → Every (λ (b : Beside). b.there ≡ true) bs
+lies-there pairs_none = every_none
+lies-there (pairs_more (lies a e) h) = every_more (ap (λ (b : Beside). b.there) e) (lies-there h)
+
+pub lies-shapes : {T : Type 0} {content : T → Option Content} {faults : T → ℕ} {shape : ImageShape} {stores : List T} {ns : List ℕ} {bs : List Beside} → Pairs (Lies content faults shape stores) ns bs → Every (λ (b : Beside). b.shape ≡ shape) bs
+lies-shapes pairs_none = every_none
+lies-shapes (pairs_more (lies a e) h) = every_more (ap (λ (b : Beside). b.shape) e) (lies-shapes h)
+
+lies-differ : {T : Type 0} {content : T → Option Content} {faults : T → ℕ} {shape : ImageShape} {stores : List T} {ns : List ℕ} {bs : List Beside} → Pairs (Lies content faults shape stores) ns bs → Apart ns → Differ bs
+lies-differ pairs_none a = tt
+lies-differ (pairs_more {x = n} {y = b} (lies c e) h) a = (others h (ap (λ (b : Beside). b.disk) e) a.0, lies-differ h a.1)
+  where
+    others : {T : Type 0} {content : T → Option Content} {faults : T → ℕ} {shape : ImageShape} {stores : List T} {n : ℕ} {b : Beside} {ns : List ℕ} {bs : List Beside} → Pairs (Lies content faults shape stores) ns bs → b.disk ≡ n
+        → Every (λ m. m ≢ n) ns → Every (λ (x : Beside). x.disk ≢ b.disk) bs
+    others pairs_none q every_none = every_none
+    others (pairs_more (lies c e) h) q (every_more f g) = every_more (λ z. f (sym (ap (λ (b : Beside). b.disk) e) ∙ (z ∙ q))) (others h q g)
+
+lies-every : {T : Type 0} {content : T → Option Content} {faults : T → ℕ} {shape : ImageShape} {stores : List T} {P : ℕ → Type 0} {ns : List ℕ} {bs : List Beside} → Pairs (Lies content faults shape stores) ns bs → Every P ns → Every (λ (b : Beside). P b.disk) bs
+lies-every pairs_none every_none = every_none
+lies-every {P = P} (pairs_more (lies c e) h) (every_more f g) = every_more (subst P (sym (ap (λ (b : Beside). b.disk) e)) f) (lies-every h g)
+
+lies-has : {T : Type 0} {content : T → Option Content} {faults : T → ℕ} {shape : ImageShape} {stores : List T} {d : ℕ} {ns : List ℕ} {bs : List Beside} → Pairs (Lies content faults shape stores) ns bs → Has (λ m. m ≡ d) ns → Has (λ (b : Beside). b.disk ≡ d) bs
+lies-has pairs_none h = elim h [ ]
+lies-has (pairs_more (lies c e) h) (has_here q) = has_here (ap (λ (b : Beside). b.disk) e ∙ q)
+lies-has (pairs_more (lies c e) h) (has_later i) = has_later (lies-has h i)
+
+lies-many : {T : Type 0} {content : T → Option Content} {faults : T → ℕ} {shape : ImageShape} {stores : List T} {ns : List ℕ} {bs : List Beside} → Pairs (Lies content faults shape stores) ns bs → length bs ≡ length ns
+lies-many pairs_none = refl
+lies-many (pairs_more a h) = ap suc (lies-many h)
+
+-- the disks, if the plan has each once
+pub record Ordered {T : Type 0} (stores : List T) (bs : List Beside) : Type 0 where
+  pub differ : Differ bs
+  pub numbered : Numbered bs
+  pub many : length bs ≡ length stores
+
+pub lies-ordered : {T : Type 0} {content : T → Option Content} {faults : T → ℕ} {shape : ImageShape} {stores : List T} {ns : List ℕ} {bs : List Beside} → Pairs (Lies content faults shape stores) ns bs → IsPermutation ns (numbers_below (length stores))
+    → Ordered stores bs
+lies-ordered {stores = stores} {ns = ns} {bs = bs} h p =
+    let many : length bs ≡ length stores = lies-many h ∙ numbers-many ns (length stores) p in record {
+      differ = lies-differ h (numbers-apart ns (length stores) p);
+      numbered = record {
+        below = lies-every {P = λ n. n < length bs} h (subst (λ k. Every (λ m. m < k) ns) (sym many) (numbers-under ns (length stores) p));
+        each = λ n l. lies-has h (numbers-each ns (length stores) p n (omega (arith, l, many)));
+      };
+      many = many;
+    }

@@ -1,0 +1,97 @@
+-- An opening, over plain variables.
+use Rattle.std.proofs.Common.{◌≡◌, ℕ, Bool, true, false, not, List, [], ◌∷◌, ◌++◌, length, map, Some, Result, Ok, Err, refl, sym, ap, ◌∙◌, subst}
+use Rattle.disk_format.specs.declared.shape.ImageShape.{ImageShape}
+use Rattle.disk_format.specs.declared.why.BadImage.{BadImage}
+use Rattle.disk_layer.specs.declared.fault.StoreFault.{StoreFault}
+use Rattle.mirror_rules.specs.Tree.{Store, Seat, In, Out, seats}
+use Rattle.mirror_rules.specs.Claims.{Every, every_none, every_more, Pairs, pairs_none, pairs_more}
+use Rattle.mirror_rules.specs.Steps.{Says, Done, Fault}
+use Rattle.mirror_rules.specs.Opening.{Meets, meets_good, meets_bad, meets_down, IsBad, NotGood, Renews, Good, Bad, Lost, Opens, open_down, open_bad, open_good, open_gone, open_again, open_unrenewed, all_live}
+use Rattle.mirror_layer.specs.declared.node.Node.{Node, Opened, Shut, Coherency', Mirror'}
+use Rattle.mirror_layer.specs.declared.refuse.Refusal.{Refusal}
+use Rattle.mirror_layer.specs.declared.refuse.Refusal.TheVariants as why
+use Rattle.mirror_layer.specs.Shut.{ShutSeen}
+use Rattle.mirror_layer.specs.View.{Beside, tree_of, beside_in, store_of}
+use Rattle.mirror_layer.specs.Calls.{answered, all_told}
+use Rattle.mirror_layer.specs.Ceding.{AtFirst, first_in, first_out}
+use Rattle.mirror_layer.specs.Choosing.{Chooses, chosen, chosen_gone, chosen_again}
+use Rattle.mirror_layer.specs.Filling.{beside_of_shut}
+use Rattle.mirror_layer.specs.Meeting.{IsNew, AllNew, Found, Met, shuts_in}
+use Rattle.mirror_layer.specs.Refusing.{IsFirstBad, Refuses}
+use Rattle.mirror_layer.specs.Bringing.{Goes, UnitedAs}
+use Rattle.mirror_layer.proofs.CloseSteps.{every_both}
+use Rattle.mirror_layer.proofs.PlaceSteps.{row-length}
+
+map-both : {A B : Type 0} (f : A → B) (xs ys : List A) → map f (xs ++ ys) ≡ map f xs ++ map f ys
+map-both f [] ys = refl
+map-both f (x ∷ xs) ys = ap (λ l. f x ∷ l) (map-both f xs ys)
+
+-- disks of which nothing is known yet
+pub news : {D H : Type 0} (n : Node D H) → AllNew n → Every IsNew (shuts_in n) × (beside_in n ≡ map beside_of_shut (shuts_in n))
+news (Opened m d) a = absurd a
+news (Shut s) a = (every_more a every_none, refl)
+news (Coherency' p t) a = news t a
+news (Mirror' p l q r) a =
+    let x = news l a.0 in
+    let y = news r a.1 in
+    (every_both (shuts_in l) (shuts_in r) x.0 y.0, ap (λ v. v ++ beside_in r) x.1 ∙ (ap (λ v. map beside_of_shut (shuts_in l) ++ v) y.1 ∙ sym (map-both beside_of_shut (shuts_in l) (shuts_in r))))
+
+met-first : {ss : List ShutSeen} {ts : List Store} {xs : List Seat} → Every IsNew ss → Pairs Found ss ts → Pairs Meets ts xs → Pairs AtFirst (map beside_of_shut ss) xs
+met-first every_none pairs_none pairs_none = pairs_none
+met-first (every_more n r) (pairs_more f fs) (pairs_more (meets_good e) ms) = pairs_more (first_in (f.count ∙ sym n.taken)) (met-first r fs ms)
+met-first (every_more n r) (pairs_more f fs) (pairs_more (meets_bad e) ms) = pairs_more first_out (met-first r fs ms)
+met-first (every_more n r) (pairs_more f fs) (pairs_more (meets_down d e l) ms) = pairs_more first_out (met-first r fs ms)
+
+-- a good disk that was just opened has the count that it was taken with
+pub first-met : {D H : Type 0} (n : Node D H) {xs : List Seat} → AllNew n → Met (shuts_in n) xs → Pairs AtFirst (beside_in n) xs
+first-met n a m = let x = news n a in rw x.1 (met-first x.0 m.found m.meets)
+
+pub opens-good : {told : Bool} {size n : ℕ} {xs zs us : List Seat} → Chooses told n xs (Done true) zs → Renews told size n 0 (length zs) zs (Done true) us → Opens told size n xs (Good (not (all_live us))) us
+opens-good (chosen w e) r = open_good w e r
+opens-good (chosen_again w e y h) r = open_again w e y (opens-good h r)
+
+pub opens-gone : {told : Bool} {n d k : ℕ} {xs zs : List Seat} (size : ℕ) → Chooses told n xs (Fault d k) zs → Opens told size n xs (Lost d k) zs
+opens-gone size (chosen_gone w e f) = open_gone w e f
+opens-gone size (chosen_again w e y h) = open_again w e y (opens-gone size h)
+
+pub opens-unrenewed : {told : Bool} {size n d k : ℕ} {xs zs us : List Seat} → Chooses told n xs (Done true) zs → Renews told size n 0 (length zs) zs (Fault d k) us → Opens told size n xs (Lost d k) us
+opens-unrenewed (chosen w e) r = open_unrenewed w e r
+opens-unrenewed (chosen_again w e y h) r = open_again w e y (opens-unrenewed h r)
+
+record FirstBad (row : List Seat) (disk : ℕ) : Type 0 where
+  pub store : Store
+  pub rest : List Seat
+  pub is : row ≡ Out true store ∷ rest
+  pub number : store.disk ≡ disk
+
+first-bad : {D H : Type 0} (n : Node D H) (disk : ℕ) (bad : BadImage) → IsFirstBad n disk bad → FirstBad (seats (tree_of n)) disk
+first-bad (Opened m d) disk bad h = absurd h
+first-bad (Shut s) disk bad h = record { store = store_of s; rest = []; is = rw h.1 refl; number = h.0 }
+first-bad (Coherency' p t) disk bad h = first-bad t disk bad h
+first-bad (Mirror' p l q r) disk bad h = let f = first-bad l disk bad h in record { store = f.store; rest = f.rest ++ seats (tree_of r); is = ap (λ v. v ++ seats (tree_of r)) f.is; number = f.number }
+
+opens-first : {told : Bool} {size n : ℕ} {disk : ℕ} (xs : List Seat) → FirstBad xs disk → Every IsBad xs → Opens told size n xs (Bad disk) xs
+opens-first {told} {size} {n} xs f h = subst (λ d. Opens told size n xs (Bad d) xs) f.number (subst (λ v. Opens told size n v (Bad f.store.disk) v) (sym f.is) (open_bad (rest-bad (subst (Every IsBad) f.is h))))
+  where
+    rest-bad : {x : Seat} {ys : List Seat} → Every IsBad (x ∷ ys) → Every IsBad ys
+    rest-bad (every_more p q) = q
+
+-- no disk is good
+pub united-none : {D H : Type 0} (n : Node D H) (r : Refusal) (shape : ImageShape) (shuts : List ShutSeen) (beside : List Beside) → Refuses n r → Every NotGood (seats (tree_of n)) → Met shuts (seats (tree_of n)) → UnitedAs (Err r) shape shuts beside (seats (tree_of n))
+united-none n (why.BadImage disk bad) shape shuts beside h none m = record { row = seats (tree_of n); met = m; opens = opens-first (seats (tree_of n)) (first-bad n disk bad h.1) h.0 }
+united-none n (why.StoreFault fault) shape shuts beside h none m = record { row = seats (tree_of n); met = m; opens = open_down none h }
+united-none n why.Memory shape shuts beside h none m = absurd h
+
+-- a disk won
+pub united-gone : {shape : ImageShape} {shuts : List ShutSeen} {beside : List Beside} {xs zs : List Seat} (f : StoreFault) → Met shuts xs → Chooses (all_told beside) shape.pages xs (Fault f.disk f.count) zs → UnitedAs (Err (why.StoreFault f)) shape shuts beside zs
+united-gone {shape} {xs = xs} f m h = record { row = xs; met = m; opens = opens-gone shape.page_size h }
+
+pub united-lost : {D H : Type 0} {shape : ImageShape} {shuts : List ShutSeen} {xs us : List Seat} (n : Node D H) (disks : ℕ) (beside : List Beside) (f : StoreFault) → disks ≡ length beside → beside_in n ≡ beside → Met shuts xs
+    → Chooses (all_told beside) shape.pages xs (Done true) (seats (tree_of n)) → Renews (all_told beside) shape.page_size shape.pages 0 disks (seats (tree_of n)) (Fault f.disk f.count) us → UnitedAs (Err (why.StoreFault f)) shape shuts beside us
+united-lost {shape = shape} {xs = xs} {us = us} n disks beside f many same m h r =
+    record { row = xs; met = m; opens = opens-unrenewed h (subst (λ k. Renews (all_told beside) shape.page_size shape.pages 0 k (seats (tree_of n)) (Fault f.disk f.count) us) (many ∙ (ap (λ (v : List Beside). length v) (sym same) ∙ sym (row-length n))) r) }
+
+pub united-good : {D H : Type 0} {shape : ImageShape} {shuts : List ShutSeen} {xs us : List Seat} (n : Node D H) (disks : ℕ) (beside : List Beside) (u : Unit {0}) → disks ≡ length beside → beside_in n ≡ beside → Met shuts xs
+    → Chooses (all_told beside) shape.pages xs (Done true) (seats (tree_of n)) → Renews (all_told beside) shape.page_size shape.pages 0 disks (seats (tree_of n)) (Done true) us → UnitedAs (Ok u) shape shuts beside us
+united-good {shape = shape} {xs = xs} {us = us} n disks beside u many same m h r =
+    record { row = xs; met = m; opens = opens-good h (subst (λ k. Renews (all_told beside) shape.page_size shape.pages 0 k (seats (tree_of n)) (Done true) us) (many ∙ (ap (λ (v : List Beside). length v) (sym same) ∙ sym (row-length n))) r) }

@@ -1,0 +1,79 @@
+-- A ground that is opened over stores.
+use Rattle.std.specs.Prelude.{◌≡◌, ◌<◌, ℕ, List, [], ◌∷◌, length, not, is_some, Bool, true, Option, Some, None, IfSome, Result, Ok, Err}
+use Rattle.spr_io.specs.Content.{Content}
+use Rattle.disk_format.specs.declared.shape.ImageShape.{ImageShape}
+use Rattle.disk_format.specs.declared.why.BadImage.{BadImage}
+use Rattle.disk_format.specs.Image.{front_of}
+use Rattle.disk_format.specs.VersionOne.{image_in}
+use Rattle.stack_accept.specs.Plan.{Plan, disks_in}
+use Rattle.mirror_rules.specs.Tree.{Seat}
+use Rattle.mirror_rules.specs.Tree as machine
+use Rattle.mirror_rules.specs.Claims.{Pairs, Nth}
+use Rattle.mirror_rules.specs.Opening.{Meets, Opens, Outcome, Good, Bad, Lost}
+use Rattle.mirror_rules.specs.Opening as opening
+use Rattle.mirror_layer.specs.View.{Beside}
+use Rattle.mirror_layer.specs.Calls.{all_told}
+use Rattle.mirror_layer.specs.Ground.{Ground}
+use Rattle.mirror_layer.specs.Stores.{Finds, GivesBack}
+use Rattle.mirror_layer.specs.Shut.{ShutSeen}
+use Rattle.mirror_layer.specs.Meeting.{Met, Rests, Rested}
+use Rattle.mirror_layer.specs.declared.refuse.Refusal.{Refusal}
+use Rattle.mirror_layer.specs.declared.refuse.Refusal.TheVariants as why
+
+-- what the machine sees of the store of a disk, which stands in the list at the place of its number
+pub data Brought {T : Type 0} (content : T → Option Content) (faults : T → ℕ) (shape : ImageShape) (stores : List T) (disk : ℕ) (s : machine.Store) : Type 0 where
+  brought : {t : T} → Nth disk stores t → Finds shape disk (content t) (faults t) s → Brought content faults shape stores disk s
+
+-- what no call changes of the disk
+pub data Lies {T : Type 0} (content : T → Option Content) (faults : T → ℕ) (shape : ImageShape) (stores : List T) (disk : ℕ) (b : Beside) : Type 0 where
+  lies : {t : T} → Nth disk stores t → b ≡ record { disk = disk; shape = shape; there = true; told = is_some (content t); opened = faults t } → Lies content faults shape stores disk b
+
+-- the stores of the disks of a plan, as the machine sees them, from left to right; and what the opening of each disk found
+pub record Seen {T : Type 0} (content : T → Option Content) (faults : T → ℕ) (shape : ImageShape) (stores : List T) (plan : Plan) (beside : List Beside) : Type 0 where
+  pub stores_seen : List machine.Store
+  pub row : List Seat
+  pub brought : Pairs (Brought content faults shape stores) (disks_in plan) stores_seen
+  pub lies : Pairs (Lies content faults shape stores) (disks_in plan) beside
+  pub meets : Pairs Meets stores_seen row
+
+-- from what the openings of the disks found, an opening of the machine
+pub record Goes (shape : ImageShape) (shuts : List ShutSeen) (beside : List Beside) (o : Outcome) (us : List Seat) : Type 0 where
+  pub row : List Seat
+  pub met : Met shuts row
+  pub opens : Opens (all_told beside) shape.page_size shape.pages row o us
+
+-- the same by what is answered
+abbrev pub UnitedAs : Result (Unit {0}) Refusal → ImageShape → List ShutSeen → List Beside → List Seat → Type 0
+UnitedAs (Ok u) shape shuts beside us = Goes shape shuts beside (Good (not (opening.all_live us))) us
+UnitedAs (Err (why.BadImage disk bad)) shape shuts beside us = Goes shape shuts beside (Bad disk) us
+UnitedAs (Err (why.StoreFault fault)) shape shuts beside us = Goes shape shuts beside (Lost fault.disk fault.count) us
+UnitedAs (Err why.Memory) shape shuts beside us = Rested shuts us
+
+-- THE GROUND IS OPENED: what became of the disks is an opening of the machine
+pub record OpenedOver {T : Type 0} (content : T → Option Content) (faults : T → ℕ) (shape : ImageShape) (stores : List T) (plan : Plan) (g : Ground) : Type 0 where
+  pub seen : Seen content faults shape stores plan g.beside
+  pub opens : Opens (all_told g.beside) shape.page_size shape.pages seen.row (Good g.owed) g.row
+  pub shaped : g.shape ≡ shape
+
+-- why blocks that are told are no image
+abbrev pub IsBadOf : ImageShape → Option Content → BadImage → Type 0
+IsBadOf shape content bad = IfSome content (λ c. image_in shape (front_of shape c.blocks) ≡ Err bad)
+
+-- what is said of an outcome of the machine
+abbrev pub Says : Outcome → Refusal → Type 0
+Says (Good owed) reason = ⊥
+Says (Bad d) (why.BadImage disk bad) = disk ≡ d
+Says (Bad d) (why.StoreFault fault) = ⊥
+Says (Bad d) why.Memory = ⊥
+Says (Lost d k) (why.BadImage disk bad) = ⊥
+Says (Lost d k) (why.StoreFault fault) = (fault.disk ≡ d) × (fault.count ≡ k)
+Says (Lost d k) why.Memory = ⊥
+
+-- THE GROUND IS REFUSED: what became of the disks is an opening of the machine, and the stores go back; or memory ran out before any
+-- store was written
+pub data RefusedOver {T : Type 0} (content : T → Option Content) (faults : T → ℕ) (shape : ImageShape) (stores : List T) (plan : Plan) : Refusal → List T → Type 0 where
+  refused : {beside : List Beside} {row : List Seat} {o : Outcome} {reason : Refusal} {after : List T} (seen : Seen content faults shape stores plan beside) → Opens (all_told beside) shape.page_size shape.pages seen.row o row
+      → Says o reason → GivesBack content faults beside row after → RefusedOver content faults shape stores plan reason after
+  lacked : {beside : List Beside} {row : List Seat} {ss : List machine.Store} {after : List T} → Pairs (Brought content faults shape stores) (disks_in plan) ss → Pairs (Lies content faults shape stores) (disks_in plan) beside
+      → Pairs Rests ss row → GivesBack content faults beside row after → RefusedOver content faults shape stores plan why.Memory after
+  lacked_first : RefusedOver content faults shape stores plan why.Memory stores

@@ -1,0 +1,132 @@
+//! A ground is opened over its stores.
+
+ghost use Rattle.std.specs.Prelude.{◌≡◌, ◌≤◌, ℕ, [], IfOk, IfErr, OnOk, OnErr, length, replicate, vec_capacity, map, Some, true};
+ghost use Rattle.std.specs.List.Sorted.{IsPermutation};
+ghost use Rattle.disk_format.specs.Shape.{IsShape};
+ghost use Rattle.stack_accept.specs.Plan.{plan_of};
+ghost use Rattle.mirror_rules.specs.Tree as machine;
+ghost use Rattle.mirror_rules.specs.Claims.{Every, Pairs};
+ghost use Rattle.mirror_layer.specs.Ground.{Counted};
+ghost use Rattle.mirror_layer.specs.View.{tree_of, beside_in};
+ghost use Rattle.mirror_layer.specs.Meeting.{AllEmpty, AllNew, planned, shuts_in};
+ghost use Rattle.mirror_layer.specs.Places.{IsSpare};
+ghost use Rattle.mirror_layer.specs.Bringing.{UnitedAs};
+
+use crate::admit::is_good;
+use crate::asked::level;
+use crate::choose::choose;
+use crate::meet::meet;
+use crate::node::{Kept, Node, Shut};
+use crate::plan::empty_tree;
+use crate::refuse::{Refusal, why_none};
+use crate::renew::renew_all;
+use disk_format::ImageShape;
+use disk_layer::Disk;
+use spr_io::Store;
+use stack_accept::GroundPlan;
+use std::alloc::{AllocError, Global};
+
+/// All memory of an opening, and of the ground that comes of it.
+#[derive(Drop)]
+pub(crate) struct Room<S: Store> {
+    /// The disks, whose stores are missing yet.
+    pub node: Node<Disk<S>, Shut<S>>,
+    /// Room for a place for each store.
+    pub places: Vec<Option<S>>,
+    /// Room for the stores when they go back.
+    pub emptied: Vec<S>,
+    /// A leaf that is no disk's.
+    pub spare: Node<Disk<S>, Shut<S>>,
+    /// A page of the ground.
+    pub ours: Vec<u8>,
+    /// A page of a disk that joins.
+    pub its: Vec<u8>,
+}
+
+/// A leaf that is no disk's.
+fn spare_leaf<S: Store>(shape: &ImageShape) -> Node<Disk<S>, Shut<S>>
+    requires { IsShape shape.now }
+    ensures { IsSpare shape.now result }
+{
+    Node::Shut(Kept {
+        shut: Shut {
+            store: None,
+            disk: 0,
+            shape: *shape,
+            bad: None,
+            opened: 0,
+        },
+    })
+}
+
+/// Takes all memory of an opening.
+pub(crate) fn room_for<S: Store>(
+    alloc: Global,
+    plan: &GroundPlan,
+    shape: &ImageShape,
+    disks: usize,
+) -> Result<Room<S>, AllocError>
+    requires { IsShape shape.now }
+    ensures planned { IfOk result (λ room. planned (tree_of room.node) ≡ plan_of plan.now) }
+    ensures empty { IfOk result (λ room. AllEmpty shape.now room.node) }
+    ensures spare { IfOk result (λ room. IsSpare shape.now room.spare) }
+    ensures places { IfOk result (λ room. (room.places.items ≡ []) × (disks ≤ vec_capacity room.places)) }
+    ensures emptied { IfOk result (λ room. (room.emptied.items ≡ []) × (disks ≤ vec_capacity room.emptied)) }
+    ensures ours { IfOk result (λ room. length room.ours.items ≡ shape.now.page_size) }
+    ensures its { IfOk result (λ room. length room.its.items ≡ shape.now.page_size) }
+{
+    Ok(Room {
+        node: empty_tree(alloc, plan, shape)?,
+        places: Vec::with_capacity(alloc, disks)?,
+        emptied: Vec::with_capacity(alloc, disks)?,
+        spare: spare_leaf(shape),
+        ours: vec![in alloc; 0u8; shape.page_size as usize]?,
+        its: vec![in alloc; 0u8; shape.page_size as usize]?,
+    })
+}
+
+/// Gives each store its place, in order. There is room for them.
+pub(crate) fn set_out<S: Store>(stores: Vec<S>, places: &mut Vec<Option<S>>)
+    requires empty { places.old.items ≡ [] }
+    requires room { length stores.items ≤ vec_capacity places.old }
+    ensures { places.new.items ≡ map (λ s. Some s) stores.items }
+{
+    for store in stores {
+        places.push_reserved(Some(store));
+    }
+}
+
+/// Opens each disk; the good ones become one ground, and then the bad ones are formatted and join it.
+pub(crate) fn unite<S: Store>(
+    alloc: Global,
+    node: &mut Node<Disk<S>, Shut<S>>,
+    disks: usize,
+    spare: &mut Node<Disk<S>, Shut<S>>,
+    shape: &ImageShape,
+    ours: &mut [u8],
+    its: &mut [u8],
+) -> Result<(), Refusal>
+    requires new { AllNew node.old }
+    requires disks { disks ≡ length (beside_in node.old) }
+    requires spare { IsSpare shape.now spare.old }
+    requires shapes { Every (λ b. b.shape ≡ shape.now) (beside_in node.old) }
+    requires ours { length ours.old ≡ shape.now.page_size }
+    requires its { length its.old ≡ shape.now.page_size }
+    ensures united { UnitedAs result shape.now (shuts_in node.old) (beside_in node.old) (machine.seats (tree_of node.new)) }
+    ensures live { OnOk result (machine.is_live (tree_of node.new) ≡ true) }
+    ensures beside { beside_in node.new ≡ beside_in node.old }
+{
+    if meet(alloc, node).is_err() {
+        return Err(Refusal::Memory);
+    }
+    if !is_good(node) {
+        return Err(why_none(node));
+    }
+    if let Err(fault) = choose(node, disks, spare, shape, ours, its) {
+        return Err(Refusal::StoreFault { fault });
+    }
+    match renew_all(node, disks, spare, shape, ours, its) {
+        Ok(()) => Ok(()),
+        Err(fault) => Err(Refusal::StoreFault { fault }),
+    }
+}
