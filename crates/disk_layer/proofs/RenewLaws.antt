@@ -77,11 +77,14 @@ part-image f n c fresh le h = ⊎_elim whole begun (eq-or-lt_of_le le)
   where
     z : List ℕ
     z = replicate f.shape.page_size 0
+
     over : List (List ℕ)
     over = set c.blocks 0 (replicate f.shape.page_size 0)
+
     whole : n ≡ first_data f.shape → IsNoneOrFresh f.shape (formatted f.shape n (written 0 z (Some c)))
     whole e = inr (subst (λ k. image f.shape (laid f.shape k over) ≡ Some (fresh_image f.shape)) (sym e)
-      (fresh-image f (record c { blocks = over }) fresh (subst (λ k. HasShape f.shape.page_size (blocks_of f.shape) (record c { blocks = laid f.shape k over })) e h)))
+        (fresh-image f (record c { blocks = over }) fresh (subst (λ k. HasShape f.shape.page_size (blocks_of f.shape) (record c { blocks = laid f.shape k over })) e h)))
+
     begun : n < first_data f.shape → IsNoneOrFresh f.shape (formatted f.shape n (written 0 z (Some c)))
     begun lt =
         let few : n ≤ map_blocks f.shape = omega (arith, lt) in
@@ -90,7 +93,7 @@ part-image f n c fresh le h = ⊎_elim whole begun (eq-or-lt_of_le le)
         let some : 1 ≤ length (laid f.shape n over) = omega (arith, room) in
         let some2 : 1 ≤ length c.blocks = omega (arith, some, many, length-set c.blocks 0 z) in
         inl (no-image f.shape (laid f.shape n over) (size_low f.shape fresh.map.fit) (sizes-all f.shape.page_size (laid f.shape n over) h.sizes) some
-          (laid-first f.shape n over few ∙ head-header c.blocks z some2))
+        (laid-first f.shape n over few ∙ head-header c.blocks z some2))
 
 -- what was written of a fresh image, over blocks of which the header was made none first
 pub none-or-fresh : (f : FrontSeen) (before after : Option Content) → IsFresh f → IsShaped f.shape.page_size (blocks_of f.shape) after
