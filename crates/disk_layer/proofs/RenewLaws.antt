@@ -1,5 +1,6 @@
 -- A fresh image that is written over other blocks, once their header is none.
 use Rattle.std.proofs.Common.{◌≡◌, ◌⊎◌, ⊎_elim, inl, inr, ℕ, zero, suc, ◌+◌, ◌-◌, ◌<◌, ◌≤◌, List, [], ◌∷◌, length, get_or, set, take, drop, replicate, Option, Some, None, IfSome, Err, refl, sym, ap, ◌∙◌, subst, arith}
+use Rattle.std.specs.Prelude.{is_some}
 use Rattle.std.proofs.lemmas.Bool.{ne_eqb, eq-eqb}
 use Rattle.std.proofs.lemmas.List.{length-set}
 use Rattle.std.proofs.Math.Nat.{eq-or-lt_of_le}
@@ -103,3 +104,9 @@ none-or-fresh f (Some c) after fresh h (inl e) none = rw e (inl none)
 none-or-fresh f None after fresh h (inr (n, le, e)) none = rw e tt
 none-or-fresh f (Some c) after fresh h (inr (n, le, e)) none =
     subst (IsNoneOrFresh f.shape) (sym e) (part-image f n c fresh le (subst (IsShaped f.shape.page_size (blocks_of f.shape)) e h))
+
+-- and it is told as before
+pub over-told : (shape : ImageShape) (before after : Option Content) → (after ≡ before) ⊎ ((n : ℕ) × (n ≤ first_data shape) × (after ≡ formatted shape n (written 0 (replicate shape.page_size 0) before))) → is_some after ≡ is_some before
+over-told shape before after (inl e) = ap is_some e
+over-told shape None after (inr (n, le, e)) = ap is_some e
+over-told shape (Some c) after (inr (n, le, e)) = ap is_some e
