@@ -1,5 +1,6 @@
 -- A fresh image that is written over other blocks, once their header is none.
 use Rattle.std.proofs.Common.{◌≡◌, ◌⊎◌, ⊎_elim, inl, inr, ℕ, zero, suc, ◌+◌, ◌-◌, ◌<◌, ◌≤◌, List, [], ◌∷◌, length, get_or, set, take, drop, replicate, Option, Some, None, IfSome, Err, refl, sym, ap, ◌∙◌, subst, arith}
+use Rattle.std.specs.Prelude.{is_some}
 use Rattle.std.proofs.lemmas.Bool.{ne_eqb, eq-eqb}
 use Rattle.std.proofs.lemmas.List.{length-set}
 use Rattle.std.proofs.Math.Nat.{eq-or-lt_of_le}
@@ -77,11 +78,14 @@ part-image f n c fresh le h = ⊎_elim whole begun (eq-or-lt_of_le le)
   where
     z : List ℕ
     z = replicate f.shape.page_size 0
+
     over : List (List ℕ)
     over = set c.blocks 0 (replicate f.shape.page_size 0)
+
     whole : n ≡ first_data f.shape → IsNoneOrFresh f.shape (formatted f.shape n (written 0 z (Some c)))
     whole e = inr (subst (λ k. image f.shape (laid f.shape k over) ≡ Some (fresh_image f.shape)) (sym e)
-      (fresh-image f (record c { blocks = over }) fresh (subst (λ k. HasShape f.shape.page_size (blocks_of f.shape) (record c { blocks = laid f.shape k over })) e h)))
+        (fresh-image f (record c { blocks = over }) fresh (subst (λ k. HasShape f.shape.page_size (blocks_of f.shape) (record c { blocks = laid f.shape k over })) e h)))
+
     begun : n < first_data f.shape → IsNoneOrFresh f.shape (formatted f.shape n (written 0 z (Some c)))
     begun lt =
         let few : n ≤ map_blocks f.shape = omega (arith, lt) in
@@ -90,7 +94,7 @@ part-image f n c fresh le h = ⊎_elim whole begun (eq-or-lt_of_le le)
         let some : 1 ≤ length (laid f.shape n over) = omega (arith, room) in
         let some2 : 1 ≤ length c.blocks = omega (arith, some, many, length-set c.blocks 0 z) in
         inl (no-image f.shape (laid f.shape n over) (size_low f.shape fresh.map.fit) (sizes-all f.shape.page_size (laid f.shape n over) h.sizes) some
-          (laid-first f.shape n over few ∙ head-header c.blocks z some2))
+        (laid-first f.shape n over few ∙ head-header c.blocks z some2))
 
 -- what was written of a fresh image, over blocks of which the header was made none first
 pub none-or-fresh : (f : FrontSeen) (before after : Option Content) → IsFresh f → IsShaped f.shape.page_size (blocks_of f.shape) after
@@ -100,3 +104,9 @@ none-or-fresh f (Some c) after fresh h (inl e) none = rw e (inl none)
 none-or-fresh f None after fresh h (inr (n, le, e)) none = rw e tt
 none-or-fresh f (Some c) after fresh h (inr (n, le, e)) none =
     subst (IsNoneOrFresh f.shape) (sym e) (part-image f n c fresh le (subst (IsShaped f.shape.page_size (blocks_of f.shape)) e h))
+
+-- and it is told as before
+pub over-told : (shape : ImageShape) (before after : Option Content) → (after ≡ before) ⊎ ((n : ℕ) × (n ≤ first_data shape) × (after ≡ formatted shape n (written 0 (replicate shape.page_size 0) before))) → is_some after ≡ is_some before
+over-told shape before after (inl e) = ap is_some e
+over-told shape None after (inr (n, le, e)) = ap is_some e
+over-told shape (Some c) after (inr (n, le, e)) = ap is_some e
