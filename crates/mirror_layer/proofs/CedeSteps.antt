@@ -10,7 +10,7 @@ use Rattle.mirror_rules.proofs.PageLaws.{pairs-then}
 use Rattle.mirror_layer.specs.declared.node.Mark.{Mark}
 use Rattle.mirror_layer.specs.declared.node.Mark.TheVariants as mark
 use Rattle.mirror_layer.specs.View.{Beside, seat_of}
-use Rattle.mirror_layer.specs.Ceding.{Cede, cede_out, cede_failed, cede_calm, Cedes, cedes_none, cedes_more}
+use Rattle.mirror_layer.specs.Ceding.{AtFirst, first_in, first_out, Cede, cede_out, cede_failed, cede_calm, Cedes, cedes_none, cedes_more}
 
 -- a disk in an opening in which no image has changed: its image is as it was, and if it is left out its count rose; or it joined. If the
 -- ground refused a read at the end, the count of each live disk rose
@@ -95,11 +95,6 @@ enters-spared (enter_end {xs = xs}) z = spared-row xs
 enters-spared (enter_next h p r) z = enters-spared r z
 enters-spared (enter_joins {w = w} {z = y} h q k r) z = spareds (copies-spared k (none-left y w z)) (enters-spared r (none-right y w z))
 enters-spared (enter_gone h q k) z = copies-spared k z
-
--- as the disks were found, a good one has the count that it was opened with
-pub data AtFirst (b : Beside) : Seat → Type 0 where
-  first_in : {c : Cell} → c.faults ≡ b.opened → AtFirst b (In false c)
-  first_out : {v : Bool} {s : Store} → AtFirst b (Out v s)
 
 way-rest : {bs : List Beside} {xs zs vs : List Seat} → Pairs AtFirst bs xs → Pairs (Spared true) xs zs → Cedes bs zs vs → lives zs ≡ 0 → GivesWay xs zs vs
 way-rest pairs_none pairs_none cedes_none e = way_none

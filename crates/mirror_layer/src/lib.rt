@@ -5,6 +5,7 @@ mod admit;
 mod any;
 mod asked;
 mod cede;
+mod choose;
 mod close;
 mod enter;
 mod flush;
