@@ -10,7 +10,7 @@ use Rattle.mirror_rules.proofs.PageLaws.{pairs-then}
 use Rattle.mirror_layer.specs.declared.node.Mark.{Mark}
 use Rattle.mirror_layer.specs.declared.node.Mark.TheVariants as mark
 use Rattle.mirror_layer.specs.View.{Beside, seat_of}
-use Rattle.mirror_layer.specs.Ceding.{Cede, cede_out, cede_failed, cede_calm, Cedes, cedes_none, cedes_more, AtFirst, first_in, first_out}
+use Rattle.mirror_layer.specs.Ceding.{AtFirst, first_in, first_out, Cede, cede_out, cede_failed, cede_calm, Cedes, cedes_none, cedes_more}
 
 -- a disk in an opening in which no image has changed: its image is as it was, and if it is left out its count rose; or it joined. If the
 -- ground refused a read at the end, the count of each live disk rose

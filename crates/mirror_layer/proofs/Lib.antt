@@ -19,3 +19,4 @@ pub mod RefuseSteps
 pub mod OpenSteps
 pub mod NumberSteps
 pub mod BringSteps
+pub mod ChooseSteps

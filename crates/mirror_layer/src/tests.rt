@@ -8,8 +8,9 @@ ghost use Rattle.mirror_layer.specs.View.{beside_in};
 ghost use Rattle.mirror_layer.specs.Meeting.{AllNew};
 ghost use Rattle.mirror_layer.specs.Places.{IsSpare};
 
-use crate::admit::{admit, all_live, is_good};
+use crate::admit::{all_live, is_good};
 use crate::asked::hold;
+use crate::choose::choose;
 use crate::flush::{flush, generation};
 use crate::ground::put;
 use crate::meet::meet;
@@ -232,8 +233,7 @@ fn opened(alloc: Global, left: Tree, right: Tree) -> Result<Option<Admitted>, Al
     let mut spare = spare();
     let mut ours = [0u8; 64];
     let mut its = [0u8; 64];
-    let entered = admit(&mut node, 2, &mut spare, &shape(), &mut ours, &mut its);
-    if entered.outcome.is_err() {
+    if choose(&mut node, 2, &mut spare, &shape(), &mut ours, &mut its).is_err() {
         return Ok(None);
     }
     Ok(Some(Admitted {
@@ -266,12 +266,12 @@ fn reopened(
 }
 
 // The disk of the greater generation wins, the left one of equals, and the other one gets its page. A disk is closed after five
-// writes and two flushes, and is opened with two reads. So its third read is that of its first page as it joins, and its sixth
-// write that of the page.
+// writes and two flushes, and is opened with two reads. So its third read is that of its first page as it joins, or as another
+// joins it, and its sixth write that of the page. In the last row the left one wins, cannot be read, and gives way.
 #[test]
 fn each_opening(rt: HostRuntime) -> Result<(), Fail> {
     let none = [0u64; 3];
-    let rows: [((u8, u64), (u8, u64), [u64; 3], bool, u8, u64); 7] = [
+    let rows: [((u8, u64), (u8, u64), [u64; 3], bool, u8, u64); 8] = [
         ((b'a', 1), (b'b', 2), none, true, b'b', 2),
         ((b'a', 2), (b'b', 1), none, true, b'a', 2),
         ((b'a', 1), (b'b', 1), none, true, b'a', 1),
@@ -279,6 +279,7 @@ fn each_opening(rt: HostRuntime) -> Result<(), Fail> {
         ((b'a', 1), (b'b', 2), [3, 0, 0], false, b'b', 2),
         ((b'a', 1), (b'b', 2), [0, 6, 0], false, b'b', 2),
         ((b'a', 1), (b'b', 2), [0, 0, 3], false, b'b', 2),
+        ((b'a', 1), (b'b', 1), [3, 0, 0], false, b'b', 1),
     ];
     for (left, right, fails, all_live, byte, generation) in rows {
         let want = Admitted {
