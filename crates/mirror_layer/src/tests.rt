@@ -182,6 +182,7 @@ fn leaf(store: MemStore, disk: u32) -> Tree
             disk,
             shape: shape(),
             bad: None,
+            fresh: None,
             opened,
         },
     })
@@ -197,6 +198,7 @@ fn spare() -> Tree
             disk: 0,
             shape: shape(),
             bad: None,
+            fresh: None,
             opened: 0,
         },
     })
