@@ -14,3 +14,4 @@ pub mod WinSteps
 pub mod MeetSteps
 pub mod AdmitSteps
 pub mod CedeSteps
+pub mod RenewSteps

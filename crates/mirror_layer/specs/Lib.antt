@@ -9,3 +9,4 @@ pub mod Winning
 pub mod Meeting
 pub mod Ceding
 pub mod Choosing
+pub mod Renewing

@@ -14,6 +14,7 @@ mod meet;
 mod node;
 mod place;
 mod plan;
+mod renew;
 mod round;
 mod win;
 
