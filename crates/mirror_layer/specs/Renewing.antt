@@ -1,5 +1,6 @@
 -- A bad disk is formatted, and joins. The disk is taken out of the ground meanwhile; at its place stands a disk that is out.
 use Rattle.std.specs.Prelude.{◌≡◌, ℕ, ◌<◌, List, set, Bool, true, Option, Some, None, is_some, Result}
+use Rattle.spr_io.specs.Content.{Content}
 use Rattle.disk_layer.specs.declared.fault.StoreFault.{StoreFault}
 use Rattle.disk_layer.specs.Disk.{Disk}
 use Rattle.disk_layer.specs.Calls.{Stored, Fresh, IsNone, IsNoneOrFresh}
@@ -34,3 +35,7 @@ FormatsShut s None t = Declined s t
 -- a leaf is formatted and joins if it is a bad disk, at whatever place it was taken from
 abbrev pub RenewsLeaf : Bool → ℕ → ℕ → List Seat → Seat → Result (Unit {0}) StoreFault → List Seat → Seat → Type 0
 RenewsLeaf told size n xs x result ys y = (i : ℕ) (b : Bool) (s : machine.Store) → Nth i xs (Out b s) → Renews told size n i 1 (set xs i x) (answered result) (set ys i y)
+
+-- the stores of a kind tell what they hold, or none of them does
+abbrev pub TellAlike : {T : Type 0} → (T → Option Content) → Type 0
+TellAlike {T} content = (s t : T) → is_some (content t) ≡ is_some (content s)

@@ -31,4 +31,4 @@ returns-in-Some-clause-renews g c told h i b s k =
     let t = tells (beside_in c.args.node.now) (beside_in c.ready.new.node) c.in-Shut.kept c.kept.inside.shut c.in-Some.disk c.hold-held.result c.kept.view_is c.ready.ensures.beside c.hold-held.ensures c.in-Some.ensures l in
     rw (c.in-Shut.is, c.mark_joined-answer.ensures.answer, c.mark_joined-answer.ensures.seat (cell_of c.join-joined.new.disk))
     (renewed-at c.args.shape.now c.in-Shut.kept c.kept.inside.shut c.in-Some.disk c.hold-held.result (cell_of c.join-joined.new.disk) c.is_bad.result c.join-joined.result.outcome (seats (tree_of c.join-joined.new.node)) c.kept.view_is c.is_bad.ensures c.if-not-is_bad.false
-        (rw c.in-Shut.is at c.requires.shape) (λ q. (l q).1) c.in-Some.ensures c.in-Ok.ensures.readies c.hold-held.ensures (c.join-joined.ensures.joins told t) k)
+    (rw c.in-Shut.is at c.requires.shape) (λ q. (l q).1) c.in-Some.ensures c.in-Ok.ensures.readies c.hold-held.ensures (c.join-joined.ensures.joins told t) k)
