@@ -84,7 +84,7 @@ live-set y nth_here (has_later h) = has_later h
 live-set y (nth_later k) (has_here h) = has_here h
 live-set y (nth_later k) (has_later h) = has_later (live-set y k h)
 
-copies-live : {told : Bool} {i n p : ℕ} {e w : Bool} {s : Says} {xs ys : List Seat} → Copies told i e n p xs s w ys → Has IsLive xs → Has IsLive ys
+pub copies-live : {told : Bool} {i n p : ℕ} {e w : Bool} {s : Says} {xs ys : List Seat} → Copies told i e n p xs s w ys → Has IsLive xs → Has IsLive ys
 copies-live (copy_same h k q r) l = copies-live r (look-live h.each l)
 copies-live (copy_differs h ne q k r) l = copies-live r (only-live k (look-live h.each l))
 copies-live (copy_left h m k) l = only-live k (look-live h.each l)
@@ -121,7 +121,7 @@ leaf-live {p = p} {spare = spare} {c = c} n m x e l =
 pub visit-row : {D H : Type 0} {p : ℕ} {shape : ImageShape} {spare leaf leaf2 spare2 n m m2 k : Node D H} → Visit p shape spare leaf leaf2 spare2 n m m2 k → set (seats (tree_of m)) p (first_seat leaf) ≡ seats (tree_of n)
 visit-row {p = p} {spare = spare} {leaf = leaf} v = ap (λ r. set r p (first_seat leaf)) v.first.row ∙ set-back (first_seat spare) v.first.seat
 
-visit-tells : {D H : Type 0} {p : ℕ} {shape : ImageShape} {told : Bool} {spare leaf leaf2 spare2 n m m2 k : Node D H} → Visit p shape spare leaf leaf2 spare2 n m m2 k → (told ≡ true → all_told (beside_in n) ≡ true) → LeafTells told (beside_in m) leaf
+pub visit-tells : {D H : Type 0} {p : ℕ} {shape : ImageShape} {told : Bool} {spare leaf leaf2 spare2 n m m2 k : Node D H} → Visit p shape spare leaf leaf2 spare2 n m m2 k → (told ≡ true → all_told (beside_in n) ≡ true) → LeafTells told (beside_in m) leaf
 visit-tells {spare = spare} {n = n} v h t =
     let e = told-every (beside_in n) (h t) in
     (ap all_told v.first.besides ∙ every-told (every-set (first_beside spare) v.idle.tells v.first.beside e), every-nth v.first.beside e)

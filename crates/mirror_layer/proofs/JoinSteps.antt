@@ -57,7 +57,7 @@ has-plug y nth_here (has_later h) = has_later h
 has-plug y (nth_later k) (has_here h) = has_here h
 has-plug y (nth_later k) (has_later h) = has_later (has-plug y k h)
 
-named-plug : {d n : ℕ} {i : ℕ} {b : Bool} {t : machine.Store} (y z : Seat) {xs ys : List Seat} → Nth i xs (Out b t) → Named d n xs ys → Named d n (set xs i y) (set ys i z)
+pub named-plug : {d n : ℕ} {i : ℕ} {b : Bool} {t : machine.Store} (y z : Seat) {xs ys : List Seat} → Nth i xs (Out b t) → Named d n xs ys → Named d n (set xs i y) (set ys i z)
 named-plug y z nth_here (named_later h) = named_later h
 named-plug y z (nth_later k) (named_here e l m) = named_here e l m
 named-plug y z (nth_later k) (named_later h) = named_later (named-plug y z k h)

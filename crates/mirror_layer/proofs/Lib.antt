@@ -20,3 +20,4 @@ pub mod OpenSteps
 pub mod NumberSteps
 pub mod BringSteps
 pub mod ChooseSteps
+pub mod RenewSteps

@@ -12,3 +12,4 @@ pub mod Choosing
 pub mod Filling
 pub mod Bringing
 pub mod Refusing
+pub mod Renewing

@@ -1,7 +1,8 @@
 -- A disk that was not opened.
-use Rattle.std.specs.Prelude.{ℕ, Bool, Option, Some, None}
+use Rattle.std.specs.Prelude.{◌≡◌, ℕ, Bool, Option, Some, None}
 use Rattle.spr_io.specs.Content.{Content}
 use Rattle.disk_layer.specs.Disk.{Suits}
+use Rattle.disk_layer.specs.Calls.{IsNone}
 use Rattle.disk_format.specs.declared.shape.ImageShape.{ImageShape}
 use Rattle.disk_format.specs.declared.why.BadImage.{BadImage}
 
@@ -29,3 +30,15 @@ faults_in faults (Some store) = faults store
 abbrev pub Fits : ImageShape → {T : Type 0} → (T → ℕ) → (T → ℕ) → Option T → Type 0
 Fits shape size number None = Unit {0}
 Fits shape size number (Some store) = Suits shape (size store) (number store)
+
+-- a fresh image of the shape is there, the blocks are no image if they are told, and the count is the one that the disk was taken with
+pub record CanFormat (shape : ImageShape) (fresh : Option ImageShape) (opened : ℕ) (content : Option Content) (faults : ℕ) : Type 0 where
+  pub image : fresh ≡ Some shape
+  pub none : IsNone shape content
+  pub calm : opened ≡ faults
+
+-- a disk whose blocks were found to be no image has its store, and can be formatted
+abbrev pub CanRenew : ImageShape → Option BadImage → Option ImageShape → ℕ → {T : Type 0} → (T → Option Content) → (T → ℕ) → Option T → Type 0
+CanRenew shape None fresh opened content faults store = Unit {0}
+CanRenew shape (Some bad) fresh opened content faults None = ⊥
+CanRenew shape (Some bad) fresh opened content faults (Some store) = CanFormat shape fresh opened (content store) (faults store)

@@ -33,7 +33,10 @@ const STAYED: Entered = Entered {
 };
 
 /// Marks a disk live if it joined.
-fn mark_joined(mark: &mut Mark, outcome: Result<bool, StoreFault>) -> Result<(), StoreFault>
+pub(crate) fn mark_joined(
+    mark: &mut Mark,
+    outcome: Result<bool, StoreFault>,
+) -> Result<(), StoreFault>
     requires { (c : machine.Cell) → seat_of mark.old c ≡ machine.In false c }
     ensures answer { answered result ≡ ended outcome }
     ensures seat { (c : machine.Cell) → seat_of mark.new c ≡ machine.In (joined outcome) c }

@@ -8,6 +8,7 @@ ghost use Rattle.mirror_layer.specs.View.{seat_of, tree_of, beside_in};
 
 use crate::asked::{Held, Side};
 use disk_format::{BadImage, ImageShape};
+use disk_layer::FreshImage;
 use spr_io::Store;
 use std::marker::Model;
 
@@ -31,6 +32,8 @@ pub struct Shut<S: Store> {
     pub(crate) shape: ImageShape,
     /// Why its blocks are no image, if they are none and it was not formatted.
     pub(crate) bad: Option<BadImage>,
+    /// What its format needs, if its blocks are no image. So no memory is taken once a store may be written.
+    pub(crate) fresh: Option<FreshImage>,
     /// The store's count of faults when the ground took it.
     pub(crate) opened: u64,
 }
@@ -38,13 +41,13 @@ pub struct Shut<S: Store> {
 impl<S: Store> Model for Shut<S> {
     ghost use Rattle.std.specs.Prelude.{is_some};
     ghost use Rattle.disk_format.specs.Shape.{IsShape};
-    ghost use Rattle.mirror_layer.specs.Shut.{ShutSeen, Fits, content_in, faults_in};
+    ghost use Rattle.mirror_layer.specs.Shut.{ShutSeen, Fits, CanRenew, content_in, faults_in};
 
     ghost Value = { ShutSeen };
 
     ghost view = { λ s. record { disk = s.disk; shape = s.shape; there = is_some s.store; bad = s.bad; content = content_in (λ t. S.content t) s.store; faults = faults_in (λ t. S.faults t) s.store; opened = s.opened } };
 
-    ghost invariant = { λ s. IsShape s.shape × Fits s.shape (λ t. S.size t) (λ t. S.number t) s.store };
+    ghost invariant = { λ s. IsShape s.shape × Fits s.shape (λ t. S.size t) (λ t. S.number t) s.store × CanRenew s.shape s.bad s.fresh s.opened (λ t. S.content t) (λ t. S.faults t) s.store };
 }
 
 /// A disk that was not opened, whatever its store.

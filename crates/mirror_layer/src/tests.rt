@@ -183,6 +183,7 @@ fn leaf(store: MemStore, disk: u32) -> Tree
             disk,
             shape: shape(),
             bad: None,
+            fresh: None,
             opened,
         },
     })
@@ -198,6 +199,7 @@ fn spare() -> Tree
             disk: 0,
             shape: shape(),
             bad: None,
+            fresh: None,
             opened: 0,
         },
     })
