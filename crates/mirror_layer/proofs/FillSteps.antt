@@ -24,6 +24,7 @@ apart-from (x ∷ xs) ys a = every-zip (every-other (every_right xs ys a.0)) (ap
     every-other : {x : ℕ} {ys : List ℕ} → Every (λ m. m ≢ x) ys → Every (λ n. x ≢ n) ys
     every-other every_none = every_none
     every-other (every_more h i) = every_more (λ e. h (sym e)) (every-other i)
+
     every-zip : {x : ℕ} {xs ys : List ℕ} → Every (λ n. x ≢ n) ys → Every (λ n. Every (λ m. m ≢ n) xs) ys → Every (λ n. Every (λ m. m ≢ n) (x ∷ xs)) ys
     every-zip every_none every_none = every_none
     every-zip (every_more h i) (every_more j k) = every_more (every_more h j) (every-zip i k)

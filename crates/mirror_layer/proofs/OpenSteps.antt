@@ -14,13 +14,14 @@ use Rattle.mirror_layer.specs.Shut.{ShutSeen}
 use Rattle.mirror_layer.specs.View.{Beside, tree_of, beside_in, store_of}
 use Rattle.mirror_layer.specs.Calls.{answered, all_told}
 use Rattle.mirror_layer.specs.Ceding.{AtFirst, first_in, first_out}
-use Rattle.mirror_layer.specs.Choosing.{Chooses, chosen, chosen_gone, chosen_again}
+use Rattle.mirror_layer.specs.Choosing.{Chooses}
 use Rattle.mirror_layer.specs.Filling.{beside_of_shut}
 use Rattle.mirror_layer.specs.Meeting.{IsNew, AllNew, Found, Met, shuts_in}
 use Rattle.mirror_layer.specs.Refusing.{IsFirstBad, Refuses}
 use Rattle.mirror_layer.specs.Bringing.{Goes, UnitedAs}
 use Rattle.mirror_layer.proofs.CloseSteps.{every_both}
 use Rattle.mirror_layer.proofs.PlaceSteps.{row-length}
+use Rattle.mirror_layer.proofs.ChooseSteps.{opens-good, opens-gone, opens-unrenewed}
 
 map-both : {A B : Type 0} (f : A → B) (xs ys : List A) → map f (xs ++ ys) ≡ map f xs ++ map f ys
 map-both f [] ys = refl
@@ -45,18 +46,6 @@ met-first (every_more n r) (pairs_more f fs) (pairs_more (meets_down d e l) ms) 
 -- a good disk that was just opened has the count that it was taken with
 pub first-met : {D H : Type 0} (n : Node D H) {xs : List Seat} → AllNew n → Met (shuts_in n) xs → Pairs AtFirst (beside_in n) xs
 first-met n a m = let x = news n a in rw x.1 (met-first x.0 m.found m.meets)
-
-pub opens-good : {told : Bool} {size n : ℕ} {xs zs us : List Seat} → Chooses told n xs (Done true) zs → Renews told size n 0 (length zs) zs (Done true) us → Opens told size n xs (Good (not (all_live us))) us
-opens-good (chosen w e) r = open_good w e r
-opens-good (chosen_again w e y h) r = open_again w e y (opens-good h r)
-
-pub opens-gone : {told : Bool} {n d k : ℕ} {xs zs : List Seat} (size : ℕ) → Chooses told n xs (Fault d k) zs → Opens told size n xs (Lost d k) zs
-opens-gone size (chosen_gone w e f) = open_gone w e f
-opens-gone size (chosen_again w e y h) = open_again w e y (opens-gone size h)
-
-pub opens-unrenewed : {told : Bool} {size n d k : ℕ} {xs zs us : List Seat} → Chooses told n xs (Done true) zs → Renews told size n 0 (length zs) zs (Fault d k) us → Opens told size n xs (Lost d k) us
-opens-unrenewed (chosen w e) r = open_unrenewed w e r
-opens-unrenewed (chosen_again w e y h) r = open_again w e y (opens-unrenewed h r)
 
 record FirstBad (row : List Seat) (disk : ℕ) : Type 0 where
   pub store : Store

@@ -35,7 +35,3 @@ FormatsShut s None t = Declined s t
 -- a leaf is formatted and joins if it is a bad disk, at whatever place it was taken from
 abbrev pub RenewsLeaf : Bool → ℕ → ℕ → List Seat → Seat → Result (Unit {0}) StoreFault → List Seat → Seat → Type 0
 RenewsLeaf told size n xs x result ys y = (i : ℕ) (b : Bool) (s : machine.Store) → Nth i xs (Out b s) → Renews told size n i 1 (set xs i x) (answered result) (set ys i y)
-
--- the stores of a kind tell what they hold, or none of them does
-abbrev pub TellAlike : {T : Type 0} → (T → Option Content) → Type 0
-TellAlike {T} content = (s t : T) → is_some (content t) ≡ is_some (content s)

@@ -1,5 +1,5 @@
 -- A disk that was not opened.
-use Rattle.std.specs.Prelude.{◌≡◌, ℕ, Bool, Option, Some, None}
+use Rattle.std.specs.Prelude.{◌≡◌, ◌≤◌, ℕ, Bool, Option, Some, None}
 use Rattle.spr_io.specs.Content.{Content}
 use Rattle.disk_layer.specs.Disk.{Suits}
 use Rattle.disk_layer.specs.Calls.{IsNone}
@@ -42,3 +42,8 @@ abbrev pub CanRenew : ImageShape → Option BadImage → Option ImageShape → �
 CanRenew shape None fresh opened content faults store = Unit {0}
 CanRenew shape (Some bad) fresh opened content faults None = ⊥
 CanRenew shape (Some bad) fresh opened content faults (Some store) = CanFormat shape fresh opened (content store) (faults store)
+
+-- its store, if there is one, has no fewer faults than when it was taken
+abbrev pub Since : ℕ → {T : Type 0} → (T → ℕ) → Option T → Type 0
+Since opened faults None = Unit {0}
+Since opened faults (Some store) = opened ≤ faults store

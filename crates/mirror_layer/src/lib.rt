@@ -25,8 +25,8 @@ mod win;
 pub use any::AnyGround;
 pub use asked::{Call, Held, Side, hold};
 pub use ground::MirrorGround;
-pub use refuse::{OpenAll, Refusal};
 pub use node::{Kept, Mark, Node, Shut, Unopened};
+pub use refuse::{OpenAll, Refusal};
 
 #[cfg(test)]
 mod tests;

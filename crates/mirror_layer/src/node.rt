@@ -1,6 +1,6 @@
 //! Disks, mirrors of two, and coherency layers that write through, as a tree.
 
-ghost use Rattle.std.specs.Prelude.{◌≡◌};
+ghost use Rattle.std.specs.Prelude.{◌≡◌, ◌≤◌, true};
 ghost use Rattle.mirror_rules.specs.Tree.{left_out};
 ghost use Rattle.mirror_rules.specs.Tree as machine;
 ghost use Rattle.mirror_layer.specs.Shut.{ShutSeen};
@@ -41,13 +41,23 @@ pub struct Shut<S: Store> {
 impl<S: Store> Model for Shut<S> {
     ghost use Rattle.std.specs.Prelude.{is_some};
     ghost use Rattle.disk_format.specs.Shape.{IsShape};
-    ghost use Rattle.mirror_layer.specs.Shut.{ShutSeen, Fits, CanRenew, content_in, faults_in};
+    ghost use Rattle.mirror_layer.specs.Shut.{ShutSeen, Fits, CanRenew, Since, content_in, faults_in};
 
     ghost Value = { ShutSeen };
 
     ghost view = { λ s. record { disk = s.disk; shape = s.shape; there = is_some s.store; bad = s.bad; content = content_in (λ t. S.content t) s.store; faults = faults_in (λ t. S.faults t) s.store; opened = s.opened } };
 
-    ghost invariant = { λ s. IsShape s.shape × Fits s.shape (λ t. S.size t) (λ t. S.number t) s.store × CanRenew s.shape s.bad s.fresh s.opened (λ t. S.content t) (λ t. S.faults t) s.store };
+    ghost invariant = { λ s. IsShape s.shape × Fits s.shape (λ t. S.size t) (λ t. S.number t) s.store × CanRenew s.shape s.bad s.fresh s.opened (λ t. S.content t) (λ t. S.faults t) s.store × Since s.opened (λ t. S.faults t) s.store };
+}
+
+impl<S: Store> Shut<S> {
+    /// What holds of each whose store is there, for proofs alone.
+    pub(crate) fn sound(&self)
+        requires { self.now.there ≡ true }
+        ensures { self.now.opened ≤ self.now.faults }
+    {
+        let _ = &self.disk;
+    }
 }
 
 /// A disk that was not opened, whatever its store.

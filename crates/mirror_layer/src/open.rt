@@ -54,6 +54,7 @@ fn spare_leaf<S: Store>(shape: &ImageShape) -> Node<Disk<S>, Shut<S>>
             disk: 0,
             shape: *shape,
             bad: None,
+            fresh: None,
             opened: 0,
         },
     })
@@ -128,5 +129,25 @@ pub(crate) fn unite<S: Store>(
     match renew_all(node, disks, spare, shape, ours, its) {
         Ok(()) => Ok(()),
         Err(fault) => Err(Refusal::StoreFault { fault }),
+    }
+}
+
+/// What holds of every tree whose disks have their stores, for proofs alone.
+fn sound_all<S: Store>(node: &Node<Disk<S>, Shut<S>>)
+    requires { Every (λ b. b.there ≡ true) (beside_in node.now) }
+    ensures counts { Pairs Counted (beside_in node.now) (machine.seats (tree_of node.now)) }
+    ensures within { machine.top (machine.seats (tree_of node.now)) ≤ machine.limit }
+{
+    match node {
+        Node::Opened(_, held) => {
+            held.disk.sound();
+            let _ = level(held);
+        }
+        Node::Shut(kept) => kept.shut.sound(),
+        Node::Coherency(below) => sound_all(below),
+        Node::Mirror(left, right) => {
+            sound_all(left);
+            sound_all(right);
+        }
     }
 }

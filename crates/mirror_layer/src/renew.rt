@@ -9,7 +9,7 @@ ghost use Rattle.mirror_layer.specs.View.{tree_of, beside_in};
 ghost use Rattle.mirror_layer.specs.Calls.{all_told, answered};
 ghost use Rattle.mirror_layer.specs.Ground.{outcome};
 ghost use Rattle.mirror_layer.specs.Places.{IsLeaf, IsSpare, LeafTells, first_seat, first_beside};
-ghost use Rattle.mirror_layer.specs.Renewing.{FormatsShut, RenewsLeaf, TellAlike};
+ghost use Rattle.mirror_layer.specs.Renewing.{FormatsShut, RenewsLeaf};
 
 use crate::asked::{Call, Side, hold};
 use crate::enter::mark_joined;
@@ -42,7 +42,6 @@ fn ready<D: Side, H: Unopened>(node: &mut Node<D, H>) -> Result<(), StoreFault>
 /// Formats a disk whose blocks are no image. None if it refuses, and then it is no longer told as bad.
 fn format<S: Store>(shut: &mut Shut<S>) -> Option<Disk<S>>
     requires bad { is_some shut.old.bad ≡ true }
-    requires alike { TellAlike (λ s. S.content s) }
     ensures { FormatsShut shut.old result shut.new }
 {
     shut.bad = None;
@@ -82,7 +81,6 @@ fn renew_leaf<S: Store>(
     requires shape { (first_beside leaf.old).shape ≡ shape.now }
     requires ours { length ours.old ≡ shape.now.page_size }
     requires its { length its.old ≡ shape.now.page_size }
-    requires alike { TellAlike (λ s. S.content s) }
     ensures renews { (told : Bool) → LeafTells told (beside_in node.old) leaf.old → RenewsLeaf told shape.now.page_size shape.now.pages (machine.seats (tree_of node.old)) (first_seat leaf.old) result (machine.seats (tree_of node.new)) (first_seat leaf.new) }
     ensures leaf { IsLeaf leaf.new }
     ensures out { (i : ℕ) (b : Bool) (s : machine.Store) → Nth i (machine.seats (tree_of node.old)) (machine.Out b s) → Nth i (machine.seats (tree_of node.new)) (machine.Out b s) }
@@ -131,7 +129,6 @@ fn renew_at<S: Store>(
     requires shapes { Every (λ b. b.shape ≡ shape.now) (beside_in node.old) }
     requires ours { length ours.old ≡ shape.now.page_size }
     requires its { length its.old ≡ shape.now.page_size }
-    requires alike { TellAlike (λ s. S.content s) }
     ensures renews { (told : Bool) → (told ≡ true → all_told (beside_in node.old) ≡ true) → Renews told shape.now.page_size shape.now.pages place 1 (machine.seats (tree_of node.old)) (answered result) (machine.seats (tree_of node.new)) }
     ensures live { machine.is_live (tree_of node.new) ≡ true }
     ensures spare { IsSpare shape.now spare.new }
@@ -159,7 +156,6 @@ pub(crate) fn renew_all<S: Store>(
     requires shapes { Every (λ b. b.shape ≡ shape.now) (beside_in node.old) }
     requires ours { length ours.old ≡ shape.now.page_size }
     requires its { length its.old ≡ shape.now.page_size }
-    requires alike { TellAlike (λ s. S.content s) }
     ensures renews { (told : Bool) → (told ≡ true → all_told (beside_in node.old) ≡ true) → Renews told shape.now.page_size shape.now.pages 0 disks (machine.seats (tree_of node.old)) (answered result) (machine.seats (tree_of node.new)) }
     ensures live { machine.is_live (tree_of node.new) ≡ true }
     ensures spare { IsSpare shape.now spare.new }
