@@ -1,20 +1,20 @@
 -- A disk wins, and a winner gives way, over plain variables.
-use Rattle.std.proofs.Common.{◌≡◌, ◌≢◌, ℕ, suc, ◌+◌, ◌<◌, ◌≤◌, Bool, true, false, not, max, List, [], ◌∷◌, ◌++◌, length, Result, Ok, Err, refl, sym, ap, ◌∙◌, subst, arith}
+use Rattle.std.proofs.Common.{◌≡◌, ℕ, suc, ◌+◌, ◌<◌, ◌≤◌, Bool, true, false, not, List, ◌++◌, length, Result, Ok, Err, refl, sym, ap, ◌∙◌, subst, arith}
 use Rattle.disk_layer.specs.declared.fault.StoreFault.{StoreFault}
-use Rattle.mirror_rules.specs.Tree.{Image, Cell, Store, Seat, In, Out, top, lives, closed}
+use Rattle.mirror_rules.specs.Tree.{Image, Cell, Store, Seat, In, Out, top, lives}
 use Rattle.mirror_rules.specs.Claims.{Pairs, pairs_none, pairs_more, Every, every_none, every_more, Has, has_here, has_later}
 use Rattle.mirror_rules.specs.Steps.{Says, Done, Fault, Looked, looked_out, looked_stale, looked_same, looked_refused}
-use Rattle.mirror_rules.specs.Opening.{Meets, meets_good, meets_bad, meets_down, AtMost, most_in, most_out, Wins, wins_here, wins_later, wins_out, IsGoodAt, good_at, GivesWay, way_none, way_out, way_waits, way_left, Yields, Only, only_here, only_later, Copies, copy_same, copy_differs, copy_left, copy_gone, copy_even, copy_settled, copy_unflushed, copy_unraised, Enters, enter_end, enter_next, enter_joins, enter_gone, Renews, Outcome, Good, Lost, Opens, open_good, open_gone, open_again, open_unrenewed, all_live}
+use Rattle.mirror_rules.specs.Opening.{Meets, meets_good, meets_bad, meets_down, AtMost, most_in, most_out, Wins, wins_here, wins_later, wins_out, IsGoodAt, good_at, GivesWay, way_none, way_out, way_waits, way_left, Yields, Only, only_here, only_later, Copies, copy_same, copy_differs, copy_left, copy_gone, copy_even, copy_settled, copy_unflushed, copy_unraised, Enters, enter_end, enter_next, enter_joins, enter_gone, Renews, Good, Lost, Opens, open_good, open_gone, open_again, open_unrenewed, all_live}
 use Rattle.mirror_rules.proofs.RoundLaws.{pairs-append}
 use Rattle.mirror_rules.proofs.PageLaws.{pairs-then}
 use Rattle.mirror_layer.specs.declared.node.Node.{Node, Opened, Shut, Coherency', Mirror'}
 use Rattle.mirror_layer.specs.Shut.{ShutSeen}
 use Rattle.mirror_layer.specs.View.{Beside, beside_in}
-use Rattle.mirror_layer.specs.Meeting.{AllNew, IsNew, Found, Met, shuts_in}
+use Rattle.mirror_layer.specs.Meeting.{AllNew, Found, Met, shuts_in}
 use Rattle.mirror_layer.specs.Calls.{answered}
 use Rattle.mirror_layer.specs.Winning.{Waits, waits_in, waits_out, Admits, is_good}
-use Rattle.mirror_layer.specs.Ceding.{AtFirst, first_in, first_out, Cede, cede_out, cede_failed, cede_calm, Cedes, cedes_none, cedes_more}
-use Rattle.mirror_layer.specs.Choosing.{Chooses, chosen, chosen_gone, chosen_again, goods, Other, other, NotOther, not_good, not_calm, HasOther, other_here, other_later, BadAre, bad_is, bad_in, bad_down}
+use Rattle.mirror_layer.specs.Ceding.{AtFirst, first_in, first_out, cede_out, cede_failed, cede_calm, Cedes, cedes_none, cedes_more}
+use Rattle.mirror_layer.specs.Choosing.{Chooses, chosen, chosen_gone, chosen_again, goods, other, NotOther, not_calm, HasOther, other_here, other_later, BadAre, bad_in, bad_down}
 use Rattle.mirror_layer.proofs.CedeSteps.{enters-spared, gives-way}
 
 -- the winner has the greatest generation
@@ -232,5 +232,11 @@ holds-first (holds e) (meets_good q) = first_in e
 holds-first (holds e) (meets_bad q) = first_out
 holds-first (holds e) (meets_down a q l) = first_out
 
+counted-first : {bs : List Beside} {ss : List ShutSeen} {row : List Seat} → Pairs Counts bs ss → Met ss row → Pairs AtFirst bs row
+counted-first h m = pairs-then (λ b t x. holds-first) (pairs-then (λ b s t. found-holds) h m.found) m.meets
+
 pub met-first : {D H : Type 0} (n : Node D H) {row : List Seat} → AllNew n → Met (shuts_in n) row → Pairs AtFirst (beside_in n) row
-met-first n a m = pairs-then (λ b t x. holds-first) (pairs-then (λ b s t. found-holds) (new-counts n a) m.found) m.meets
+met-first n a m = counted-first (new-counts n a) m
+
+pub met-both : {D H : Type 0} (l r : Node D H) {row : List Seat} → AllNew l → AllNew r → Met (shuts_in l ++ shuts_in r) row → Pairs AtFirst (beside_in l ++ beside_in r) row
+met-both l r a b m = counted-first (pairs-append (new-counts l a) (new-counts r b)) m

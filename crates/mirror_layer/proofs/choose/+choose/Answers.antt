@@ -1,13 +1,11 @@
 use Rattle.std.proofs.Common.{◌≡◌, ◌<◌, false, length, sym, ap, ◌∙◌, subst, arith}
-use Rattle.mirror_rules.specs.Tree.{seats, top}
+use Rattle.mirror_rules.specs.Tree.{seats}
 use Rattle.mirror_rules.specs.Claims.{Every, Pairs}
-use Rattle.mirror_rules.specs.Steps.{Fault}
 use Rattle.mirror_layer.specs.View.{Beside, beside_in, tree_of}
 use Rattle.mirror_layer.specs.Calls.{all_told}
 use Rattle.mirror_layer.specs.Ceding.{AtFirst}
-use Rattle.mirror_layer.specs.Winning.{Admits}
 use Rattle.mirror_layer.specs.Choosing.{goods}
-use Rattle.mirror_layer.proofs.ChooseSteps.{stays-at, Ceded, Again, at-fault, chose, chose-none, chose-again, again, ceded}
+use Rattle.mirror_layer.proofs.ChooseSteps.{stays-at, Again, at-fault, chose, chose-none, chose-again, again, ceded}
 use Rattle.mirror_layer.proofs.choose.+choose.Goals as goal
 
 pub returns-in-Ok-clause-chooses : goal.returns-in-Ok-clause-chooses
