@@ -1,21 +1,26 @@
 -- A tree whose disks have their stores, over plain variables.
-use Rattle.std.proofs.Common.{◌≡◌, ◌≢◌, ℕ, zero, suc, ◌<◌, ◌≤◌, Bool, true, false, not, ◌||◌, List, [], ◌∷◌, length, get_or, map, Option, Some, None, refl, sym, ap, ◌∙◌, subst, arith}
+use Rattle.std.proofs.Common.{◌≡◌, ◌≢◌, ℕ, zero, suc, ◌<◌, ◌≤◌, Bool, true, false, not, ◌||◌, List, [], ◌∷◌, length, get_or, map, Option, Some, None, Ok, Err, refl, sym, ap, ◌∙◌, subst, arith}
 use Rattle.std.specs.Prelude.{is_some, IfSome}
 use Rattle.std.specs.List.Sorted.{IsPermutation}
 use Rattle.spr_io.specs.Content.{Content}
 use Rattle.disk_format.specs.declared.shape.ImageShape.{ImageShape}
 use Rattle.disk_layer.specs.Disk.{Suits}
-use Rattle.stack_accept.specs.Plan.{numbers_below}
-use Rattle.mirror_rules.specs.Tree.{Seat}
+use Rattle.stack_accept.specs.Plan.{Plan, disks_in, numbers_below}
+use Rattle.mirror_rules.specs.Tree.{Seat, seats, is_live, top, limit}
+use Rattle.mirror_rules.proofs.RoundLaws.{live-seats}
 use Rattle.mirror_rules.specs.Tree as machine
 use Rattle.mirror_rules.specs.Claims.{Every, every_none, every_more, Has, has_here, has_later, Pairs, pairs_none, pairs_more, Nth, nth_here, nth_later}
 use Rattle.mirror_layer.specs.Shut.{ShutSeen}
-use Rattle.mirror_layer.specs.View.{Beside}
-use Rattle.mirror_layer.specs.Ground.{Differ}
-use Rattle.mirror_layer.specs.Stores.{Finds, Numbered}
+use Rattle.mirror_layer.specs.declared.node.Node.{Node}
+use Rattle.mirror_layer.specs.declared.refuse.Refusal.{Refusal}
+use Rattle.mirror_layer.specs.declared.refuse.Refusal.TheVariants as why
+use Rattle.mirror_layer.specs.View.{Beside, beside_in, tree_of}
+use Rattle.mirror_layer.specs.Ground.{Differ, Counted}
+use Rattle.mirror_layer.specs.Stores.{Finds, Numbered, GivesBack}
 use Rattle.mirror_layer.specs.Filling.{HasStore, has_store, Fills, fills, Apart, beside_of_shut}
-use Rattle.mirror_layer.specs.Meeting.{IsNew, Found}
-use Rattle.mirror_layer.specs.Bringing.{Brought, brought, Lies, lies}
+use Rattle.mirror_layer.specs.Meeting.{IsNew, AllNew, Found, Met, shuts_in}
+use Rattle.mirror_layer.specs.Bringing.{Brought, brought, Lies, lies, Seen, IsReady, RefusedOver, refused, lacked, UnitedAs}
+use Rattle.mirror_layer.proofs.OpenSteps.{news}
 use Rattle.mirror_layer.proofs.NumberSteps.{numbers-apart, numbers-many, numbers-under, numbers-each}
 
 -- each store has its place
@@ -59,12 +64,12 @@ lies-shapes (pairs_more (lies a e) h) = every_more (ap (λ (b : Beside). b.shape
 
 lies-differ : {T : Type 0} {content : T → Option Content} {faults : T → ℕ} {shape : ImageShape} {stores : List T} {ns : List ℕ} {bs : List Beside} → Pairs (Lies content faults shape stores) ns bs → Apart ns → Differ bs
 lies-differ pairs_none a = tt
-lies-differ (pairs_more {x = n} {y = b} (lies c e) h) a = (others h (ap (λ (b : Beside). b.disk) e) a.0, lies-differ h a.1)
+lies-differ (pairs_more {x = n} {y = b} (lies c e) h) a = (others b h (ap (λ (b : Beside). b.disk) e) a.0, lies-differ h a.1)
   where
-    others : {T : Type 0} {content : T → Option Content} {faults : T → ℕ} {shape : ImageShape} {stores : List T} {n : ℕ} {b : Beside} {ns : List ℕ} {bs : List Beside} → Pairs (Lies content faults shape stores) ns bs → b.disk ≡ n
+    others : {T : Type 0} {content : T → Option Content} {faults : T → ℕ} {shape : ImageShape} {stores : List T} {n : ℕ} (b : Beside) {ns : List ℕ} {bs : List Beside} → Pairs (Lies content faults shape stores) ns bs → b.disk ≡ n
         → Every (λ m. m ≢ n) ns → Every (λ (x : Beside). x.disk ≢ b.disk) bs
-    others pairs_none q every_none = every_none
-    others (pairs_more (lies c e) h) q (every_more f g) = every_more (λ z. f (sym (ap (λ (b : Beside). b.disk) e) ∙ (z ∙ q))) (others h q g)
+    others b pairs_none q every_none = every_none
+    others b (pairs_more (lies c e) h) q (every_more f g) = every_more (λ z. f (sym (ap (λ (v : Beside). v.disk) e) ∙ (z ∙ q))) (others b h q g)
 
 lies-every : {T : Type 0} {content : T → Option Content} {faults : T → ℕ} {shape : ImageShape} {stores : List T} {P : ℕ → Type 0} {ns : List ℕ} {bs : List Beside} → Pairs (Lies content faults shape stores) ns bs → Every P ns → Every (λ (b : Beside). P b.disk) bs
 lies-every pairs_none every_none = every_none
@@ -96,3 +101,47 @@ lies-ordered {stores = stores} {ns = ns} {bs = bs} h p =
       };
       many = many;
     }
+
+-- a tree of a plan whose disks have just got these stores
+pub record Filled {D H : Type 0} {T : Type 0} (content : T → Option Content) (faults : T → ℕ) (shape : ImageShape) (stores : List T) (plan : Plan) (n : Node D H) : Type 0 where
+  pub new : AllNew n
+  pub fills : Pairs (Fills content faults shape (map (λ s. Some s) stores)) (disks_in plan) (shuts_in n)
+  pub lies : Pairs (Lies content faults shape stores) (disks_in plan) (beside_in n)
+  pub ordered : Ordered stores (beside_in n)
+
+pub filled : {D H : Type 0} {T : Type 0} {content : T → Option Content} {faults : T → ℕ} {shape : ImageShape} {stores : List T} (places : List (Option T)) (plan planned : Plan) (n : Node D H) → planned ≡ plan → places ≡ map (λ s. Some s) stores → AllNew n
+    → Pairs (Fills content faults shape places) (disks_in planned) (shuts_in n) → IsPermutation (disks_in plan) (numbers_below (length stores)) → Filled content faults shape stores plan n
+filled {content = content} {faults = faults} {shape = shape} {stores = stores} places plan planned n e q new f p =
+    let x = news n new in
+    let fs = subst (λ v. Pairs (Fills content faults shape v) (disks_in plan) (shuts_in n)) q (subst (λ v. Pairs (Fills content faults shape places) (disks_in v) (shuts_in n)) e f) in
+    let ls = subst (λ bs. Pairs (Lies content faults shape stores) (disks_in plan) bs) (sym x.1) (lies-all fs x.0) in
+    record { new = new; fills = fs; lies = ls; ordered = lies-ordered ls p }
+
+-- what the machine sees of them
+abbrev pub seen-by : {D H : Type 0} {T : Type 0} {content : T → Option Content} {faults : T → ℕ} {shape : ImageShape} {stores : List T} {plan : Plan} {n : Node D H} {xs : List Seat} → Filled content faults shape stores plan n → Met (shuts_in n) xs
+    → Seen content faults shape stores plan (beside_in n)
+seen-by {xs = xs} f m = record { stores_seen = m.seen; row = xs; brought = brought-all f.fills m.found; lies = f.lies; meets = m.meets }
+
+-- an opening that went well
+pub ready : {D H : Type 0} {T : Type 0} {content : T → Option Content} {faults : T → ℕ} {shape : ImageShape} {stores : List T} {plan : Plan} (n m : Node D H) (places : List (Option T)) (emptied : List T) (room : ℕ) (u : Unit {0})
+    → Filled content faults shape stores plan n → beside_in m ≡ beside_in n → UnitedAs (Ok u) shape (shuts_in n) (beside_in n) (seats (tree_of m)) → is_live (tree_of m) ≡ true → Pairs Counted (beside_in m) (seats (tree_of m)) → top (seats (tree_of m)) ≤ limit
+    → length places ≡ length stores → emptied ≡ [] → length stores ≤ room → IsReady content faults shape stores plan (beside_in m) (seats (tree_of m)) places emptied room
+ready {content = content} {faults = faults} {shape = shape} {stores = stores} {plan = plan} n m places emptied room u f same goes live counts within many empty enough =
+    let us = seats (tree_of m) in
+    let r : IsReady content faults shape stores plan (beside_in n) us places emptied room = record {
+      seen = seen-by f goes.met;
+      opens = goes.opens;
+      live = live-seats (tree_of m) live;
+      counts = subst (λ bs. Pairs Counted bs us) same counts;
+      within = within;
+      differ = f.ordered.differ;
+      keeps = record { numbered = f.ordered.numbered; many = many ∙ sym f.ordered.many; empty = empty; enough = omega (arith, enough, f.ordered.many) };
+    } in
+    subst (λ bs. IsReady content faults shape stores plan bs us places emptied room) (sym same) r
+
+-- and one that was refused
+pub refused-as : {D H : Type 0} {T : Type 0} {content : T → Option Content} {faults : T → ℕ} {shape : ImageShape} {stores : List T} {plan : Plan} (n m : Node D H) (reason : Refusal) (after : List T) → Filled content faults shape stores plan n → beside_in m ≡ beside_in n
+    → UnitedAs (Err reason) shape (shuts_in n) (beside_in n) (seats (tree_of m)) → GivesBack content faults (beside_in m) (seats (tree_of m)) after → RefusedOver content faults shape stores plan reason after
+refused-as {content = content} {faults = faults} n m (why.BadImage disk bad) after f same goes back = refused {reason = why.BadImage disk bad} (seen-by f goes.met) goes.opens refl (subst (λ bs. GivesBack content faults bs (seats (tree_of m)) after) same back)
+refused-as {content = content} {faults = faults} n m (why.StoreFault fault) after f same goes back = refused {reason = why.StoreFault fault} (seen-by f goes.met) goes.opens (refl, refl) (subst (λ bs. GivesBack content faults bs (seats (tree_of m)) after) same back)
+refused-as {content = content} {faults = faults} n m why.Memory after f same goes back = lacked (brought-all f.fills goes.found) f.lies goes.rests (subst (λ bs. GivesBack content faults bs (seats (tree_of m)) after) same back)

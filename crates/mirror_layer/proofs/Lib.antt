@@ -21,3 +21,5 @@ pub mod NumberSteps
 pub mod BringSteps
 pub mod ChooseSteps
 pub mod RenewSteps
+pub mod SoundSteps
+pub mod ReadySteps

@@ -1,6 +1,5 @@
 -- The numbers of the disks: from 0 on, each once, in any order.
-use Rattle.std.proofs.Common.{◌≡◌, ◌≢◌, ◌⊎◌, ⊎_elim, ℕ, zero, suc, ◌+◌, ◌<◌, ◌≤◌, Bool, true, false, List, [], ◌∷◌, length, sum_by, refl, sym, ap, ◌∙◌, arith, ◌==◌, if◌then◌else◌}
-use Rattle.core.proofs.str.Laws.{order}
+use Rattle.std.proofs.Common.{◌≡◌, ◌≢◌, ◌⊎◌, ⊎_elim, inl, inr, ℕ, zero, suc, ◌+◌, ◌<◌, ◌≤◌, Bool, true, false, List, [], ◌∷◌, length, sum_by, refl, sym, ap, ◌∙◌, arith, ◌==◌, if◌then◌else◌}
 use Rattle.std.specs.List.Sorted.{IsPermutation}
 use Rattle.std.proofs.lemmas.List.Sorted.{length_permutation, sum_by-IsPermutation}
 use Rattle.std.proofs.lemmas.List.Sums.{sum_by-cons}
@@ -9,11 +8,16 @@ use Rattle.stack_accept.specs.Plan.{numbers_below}
 use Rattle.mirror_rules.specs.Claims.{Every, every_none, every_more, Has, has_here, has_later}
 use Rattle.mirror_layer.specs.Filling.{Apart}
 
+order : (m n : ℕ) → (m < n) ⊎ (n ≤ m)
+order m zero = inr (omega arith)
+order zero (suc n) = inl (omega arith)
+order (suc m) (suc n) = ⊎_elim (λ l. inl (omega (arith, l))) (λ g. inr (omega (arith, g))) (order m n)
+
 -- 1 for this number
 abbrev hit : ℕ → ℕ → ℕ
 hit d m = if m == d then 1 else 0
 
-times : ℕ → List ℕ → ℕ
+abbrev times : ℕ → List ℕ → ℕ
 times d xs = sum_by (hit d) xs
 
 times-more : (d x : ℕ) (xs : List ℕ) → times d (x ∷ xs) ≡ hit d x + times d xs
@@ -50,13 +54,13 @@ not-met d (x ∷ xs) e =
     let more = times-more d x xs in
     every_more (λ q. absurd (omega (arith, more, e, ap (hit d) q ∙ hit-self d))) (not-met d xs (omega (arith, more, e)))
 
+met-first : (d x : ℕ) (xs : List ℕ) (b : Bool) → (x == d) ≡ b → (times d xs ≡ times d (x ∷ xs) → Has (λ m. m ≡ d) xs) → Has (λ m. m ≡ d) (x ∷ xs)
+met-first d x xs true e rest = has_here (eqb-true x d e)
+met-first d x xs false e rest = let more = times-more d x xs in let h : hit d x ≡ 0 = rw e refl in has_later (rest (omega (arith, more, h)))
+
 met-has : (d : ℕ) (xs : List ℕ) → 1 ≤ times d xs → Has (λ m. m ≡ d) xs
 met-has d [] l = absurd (omega (arith, l))
-met-has d (x ∷ xs) l = by (x == d) refl
-  where
-    by : (b : Bool) → (x == d) ≡ b → Has (λ m. m ≡ d) (x ∷ xs)
-    by true e = has_here (eqb-true x d e)
-    by false e = let more = times-more d x xs in let h : hit d x ≡ 0 = rw e refl in has_later (met-has d xs (omega (arith, more, l, h)))
+met-has d (x ∷ xs) l = met-first d x xs (x == d) refl (λ e. met-has d xs (omega (arith, l, e)))
 
 apart-few : (xs : List ℕ) → ((d : ℕ) → times d xs ≤ 1) → Apart xs
 apart-few [] f = tt

@@ -1,22 +1,22 @@
 -- An opening, over plain variables.
 use Rattle.std.proofs.Common.{◌≡◌, ℕ, Bool, true, false, not, List, [], ◌∷◌, ◌++◌, length, map, Some, Result, Ok, Err, refl, sym, ap, ◌∙◌, subst}
+use Rattle.std.specs.Prelude.{OnOk, is_err}
 use Rattle.disk_format.specs.declared.shape.ImageShape.{ImageShape}
 use Rattle.disk_format.specs.declared.why.BadImage.{BadImage}
 use Rattle.disk_layer.specs.declared.fault.StoreFault.{StoreFault}
 use Rattle.mirror_rules.specs.Tree.{Store, Seat, In, Out, seats}
 use Rattle.mirror_rules.specs.Claims.{Every, every_none, every_more, Pairs, pairs_none, pairs_more}
 use Rattle.mirror_rules.specs.Steps.{Says, Done, Fault}
-use Rattle.mirror_rules.specs.Opening.{Meets, meets_good, meets_bad, meets_down, IsBad, NotGood, Renews, Good, Bad, Lost, Opens, open_down, open_bad, open_good, open_gone, open_again, open_unrenewed, all_live}
+use Rattle.mirror_rules.specs.Opening.{IsBad, NotGood, Renews, Good, Bad, Lost, Opens, open_down, open_bad, all_live}
 use Rattle.mirror_layer.specs.declared.node.Node.{Node, Opened, Shut, Coherency', Mirror'}
 use Rattle.mirror_layer.specs.declared.refuse.Refusal.{Refusal}
 use Rattle.mirror_layer.specs.declared.refuse.Refusal.TheVariants as why
 use Rattle.mirror_layer.specs.Shut.{ShutSeen}
 use Rattle.mirror_layer.specs.View.{Beside, tree_of, beside_in, store_of}
 use Rattle.mirror_layer.specs.Calls.{answered, all_told}
-use Rattle.mirror_layer.specs.Ceding.{AtFirst, first_in, first_out}
 use Rattle.mirror_layer.specs.Choosing.{Chooses}
 use Rattle.mirror_layer.specs.Filling.{beside_of_shut}
-use Rattle.mirror_layer.specs.Meeting.{IsNew, AllNew, Found, Met, shuts_in}
+use Rattle.mirror_layer.specs.Meeting.{IsNew, AllNew, Met, shuts_in}
 use Rattle.mirror_layer.specs.Refusing.{IsFirstBad, Refuses}
 use Rattle.mirror_layer.specs.Bringing.{Goes, UnitedAs}
 use Rattle.mirror_layer.proofs.CloseSteps.{every_both}
@@ -37,15 +37,10 @@ news (Mirror' p l q r) a =
     let y = news r a.1 in
     (every_both (shuts_in l) (shuts_in r) x.0 y.0, ap (λ v. v ++ beside_in r) x.1 ∙ (ap (λ v. map beside_of_shut (shuts_in l) ++ v) y.1 ∙ sym (map-both beside_of_shut (shuts_in l) (shuts_in r))))
 
-met-first : {ss : List ShutSeen} {ts : List Store} {xs : List Seat} → Every IsNew ss → Pairs Found ss ts → Pairs Meets ts xs → Pairs AtFirst (map beside_of_shut ss) xs
-met-first every_none pairs_none pairs_none = pairs_none
-met-first (every_more n r) (pairs_more f fs) (pairs_more (meets_good e) ms) = pairs_more (first_in (f.count ∙ sym n.taken)) (met-first r fs ms)
-met-first (every_more n r) (pairs_more f fs) (pairs_more (meets_bad e) ms) = pairs_more first_out (met-first r fs ms)
-met-first (every_more n r) (pairs_more f fs) (pairs_more (meets_down d e l) ms) = pairs_more first_out (met-first r fs ms)
-
--- a good disk that was just opened has the count that it was taken with
-pub first-met : {D H : Type 0} (n : Node D H) {xs : List Seat} → AllNew n → Met (shuts_in n) xs → Pairs AtFirst (beside_in n) xs
-first-met n a m = let x = news n a in rw x.1 (met-first x.0 m.found m.meets)
+-- an answer that is no error
+pub not-err : {T E P : Type 0} (r : Result T E) → is_err r ≡ false → OnOk r P → P
+not-err (Ok u) e h = h
+not-err (Err f) e h = cc
 
 record FirstBad (row : List Seat) (disk : ℕ) : Type 0 where
   pub store : Store
@@ -84,3 +79,12 @@ pub united-good : {D H : Type 0} {shape : ImageShape} {shuts : List ShutSeen} {x
     → Chooses (all_told beside) shape.pages xs (Done true) (seats (tree_of n)) → Renews (all_told beside) shape.page_size shape.pages 0 disks (seats (tree_of n)) (Done true) us → UnitedAs (Ok u) shape shuts beside us
 united-good {shape = shape} {xs = xs} {us = us} n disks beside u many same m h r =
     record { row = xs; met = m; opens = opens-good h (subst (λ k. Renews (all_told beside) shape.page_size shape.pages 0 k (seats (tree_of n)) (Done true) us) (many ∙ (ap (λ (v : List Beside). length v) (sym same) ∙ sym (row-length n))) r) }
+
+-- the disks tell as before
+pub told-then : (bs : List Beside) {cs : List Beside} → cs ≡ bs → all_told bs ≡ true → all_told cs ≡ true
+told-then bs e t = ap all_told e ∙ t
+
+-- a choice that is no fault
+pub chosen-then : {told : Bool} {n : ℕ} {xs zs : List Seat} (r : Result (Unit {0}) StoreFault) → ((f : StoreFault) → r ≡ Err f → ⊥) → Chooses told n xs (answered r) zs → Chooses told n xs (Done true) zs
+chosen-then (Ok u) other h = h
+chosen-then (Err f) other h = absurd (other f refl)

@@ -1,5 +1,5 @@
 -- A ground that is opened over stores.
-use Rattle.std.specs.Prelude.{◌≡◌, ◌<◌, ℕ, List, [], ◌∷◌, length, not, is_some, Bool, true, Option, Some, None, IfSome, Result, Ok, Err}
+use Rattle.std.specs.Prelude.{◌≡◌, ◌≤◌, ◌<◌, ℕ, List, [], ◌∷◌, length, not, is_some, Bool, true, Option, Some, None, IfSome, Result, Ok, Err}
 use Rattle.spr_io.specs.Content.{Content}
 use Rattle.disk_format.specs.declared.shape.ImageShape.{ImageShape}
 use Rattle.disk_format.specs.declared.why.BadImage.{BadImage}
@@ -8,13 +8,13 @@ use Rattle.disk_format.specs.VersionOne.{image_in}
 use Rattle.stack_accept.specs.Plan.{Plan, disks_in}
 use Rattle.mirror_rules.specs.Tree.{Seat}
 use Rattle.mirror_rules.specs.Tree as machine
-use Rattle.mirror_rules.specs.Claims.{Pairs, Nth}
+use Rattle.mirror_rules.specs.Claims.{Pairs, Nth, Has, IsLive}
 use Rattle.mirror_rules.specs.Opening.{Meets, Opens, Outcome, Good, Bad, Lost}
 use Rattle.mirror_rules.specs.Opening as opening
 use Rattle.mirror_layer.specs.View.{Beside}
 use Rattle.mirror_layer.specs.Calls.{all_told}
-use Rattle.mirror_layer.specs.Ground.{Ground}
-use Rattle.mirror_layer.specs.Stores.{Finds, GivesBack}
+use Rattle.mirror_layer.specs.Ground.{Ground, Counted, Differ}
+use Rattle.mirror_layer.specs.Stores.{Finds, GivesBack, HasRoom}
 use Rattle.mirror_layer.specs.Shut.{ShutSeen}
 use Rattle.mirror_layer.specs.Meeting.{Met, Rests, Rested}
 use Rattle.mirror_layer.specs.declared.refuse.Refusal.{Refusal}
@@ -48,6 +48,16 @@ UnitedAs (Ok u) shape shuts beside us = Goes shape shuts beside (Good (not (open
 UnitedAs (Err (why.BadImage disk bad)) shape shuts beside us = Goes shape shuts beside (Bad disk) us
 UnitedAs (Err (why.StoreFault fault)) shape shuts beside us = Goes shape shuts beside (Lost fault.disk fault.count) us
 UnitedAs (Err why.Memory) shape shuts beside us = Rested shuts us
+
+-- the disks of an opening that went well, with the room that their ground keeps for its stores
+pub record IsReady {T : Type 0} (content : T → Option Content) (faults : T → ℕ) (shape : ImageShape) (stores : List T) (plan : Plan) (beside : List Beside) (us : List Seat) (places : List (Option T)) (emptied : List T) (room : ℕ) : Type 0 where
+  pub seen : Seen content faults shape stores plan beside
+  pub opens : Opens (all_told beside) shape.page_size shape.pages seen.row (Good (not (opening.all_live us))) us
+  pub live : Has IsLive us
+  pub counts : Pairs Counted beside us
+  pub within : machine.top us ≤ machine.limit
+  pub differ : Differ beside
+  pub keeps : HasRoom beside places emptied room
 
 -- THE GROUND IS OPENED: what became of the disks is an opening of the machine
 pub record OpenedOver {T : Type 0} (content : T → Option Content) (faults : T → ℕ) (shape : ImageShape) (stores : List T) (plan : Plan) (g : Ground) : Type 0 where

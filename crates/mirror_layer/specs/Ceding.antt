@@ -17,8 +17,3 @@ pub data Cede (b : Beside) : Seat → Seat → Type 0 where
 pub data Cedes : List Beside → List Seat → List Seat → Type 0 where
   cedes_none : Cedes [] [] []
   cedes_more : {b : Beside} {x y : Seat} {bs : List Beside} {xs ys : List Seat} → Cede b x y → Cedes bs xs ys → Cedes (b ∷ bs) (x ∷ xs) (y ∷ ys)
-
--- as the disks were found, a good one has the count that it was opened with
-pub data AtFirst (b : Beside) : Seat → Type 0 where
-  first_in : {c : Cell} → c.faults ≡ b.opened → AtFirst b (In false c)
-  first_out : {v : Bool} {s : Store} → AtFirst b (Out v s)

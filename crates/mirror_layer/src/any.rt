@@ -1,6 +1,6 @@
 //! A ground as a stack asks for it.
 
-ghost use Rattle.std.specs.Prelude.{◌≡◌, ◌<◌, ℕ, List, [], ◌∷◌, Bool, Some, OnOk, OnErr, IfErr, length, true};
+ghost use Rattle.std.specs.Prelude.{◌≡◌, ◌<◌, ℕ, List, [], ◌∷◌, Bool, Some, OnOk, OnErr, IfOk, IfErr, length, true};
 ghost use Rattle.disk_layer.specs.Seen.{Keeps, IsCalm, IsFault, ReadsPage, AllKept, with_page};
 ghost use Rattle.mirror_rules.specs.Tree as machine;
 ghost use Rattle.mirror_rules.specs.Claims.{Every};
@@ -10,12 +10,23 @@ ghost use Rattle.mirror_rules.specs.Steps.{Says, Look, Puts, Flushes};
 ghost use Rattle.mirror_layer.specs.Calls.{answered};
 ghost use Rattle.mirror_layer.specs.Ground.{IsGround, PutsPage, outcome, seen_of};
 ghost use Rattle.mirror_layer.specs.Stores.{GivesBack};
+ghost use Rattle.mirror_layer.specs.Bringing.{OpenedOver, RefusedOver};
+ghost use Rattle.std.specs.List.Sorted.{IsPermutation};
+ghost use Rattle.disk_format.specs.Shape.{IsShape};
+ghost use Rattle.disk_layer.specs.Disk.{Suits};
+ghost use Rattle.stack_accept.specs.Plan.{disks_in, numbers_below, plan_of};
 
+use crate::admit::all_live;
 use crate::close::give_back;
 use crate::ground::MirrorGround;
 use crate::node::Shut;
+use crate::open::open_over;
+use crate::refuse::OpenAll;
+use disk_format::ImageShape;
 use disk_layer::{Disk, Ground, StoreFault};
 use spr_io::Store;
+use stack_accept::GroundPlan;
+use std::alloc::Global;
 use std::marker::Model;
 
 /// The disks under a file, in mirrors.
@@ -41,6 +52,35 @@ impl<S: Store> Model for AnyGround<S> {
 }
 
 impl<S: Store> AnyGround<S> {
+    /// Opens the disks of a plan over their stores, which stand in the order of the disks' numbers, as one ground.
+    ///
+    /// It is refused if no disk has an image, if the ground refused a read or a raise, or if memory ran out, which comes
+    /// before any store is written. The stores go back then.
+    pub fn open(
+        alloc: Global,
+        plan: &GroundPlan,
+        stores: Vec<S>,
+        shape: &ImageShape,
+    ) -> Result<AnyGround<S>, OpenAll<S>>
+        requires shape { IsShape shape.now }
+        requires plan { IsPermutation (disks_in (plan_of plan.now)) (numbers_below (length stores.items)) }
+        requires suits { Every (λ s. Suits shape.now (S.size s) (S.number s)) stores.items }
+        ensures opened { IfOk result (OpenedOver (λ s. S.content s) (λ s. S.faults s) shape.now stores.items (plan_of plan.now)) }
+        ensures refused { IfErr result (λ e. RefusedOver (λ s. S.content s) (λ s. S.faults s) shape.now stores.items (plan_of plan.now) e.why e.stores.items) }
+    {
+        match open_over(alloc, plan, stores, shape) {
+            Ok(room) => {
+                let owed = !all_live(&room.node);
+                Ok(AnyGround {
+                    ground: MirrorGround::new(room.node, *shape, owed),
+                    places: room.places,
+                    emptied: room.emptied,
+                })
+            }
+            Err(refused) => Err(refused),
+        }
+    }
+
     /// Gives the stores back, in the order of the disks. It asks no store, and takes no memory.
     pub fn close(self) -> Vec<S>
         ensures { GivesBack (λ s. S.content s) (λ s. S.faults s) self.beside self.row result.items }

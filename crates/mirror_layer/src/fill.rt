@@ -65,3 +65,20 @@ pub(crate) fn fill<S: Store>(
         }
     }
 }
+
+/// The same, of places in a list.
+pub(crate) fn fill_all<S: Store>(
+    node: &mut Node<Disk<S>, Shut<S>>,
+    shape: &ImageShape,
+    places: &mut Vec<Option<S>>,
+)
+    requires empty { AllEmpty shape.now node.old }
+    requires apart { Apart (disks_in (planned (tree_of node.old))) }
+    requires there { Every (HasStore (λ s. S.size s) (λ s. S.number s) shape.now places.old.items) (disks_in (planned (tree_of node.old))) }
+    ensures new { AllNew node.new }
+    ensures planned { planned (tree_of node.new) ≡ planned (tree_of node.old) }
+    ensures filled { Pairs (Fills (λ s. S.content s) (λ s. S.faults s) shape.now places.old.items) (disks_in (planned (tree_of node.old))) (shuts_in node.new) }
+    ensures many { length places.new.items ≡ length places.old.items }
+{
+    fill(node, shape, places);
+}

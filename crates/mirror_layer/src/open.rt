@@ -3,22 +3,25 @@
 ghost use Rattle.std.specs.Prelude.{◌≡◌, ◌≤◌, ℕ, [], IfOk, IfErr, OnOk, OnErr, length, replicate, vec_capacity, map, Some, true};
 ghost use Rattle.std.specs.List.Sorted.{IsPermutation};
 ghost use Rattle.disk_format.specs.Shape.{IsShape};
-ghost use Rattle.stack_accept.specs.Plan.{plan_of};
+ghost use Rattle.stack_accept.specs.Plan.{disks_in, numbers_below, plan_of};
+ghost use Rattle.disk_layer.specs.Disk.{Suits};
 ghost use Rattle.mirror_rules.specs.Tree as machine;
 ghost use Rattle.mirror_rules.specs.Claims.{Every, Pairs};
 ghost use Rattle.mirror_layer.specs.Ground.{Counted};
 ghost use Rattle.mirror_layer.specs.View.{tree_of, beside_in};
 ghost use Rattle.mirror_layer.specs.Meeting.{AllEmpty, AllNew, planned, shuts_in};
 ghost use Rattle.mirror_layer.specs.Places.{IsSpare};
-ghost use Rattle.mirror_layer.specs.Bringing.{UnitedAs};
+ghost use Rattle.mirror_layer.specs.Bringing.{IsReady, RefusedOver, UnitedAs};
 
 use crate::admit::is_good;
 use crate::asked::level;
 use crate::choose::choose;
+use crate::close::give_back;
+use crate::fill::fill_all;
 use crate::meet::meet;
 use crate::node::{Kept, Node, Shut};
 use crate::plan::empty_tree;
-use crate::refuse::{Refusal, why_none};
+use crate::refuse::{OpenAll, Refusal, why_none};
 use crate::renew::renew_all;
 use disk_format::ImageShape;
 use disk_layer::Disk;
@@ -148,6 +151,57 @@ fn sound_all<S: Store>(node: &Node<Disk<S>, Shut<S>>)
         Node::Mirror(left, right) => {
             sound_all(left);
             sound_all(right);
+        }
+    }
+}
+
+/// How many stores there are.
+fn number_of<S: Store>(stores: &Vec<S>) -> usize
+    ensures { result ≡ length stores.now.items }
+{
+    stores.as_slice().len()
+}
+
+/// Opens a ground of this plan over its stores, in all memory that it needs.
+pub(crate) fn open_over<S: Store>(
+    alloc: Global,
+    plan: &GroundPlan,
+    stores: Vec<S>,
+    shape: &ImageShape,
+) -> Result<Room<S>, OpenAll<S>>
+    requires shape { IsShape shape.now }
+    requires plan { IsPermutation (disks_in (plan_of plan.now)) (numbers_below (length stores.items)) }
+    requires suits { Every (λ s. Suits shape.now (S.size s) (S.number s)) stores.items }
+    ensures ready { IfOk result (λ room. IsReady (λ s. S.content s) (λ s. S.faults s) shape.now stores.items (plan_of plan.now) (beside_in room.node) (machine.seats (tree_of room.node)) room.places.items room.emptied.items (vec_capacity room.emptied)) }
+    ensures refused { IfErr result (λ e. RefusedOver (λ s. S.content s) (λ s. S.faults s) shape.now stores.items (plan_of plan.now) e.why e.stores.items) }
+{
+    let disks = number_of(&stores);
+    let Ok(found) = room_for(alloc, plan, shape, disks) else {
+        return Err(OpenAll {
+            stores,
+            why: Refusal::Memory,
+        });
+    };
+    let mut room = found;
+    set_out(stores, &mut room.places);
+    fill_all(&mut room.node, shape, &mut room.places);
+    match unite(
+        alloc,
+        &mut room.node,
+        disks,
+        &mut room.spare,
+        shape,
+        &mut room.ours,
+        &mut room.its,
+    ) {
+        Ok(()) => {
+            sound_all(&room.node);
+            Ok(room)
+        }
+        Err(why) => {
+            let mut places = room.places;
+            let stores = give_back(room.node, &mut places, room.emptied);
+            Err(OpenAll { stores, why })
         }
     }
 }
