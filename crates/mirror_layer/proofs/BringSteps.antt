@@ -20,7 +20,11 @@ use Rattle.mirror_layer.specs.Stores.{Finds, Numbered, GivesBack}
 use Rattle.mirror_layer.specs.Filling.{HasStore, has_store, Fills, fills, Apart, beside_of_shut}
 use Rattle.mirror_layer.specs.Meeting.{IsNew, AllNew, Found, Met, shuts_in}
 use Rattle.mirror_layer.specs.Bringing.{Brought, brought, Lies, lies, Seen, IsReady, RefusedOver, refused, lacked, UnitedAs}
+use Rattle.mirror_rules.specs.Opening.{Opens, Bad, Lost}
 use Rattle.mirror_layer.proofs.OpenSteps.{news}
+use Rattle.mirror_layer.proofs.EnterSteps.{told-every}
+use Rattle.mirror_layer.proofs.SizeSteps.{sizes}
+use Rattle.mirror_layer.proofs.LastSteps.{lasting, blames}
 use Rattle.mirror_layer.proofs.NumberSteps.{numbers-apart, numbers-many, numbers-under, numbers-each}
 
 -- each store has its place
@@ -142,6 +146,12 @@ ready {content = content} {faults = faults} {shape = shape} {stores = stores} {p
 -- and one that was refused
 pub refused-as : {D H : Type 0} {T : Type 0} {content : T → Option Content} {faults : T → ℕ} {shape : ImageShape} {stores : List T} {plan : Plan} (n m : Node D H) (reason : Refusal) (after : List T) → Filled content faults shape stores plan n → beside_in m ≡ beside_in n
     → UnitedAs (Err reason) shape (shuts_in n) (beside_in n) (seats (tree_of m)) → GivesBack content faults (beside_in m) (seats (tree_of m)) after → RefusedOver content faults shape stores plan reason after
-refused-as {content = content} {faults = faults} n m (why.BadImage disk bad) after f same goes back = refused {reason = why.BadImage disk bad} (seen-by f goes.met) goes.opens refl (subst (λ bs. GivesBack content faults bs (seats (tree_of m)) after) same back)
-refused-as {content = content} {faults = faults} n m (why.StoreFault fault) after f same goes back = refused {reason = why.StoreFault fault} (seen-by f goes.met) goes.opens (refl, refl) (subst (λ bs. GivesBack content faults bs (seats (tree_of m)) after) same back)
+refused-as {content = content} {faults = faults} {shape = shape} n m (why.BadImage disk bad) after f same goes back =
+    refused {reason = why.BadImage disk bad} (seen-by f goes.met) goes.opens refl (blames (Bad disk) goes.opens goes.met.meets)
+    (λ told. lasting (subst (λ t. Opens t shape.page_size shape.pages goes.row (Bad disk) (seats (tree_of m))) told goes.opens) goes.met.meets (sizes (brought-all f.fills goes.met.found) f.lies (told-every (beside_in n) told)))
+    (subst (λ bs. GivesBack content faults bs (seats (tree_of m)) after) same back)
+refused-as {content = content} {faults = faults} {shape = shape} n m (why.StoreFault fault) after f same goes back =
+    refused {reason = why.StoreFault fault} (seen-by f goes.met) goes.opens (refl, refl) (blames (Lost fault.disk fault.count) goes.opens goes.met.meets)
+    (λ told. lasting (subst (λ t. Opens t shape.page_size shape.pages goes.row (Lost fault.disk fault.count) (seats (tree_of m))) told goes.opens) goes.met.meets (sizes (brought-all f.fills goes.met.found) f.lies (told-every (beside_in n) told)))
+    (subst (λ bs. GivesBack content faults bs (seats (tree_of m)) after) same back)
 refused-as {content = content} {faults = faults} n m why.Memory after f same goes back = lacked (brought-all f.fills goes.found) f.lies goes.rests (subst (λ bs. GivesBack content faults bs (seats (tree_of m)) after) same back)

@@ -23,3 +23,5 @@ pub mod ChooseSteps
 pub mod RenewSteps
 pub mod SoundSteps
 pub mod ReadySteps
+pub mod LastSteps
+pub mod SizeSteps

@@ -11,6 +11,7 @@ use Rattle.mirror_rules.specs.Tree as machine
 use Rattle.mirror_rules.specs.Claims.{Pairs, Nth, Has, IsLive}
 use Rattle.mirror_rules.specs.Opening.{Meets, Opens, Outcome, Good, Bad, Lost}
 use Rattle.mirror_rules.specs.Opening as opening
+use Rattle.mirror_layer.specs.Lasting.{Lasting, Given, Blames}
 use Rattle.mirror_layer.specs.View.{Beside}
 use Rattle.mirror_layer.specs.Calls.{all_told}
 use Rattle.mirror_layer.specs.Ground.{Ground, Counted, Differ}
@@ -64,6 +65,9 @@ pub record OpenedOver {T : Type 0} (content : T → Option Content) (faults : T 
   pub seen : Seen content faults shape stores plan g.beside
   pub opens : Opens (all_told g.beside) shape.page_size shape.pages seen.row (Good g.owed) g.row
   pub shaped : g.shape ≡ shape
+  pub fair : Blames (Good g.owed) seen.stores_seen g.row
+  pub lasting : all_told g.beside ≡ true → Lasting seen.stores_seen seen.row g.row
+  pub given : all_told g.beside ≡ true → Given seen.stores_seen seen.row g.row
 
 -- why blocks that are told are no image
 abbrev pub IsBadOf : ImageShape → Option Content → BadImage → Type 0
@@ -83,7 +87,7 @@ Says (Lost d k) why.Memory = ⊥
 -- store was written
 pub data RefusedOver {T : Type 0} (content : T → Option Content) (faults : T → ℕ) (shape : ImageShape) (stores : List T) (plan : Plan) : Refusal → List T → Type 0 where
   refused : {beside : List Beside} {row : List Seat} {o : Outcome} {reason : Refusal} {after : List T} (seen : Seen content faults shape stores plan beside) → Opens (all_told beside) shape.page_size shape.pages seen.row o row
-      → Says o reason → GivesBack content faults beside row after → RefusedOver content faults shape stores plan reason after
+      → Says o reason → Blames o seen.stores_seen row → (all_told beside ≡ true → Lasting seen.stores_seen seen.row row) → GivesBack content faults beside row after → RefusedOver content faults shape stores plan reason after
   lacked : {beside : List Beside} {row : List Seat} {ss : List machine.Store} {after : List T} → Pairs (Brought content faults shape stores) (disks_in plan) ss → Pairs (Lies content faults shape stores) (disks_in plan) beside
       → Pairs Rests ss row → GivesBack content faults beside row after → RefusedOver content faults shape stores plan why.Memory after
   lacked_first : RefusedOver content faults shape stores plan why.Memory stores

@@ -13,3 +13,4 @@ pub mod Filling
 pub mod Bringing
 pub mod Refusing
 pub mod Renewing
+pub mod Lasting
