@@ -4,6 +4,7 @@ use Rattle.std.specs.Prelude.{is_some, IfSome}
 use Rattle.std.specs.List.Sorted.{IsPermutation}
 use Rattle.spr_io.specs.Content.{Content}
 use Rattle.disk_format.specs.declared.shape.ImageShape.{ImageShape}
+use Rattle.disk_format.specs.declared.why.BadImage.{BadImage}
 use Rattle.disk_layer.specs.Disk.{Suits}
 use Rattle.stack_accept.specs.Plan.{Plan, disks_in, numbers_below}
 use Rattle.mirror_rules.specs.Tree.{Seat, seats, is_live, top, limit}
@@ -18,8 +19,8 @@ use Rattle.mirror_layer.specs.View.{Beside, beside_in, tree_of}
 use Rattle.mirror_layer.specs.Ground.{Differ, Counted}
 use Rattle.mirror_layer.specs.Stores.{Finds, Numbered, GivesBack}
 use Rattle.mirror_layer.specs.Filling.{HasStore, has_store, Fills, fills, Apart, beside_of_shut}
-use Rattle.mirror_layer.specs.Meeting.{IsNew, AllNew, Found, Met, shuts_in}
-use Rattle.mirror_layer.specs.Bringing.{Brought, brought, Lies, lies, Seen, IsReady, RefusedOver, refused, lacked, UnitedAs}
+use Rattle.mirror_layer.specs.Meeting.{IsNew, AllNew, Found, IsBadOf, Met, shuts_in}
+use Rattle.mirror_layer.specs.Bringing.{Brought, brought, Lies, lies, Seen, IsReady, RefusedOver, refused, lacked, UnitedAs, IsFirstOf, IsBadStore, bad_store}
 use Rattle.mirror_rules.specs.Opening.{Opens, Bad, Lost}
 use Rattle.mirror_layer.proofs.OpenSteps.{news}
 use Rattle.mirror_layer.proofs.EnterSteps.{told-every}
@@ -143,15 +144,25 @@ ready {content = content} {faults = faults} {shape = shape} {stores = stores} {p
     } in
     subst (λ bs. IsReady content faults shape stores plan bs us places emptied room) (sym same) r
 
+-- why the blocks of the first disk's store are no image
+bad-first : {T : Type 0} {content : T → Option Content} {faults : T → ℕ} {shape : ImageShape} {stores : List T} {disk : ℕ} {bad : BadImage} {ns : List ℕ} (s : ShutSeen) {ss : List ShutSeen}
+    → Pairs (Fills content faults shape (map (λ s. Some s) stores)) ns (s ∷ ss) → s.disk ≡ disk → IsBadOf s.shape s.content bad → IsBadStore content shape stores disk bad
+bad-first {content = content} {shape = shape} {stores = stores} {disk = disk} {bad = bad} s (pairs_more {x = n} (fills {t} e d h c f) fs) q r =
+    bad_store {t = t} (subst (λ v. Nth v stores t) (sym d ∙ q) (placed-nth stores n t e)) (subst (λ v. IsBadOf shape v bad) c (subst (λ v. IsBadOf v s.content bad) h r))
+
+bad-placed : {T : Type 0} {content : T → Option Content} {faults : T → ℕ} {shape : ImageShape} {stores : List T} {disk : ℕ} {bad : BadImage} {ns : List ℕ} {ss : List ShutSeen}
+    → Pairs (Fills content faults shape (map (λ s. Some s) stores)) ns ss → IsFirstOf ss disk bad → IsBadStore content shape stores disk bad
+bad-placed {content = content} {faults = faults} {shape = shape} {stores = stores} {ns = ns} fs f = bad-first f.shut (subst (λ v. Pairs (Fills content faults shape (map (λ s. Some s) stores)) ns v) f.first fs) f.number f.reason
+
 -- and one that was refused
 pub refused-as : {D H : Type 0} {T : Type 0} {content : T → Option Content} {faults : T → ℕ} {shape : ImageShape} {stores : List T} {plan : Plan} (n m : Node D H) (reason : Refusal) (after : List T) → Filled content faults shape stores plan n → beside_in m ≡ beside_in n
     → UnitedAs (Err reason) shape (shuts_in n) (beside_in n) (seats (tree_of m)) → GivesBack content faults (beside_in m) (seats (tree_of m)) after → RefusedOver content faults shape stores plan reason after
 refused-as {content = content} {faults = faults} {shape = shape} n m (why.BadImage disk bad) after f same goes back =
-    refused {reason = why.BadImage disk bad} (seen-by f goes.met) goes.opens refl (blames (Bad disk) goes.opens goes.met.meets)
-    (λ told. lasting (subst (λ t. Opens t shape.page_size shape.pages goes.row (Bad disk) (seats (tree_of m))) told goes.opens) goes.met.meets (sizes (brought-all f.fills goes.met.found) f.lies (told-every (beside_in n) told)))
+    refused {reason = why.BadImage disk bad} (seen-by f goes.0.met) goes.0.opens refl (bad-placed f.fills goes.1) (blames (Bad disk) goes.0.opens goes.0.met.meets)
+    (λ told. lasting (subst (λ t. Opens t shape.page_size shape.pages goes.0.row (Bad disk) (seats (tree_of m))) told goes.0.opens) goes.0.met.meets (sizes (brought-all f.fills goes.0.met.found) f.lies (told-every (beside_in n) told)))
     (subst (λ bs. GivesBack content faults bs (seats (tree_of m)) after) same back)
 refused-as {content = content} {faults = faults} {shape = shape} n m (why.StoreFault fault) after f same goes back =
-    refused {reason = why.StoreFault fault} (seen-by f goes.met) goes.opens (refl, refl) (blames (Lost fault.disk fault.count) goes.opens goes.met.meets)
+    refused {reason = why.StoreFault fault} (seen-by f goes.met) goes.opens (refl, refl) tt (blames (Lost fault.disk fault.count) goes.opens goes.met.meets)
     (λ told. lasting (subst (λ t. Opens t shape.page_size shape.pages goes.row (Lost fault.disk fault.count) (seats (tree_of m))) told goes.opens) goes.met.meets (sizes (brought-all f.fills goes.met.found) f.lies (told-every (beside_in n) told)))
     (subst (λ bs. GivesBack content faults bs (seats (tree_of m)) after) same back)
 refused-as {content = content} {faults = faults} n m why.Memory after f same goes back = lacked (brought-all f.fills goes.found) f.lies goes.rests (subst (λ bs. GivesBack content faults bs (seats (tree_of m)) after) same back)

@@ -19,7 +19,7 @@ use Rattle.mirror_layer.specs.declared.node.Node.{Node, Opened, Shut, Coherency'
 use Rattle.mirror_layer.specs.Shut.{ShutSeen}
 use Rattle.mirror_layer.specs.Stores.{Finds}
 use Rattle.mirror_layer.specs.View.{cell_of, store_of, tree_of, image_in, as_image}
-use Rattle.mirror_layer.specs.Meeting.{IsNew, AllNew, shuts_in, Found, Met, MeetsLeaf, Rests, rests_met, rests_shut, Rested}
+use Rattle.mirror_layer.specs.Meeting.{IsNew, AllNew, shuts_in, Found, Met, MeetsLeaf, Reasons, Rests, rests_met, rests_shut, Rested}
 use Rattle.mirror_layer.proofs.CloseSteps.{shut_cell, finds, finds-shut}
 
 found-as : {shape k : ImageShape} {disk d n m : ℕ} {c e : Option Content} (t : machine.Store) → shape ≡ k → disk ≡ d → c ≡ e → n ≡ m → Finds shape disk c n t → Finds k d e m t
@@ -93,3 +93,20 @@ new-at s k t e q n = subst (λ (v : ShutSeen). Rested (s ∷ []) (Out (is_some v
 pub met-then : (r : Result (Unit {0}) OpenWhy) {cs : List ShutSeen} (bs : List ShutSeen) {xs : List Seat} (ys : List Seat) → Met cs xs → OnOk r (Met bs ys) → OnOk r (Met (cs ++ bs) (xs ++ ys))
 met-then (Ok u) bs ys a h = met-both a h
 met-then (Err e) bs ys a h = tt
+
+-- why blocks are no image
+pub reasons-good : (s : ShutSeen) → Reasons (s ∷ []) (None ∷ [])
+reasons-good s = pairs_more {x = s} {y = None} tt pairs_none
+
+reasons-none : (s t : ShutSeen) → MeetsLeaf s (Ok None) t → Reasons (s ∷ []) (t.bad ∷ [])
+reasons-none s t h = elim h.1 as (λ _. Reasons (s ∷ []) (t.bad ∷ [])) [
+  | inl a ↦ subst (λ v. Reasons (s ∷ []) (v ∷ [])) (sym a.0) (reasons-good s)
+  | inr a ↦ subst (λ v. Reasons (s ∷ []) (v ∷ [])) (sym a.1) (pairs_more {x = s} {y = Some a.0} a.2.1 pairs_none)
+]
+
+pub reasons-at : (s k t : ShutSeen) (o : Option Disk) → o ≡ None → k ≡ s → MeetsLeaf k (Ok o) t → Reasons (s ∷ []) (t.bad ∷ [])
+reasons-at s k t o e q h = reasons-none s t (subst (λ v. MeetsLeaf v (Ok None) t) q (subst (λ v. MeetsLeaf k (Ok v) t) e h))
+
+pub reasons-then : (r : Result (Unit {0}) OpenWhy) {cs : List ShutSeen} (bs : List ShutSeen) {xs : List (Option BadImage)} (ys : List (Option BadImage)) → Reasons cs xs → OnOk r (Reasons bs ys) → OnOk r (Reasons (cs ++ bs) (xs ++ ys))
+reasons-then (Ok u) bs ys a h = pairs-append a h
+reasons-then (Err e) bs ys a h = tt

@@ -1,5 +1,5 @@
 -- An opening, over plain variables.
-use Rattle.std.proofs.Common.{◌≡◌, ℕ, Bool, true, false, not, List, [], ◌∷◌, ◌++◌, length, map, Some, Result, Ok, Err, refl, sym, ap, ◌∙◌, subst}
+use Rattle.std.proofs.Common.{◌≡◌, ℕ, Bool, true, false, not, List, [], ◌∷◌, ◌++◌, length, map, Option, Some, Result, Ok, Err, refl, sym, ap, ◌∙◌, subst}
 use Rattle.std.specs.Prelude.{OnOk, is_err}
 use Rattle.disk_format.specs.declared.shape.ImageShape.{ImageShape}
 use Rattle.disk_format.specs.declared.why.BadImage.{BadImage}
@@ -7,7 +7,7 @@ use Rattle.disk_layer.specs.declared.fault.StoreFault.{StoreFault}
 use Rattle.mirror_rules.specs.Tree.{Store, Seat, In, Out, seats}
 use Rattle.mirror_rules.specs.Claims.{Every, every_none, every_more, Pairs, pairs_none, pairs_more}
 use Rattle.mirror_rules.specs.Steps.{Says, Done, Fault}
-use Rattle.mirror_rules.specs.Opening.{IsBad, NotGood, Renews, Good, Bad, Lost, Opens, open_down, open_bad, all_live}
+use Rattle.mirror_rules.specs.Opening.{Meets, meets_bad, IsBad, NotGood, Renews, Good, Bad, Lost, Opens, open_down, open_bad, all_live}
 use Rattle.mirror_layer.specs.declared.node.Node.{Node, Opened, Shut, Coherency', Mirror'}
 use Rattle.mirror_layer.specs.declared.refuse.Refusal.{Refusal}
 use Rattle.mirror_layer.specs.declared.refuse.Refusal.TheVariants as why
@@ -16,9 +16,9 @@ use Rattle.mirror_layer.specs.View.{Beside, tree_of, beside_in, store_of}
 use Rattle.mirror_layer.specs.Calls.{answered, all_told}
 use Rattle.mirror_layer.specs.Choosing.{Chooses}
 use Rattle.mirror_layer.specs.Filling.{beside_of_shut}
-use Rattle.mirror_layer.specs.Meeting.{IsNew, AllNew, Met, shuts_in}
+use Rattle.mirror_layer.specs.Meeting.{IsNew, AllNew, Found, Met, Reason, Reasons, shuts_in, bads_in}
 use Rattle.mirror_layer.specs.Refusing.{IsFirstBad, Refuses}
-use Rattle.mirror_layer.specs.Bringing.{Goes, UnitedAs}
+use Rattle.mirror_layer.specs.Bringing.{Goes, IsFirstOf, UnitedAs}
 use Rattle.mirror_layer.proofs.CloseSteps.{every_both}
 use Rattle.mirror_layer.proofs.PlaceSteps.{row-length}
 use Rattle.mirror_layer.proofs.ChooseSteps.{opens-good, opens-gone, opens-unrenewed}
@@ -60,11 +60,33 @@ opens-first {told} {size} {n} xs f h = subst (λ d. Opens told size n xs (Bad d)
     rest-bad : {x : Seat} {ys : List Seat} → Every IsBad (x ∷ ys) → Every IsBad ys
     rest-bad (every_more p q) = q
 
+-- why it is no image
+record FirstReason (found : List (Option BadImage)) (bad : BadImage) : Type 0 where
+  pub rest : List (Option BadImage)
+  pub is : found ≡ Some bad ∷ rest
+
+first-reason : {D H : Type 0} (n : Node D H) (disk : ℕ) (bad : BadImage) → IsFirstBad n disk bad → FirstReason (bads_in n) bad
+first-reason (Opened m d) disk bad h = absurd h
+first-reason (Shut s) disk bad h = record { rest = []; is = ap (λ v. v ∷ []) h.1 }
+first-reason (Coherency' p t) disk bad h = first-reason t disk bad h
+first-reason (Mirror' p l q r) disk bad h = let f = first-reason l disk bad h in record { rest = f.rest ++ bads_in r; is = ap (λ v. v ++ bads_in r) f.is }
+
+bad-number : {u t : Store} → Meets u (Out true t) → t.disk ≡ u.disk
+bad-number (meets_bad h) = refl
+
+first-of : {shuts : List ShutSeen} {seen : List Store} {disk : ℕ} {bad : BadImage} {bs : List (Option BadImage)} {xs : List Seat} (t : Store) → t.disk ≡ disk → Pairs Reason shuts (Some bad ∷ bs) → Pairs Found shuts seen → Pairs Meets seen (Out true t ∷ xs)
+    → IsFirstOf shuts disk bad
+first-of t e (pairs_more {x = s} {xs = ss} r rs) (pairs_more g gs) (pairs_more m ms) = record { shut = s; rest = ss; first = refl; number = sym g.number ∙ (sym (bad-number m) ∙ e); reason = r }
+
+first-met : {shuts : List ShutSeen} {disk : ℕ} {bad : BadImage} {found : List (Option BadImage)} {xs : List Seat} → FirstBad xs disk → FirstReason found bad → Met shuts xs → Reasons shuts found → IsFirstOf shuts disk bad
+first-met {shuts} f g m rs = first-of f.store f.number (subst (λ v. Pairs Reason shuts v) g.is rs) m.found (subst (λ v. Pairs Meets m.seen v) f.is m.meets)
+
 -- no disk is good
-pub united-none : {D H : Type 0} (n : Node D H) (r : Refusal) (shape : ImageShape) (shuts : List ShutSeen) (beside : List Beside) → Refuses n r → Every NotGood (seats (tree_of n)) → Met shuts (seats (tree_of n)) → UnitedAs (Err r) shape shuts beside (seats (tree_of n))
-united-none n (why.BadImage disk bad) shape shuts beside h none m = record { row = seats (tree_of n); met = m; opens = opens-first (seats (tree_of n)) (first-bad n disk bad h.1) h.0 }
-united-none n (why.StoreFault fault) shape shuts beside h none m = record { row = seats (tree_of n); met = m; opens = open_down none h }
-united-none n why.Memory shape shuts beside h none m = absurd h
+pub united-none : {D H : Type 0} (n : Node D H) (r : Refusal) (shape : ImageShape) (shuts : List ShutSeen) (beside : List Beside) → Refuses n r → Every NotGood (seats (tree_of n)) → Met shuts (seats (tree_of n)) → Reasons shuts (bads_in n) → UnitedAs (Err r) shape shuts beside (seats (tree_of n))
+united-none n (why.BadImage disk bad) shape shuts beside h none m rs =
+    let f = first-bad n disk bad h.1 in (record { row = seats (tree_of n); met = m; opens = opens-first (seats (tree_of n)) f h.0 }, first-met f (first-reason n disk bad h.1) m rs)
+united-none n (why.StoreFault fault) shape shuts beside h none m rs = record { row = seats (tree_of n); met = m; opens = open_down none h }
+united-none n why.Memory shape shuts beside h none m rs = absurd h
 
 -- a disk won
 pub united-gone : {shape : ImageShape} {shuts : List ShutSeen} {beside : List Beside} {xs zs : List Seat} (f : StoreFault) → Met shuts xs → Chooses (all_told beside) shape.pages xs (Fault f.disk f.count) zs → UnitedAs (Err (why.StoreFault f)) shape shuts beside zs

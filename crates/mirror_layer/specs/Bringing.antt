@@ -1,10 +1,8 @@
 -- A ground that is opened over stores.
-use Rattle.std.specs.Prelude.{◌≡◌, ◌≤◌, ◌<◌, ℕ, List, [], ◌∷◌, length, not, is_some, Bool, true, Option, Some, None, IfSome, Result, Ok, Err}
+use Rattle.std.specs.Prelude.{◌≡◌, ◌≤◌, ◌<◌, ℕ, List, [], ◌∷◌, length, not, is_some, Bool, true, Option, Some, None, Result, Ok, Err}
 use Rattle.spr_io.specs.Content.{Content}
 use Rattle.disk_format.specs.declared.shape.ImageShape.{ImageShape}
 use Rattle.disk_format.specs.declared.why.BadImage.{BadImage}
-use Rattle.disk_format.specs.Image.{front_of}
-use Rattle.disk_format.specs.VersionOne.{image_in}
 use Rattle.stack_accept.specs.Plan.{Plan, disks_in}
 use Rattle.mirror_rules.specs.Tree.{Seat}
 use Rattle.mirror_rules.specs.Tree as machine
@@ -17,7 +15,7 @@ use Rattle.mirror_layer.specs.Calls.{all_told}
 use Rattle.mirror_layer.specs.Ground.{Ground, Counted, Differ}
 use Rattle.mirror_layer.specs.Stores.{Finds, GivesBack, HasRoom}
 use Rattle.mirror_layer.specs.Shut.{ShutSeen}
-use Rattle.mirror_layer.specs.Meeting.{Met, Rests, Rested}
+use Rattle.mirror_layer.specs.Meeting.{Met, Rests, Rested, IsBadOf}
 use Rattle.mirror_layer.specs.declared.refuse.Refusal.{Refusal}
 use Rattle.mirror_layer.specs.declared.refuse.Refusal.TheVariants as why
 
@@ -43,10 +41,18 @@ pub record Goes (shape : ImageShape) (shuts : List ShutSeen) (beside : List Besi
   pub met : Met shuts row
   pub opens : Opens (all_told beside) shape.page_size shape.pages row o us
 
+-- the first disk has this number, and this is why its blocks are no image, if they are told
+pub record IsFirstOf (shuts : List ShutSeen) (disk : ℕ) (bad : BadImage) : Type 0 where
+  pub shut : ShutSeen
+  pub rest : List ShutSeen
+  pub first : shuts ≡ shut ∷ rest
+  pub number : shut.disk ≡ disk
+  pub reason : IsBadOf shut.shape shut.content bad
+
 -- the same by what is answered
 abbrev pub UnitedAs : Result (Unit {0}) Refusal → ImageShape → List ShutSeen → List Beside → List Seat → Type 0
 UnitedAs (Ok u) shape shuts beside us = Goes shape shuts beside (Good (not (opening.all_live us))) us
-UnitedAs (Err (why.BadImage disk bad)) shape shuts beside us = Goes shape shuts beside (Bad disk) us
+UnitedAs (Err (why.BadImage disk bad)) shape shuts beside us = Goes shape shuts beside (Bad disk) us × IsFirstOf shuts disk bad
 UnitedAs (Err (why.StoreFault fault)) shape shuts beside us = Goes shape shuts beside (Lost fault.disk fault.count) us
 UnitedAs (Err why.Memory) shape shuts beside us = Rested shuts us
 
@@ -69,9 +75,15 @@ pub record OpenedOver {T : Type 0} (content : T → Option Content) (faults : T 
   pub lasting : all_told g.beside ≡ true → Lasting seen.stores_seen seen.row g.row
   pub given : all_told g.beside ≡ true → Given seen.stores_seen seen.row g.row
 
--- why blocks that are told are no image
-abbrev pub IsBadOf : ImageShape → Option Content → BadImage → Type 0
-IsBadOf shape content bad = IfSome content (λ c. image_in shape (front_of shape c.blocks) ≡ Err bad)
+-- the store of this disk, which stands in the list at the place of its number: this is why its blocks are no image, if they are told
+pub data IsBadStore {T : Type 0} (content : T → Option Content) (shape : ImageShape) (stores : List T) (disk : ℕ) (bad : BadImage) : Type 0 where
+  bad_store : {t : T} → Nth disk stores t → IsBadOf shape (content t) bad → IsBadStore content shape stores disk bad
+
+-- the reason of a refusal is so of the stores
+abbrev pub Reasoned : {T : Type 0} → (T → Option Content) → ImageShape → List T → Refusal → Type 0
+Reasoned content shape stores (why.BadImage disk bad) = IsBadStore content shape stores disk bad
+Reasoned content shape stores (why.StoreFault fault) = Unit {0}
+Reasoned content shape stores why.Memory = Unit {0}
 
 -- what is said of an outcome of the machine
 abbrev pub Says : Outcome → Refusal → Type 0
@@ -83,11 +95,11 @@ Says (Lost d k) (why.BadImage disk bad) = ⊥
 Says (Lost d k) (why.StoreFault fault) = (fault.disk ≡ d) × (fault.count ≡ k)
 Says (Lost d k) why.Memory = ⊥
 
--- THE GROUND IS REFUSED: what became of the disks is an opening of the machine, and the stores go back; or memory ran out before any
--- store was written
+-- THE GROUND IS REFUSED: what became of the disks is an opening of the machine, the reason is so, and the stores go back; or memory ran
+-- out before any store was written
 pub data RefusedOver {T : Type 0} (content : T → Option Content) (faults : T → ℕ) (shape : ImageShape) (stores : List T) (plan : Plan) : Refusal → List T → Type 0 where
   refused : {beside : List Beside} {row : List Seat} {o : Outcome} {reason : Refusal} {after : List T} (seen : Seen content faults shape stores plan beside) → Opens (all_told beside) shape.page_size shape.pages seen.row o row
-      → Says o reason → Blames o seen.stores_seen row → (all_told beside ≡ true → Lasting seen.stores_seen seen.row row) → GivesBack content faults beside row after → RefusedOver content faults shape stores plan reason after
+      → Says o reason → Reasoned content shape stores reason → Blames o seen.stores_seen row → (all_told beside ≡ true → Lasting seen.stores_seen seen.row row) → GivesBack content faults beside row after → RefusedOver content faults shape stores plan reason after
   lacked : {beside : List Beside} {row : List Seat} {ss : List machine.Store} {after : List T} → Pairs (Brought content faults shape stores) (disks_in plan) ss → Pairs (Lies content faults shape stores) (disks_in plan) beside
       → Pairs Rests ss row → GivesBack content faults beside row after → RefusedOver content faults shape stores plan why.Memory after
   lacked_first : RefusedOver content faults shape stores plan why.Memory stores

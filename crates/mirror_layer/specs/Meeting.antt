@@ -1,7 +1,10 @@
 -- The opening of each disk of a ground.
-use Rattle.std.specs.Prelude.{◌≡◌, ◌⊎◌, ◌<◌, List, [], ◌∷◌, ◌++◌, true, false, Option, Some, None, Result, Ok, Err}
+use Rattle.std.specs.Prelude.{◌≡◌, ◌⊎◌, ◌<◌, List, [], ◌∷◌, ◌++◌, true, false, Option, Some, None, IfSome, Result, Ok, Err}
+use Rattle.spr_io.specs.Content.{Content}
 use Rattle.disk_format.specs.declared.shape.ImageShape.{ImageShape}
 use Rattle.disk_format.specs.declared.why.BadImage.{BadImage}
+use Rattle.disk_format.specs.Image.{front_of}
+use Rattle.disk_format.specs.VersionOne.{image_in}
 use Rattle.disk_layer.specs.declared.refused.OpenWhy.{OpenWhy}
 use Rattle.disk_layer.specs.declared.refused.OpenWhy.TheVariants as whys
 use Rattle.disk_layer.specs.Disk.{Disk}
@@ -54,6 +57,25 @@ MeetsLeaf s (Ok None) t =
     (t ≡ record s { bad = t.bad; faults = t.faults })
     × (((t.bad ≡ None) × (s.faults < t.faults)) ⊎ ((b : BadImage) × (t.bad ≡ Some b) × IsRefusal (record { disk = s.disk; shape = s.shape; content = s.content; faults = s.faults }) t.faults (whys.BadImage b)))
 MeetsLeaf s (Err e) t = Unit {0}
+
+-- why blocks that are told are no image
+abbrev pub IsBadOf : ImageShape → Option Content → BadImage → Type 0
+IsBadOf shape content bad = IfSome content (λ c. image_in shape (front_of shape c.blocks) ≡ Err bad)
+
+-- why the blocks of each disk are no image, where the opening found that
+abbrev pub bads_in : {D H : Type 0} → Node D H → List (Option BadImage)
+bads_in (Opened m d) = None ∷ []
+bads_in (Shut s) = s.bad ∷ []
+bads_in (Coherency' p t) = bads_in t
+bads_in (Mirror' p l q r) = bads_in l ++ bads_in r
+
+-- what the opening found of one disk is so
+abbrev pub Reason : ShutSeen → Option BadImage → Type 0
+Reason s found = IfSome found (λ bad. IsBadOf s.shape s.content bad)
+
+-- and of each
+abbrev pub Reasons : List ShutSeen → List (Option BadImage) → Type 0
+Reasons shuts found = Pairs Reason shuts found
 
 -- no store was written: a disk was opened, or not yet
 pub data Rests (s : machine.Store) : Seat → Type 0 where

@@ -5,7 +5,7 @@ ghost use Rattle.disk_format.specs.Shape.{IsShape};
 ghost use Rattle.disk_layer.specs.declared.refused.OpenWhy.TheVariants.{Memory};
 ghost use Rattle.mirror_rules.specs.Tree as machine;
 ghost use Rattle.mirror_layer.specs.View.{beside_in, tree_of};
-ghost use Rattle.mirror_layer.specs.Meeting.{AllLeft, AllNew, AllThere, IsNew, MeetsLeaf, Met, Rested, planned, shuts_in};
+ghost use Rattle.mirror_layer.specs.Meeting.{AllLeft, AllNew, AllThere, IsNew, MeetsLeaf, Met, Reasons, Rested, bads_in, planned, shuts_in};
 
 use crate::asked::hold;
 use crate::node::{Mark, Node, Shut};
@@ -54,6 +54,7 @@ pub(crate) fn meet<S: Store>(
 ) -> Result<(), OpenWhy>
     requires { AllNew node.old }
     ensures met { OnOk result (Met (shuts_in node.old) (machine.seats (tree_of node.new))) }
+    ensures reasons { OnOk result (Reasons (shuts_in node.old) (bads_in node.new)) }
     ensures err { IfErr result (λ e. e ≡ Memory) }
     ensures rests { Rested (shuts_in node.old) (machine.seats (tree_of node.new)) }
     ensures beside { beside_in node.new ≡ beside_in node.old }

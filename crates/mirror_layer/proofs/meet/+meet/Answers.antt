@@ -1,17 +1,23 @@
 use Rattle.mirror_rules.specs.Tree.{seats}
 use Rattle.mirror_layer.specs.View.{tree_of}
-use Rattle.mirror_layer.specs.Meeting.{shuts_in}
-use Rattle.mirror_layer.proofs.MeetSteps.{good-at, none-at, new-at, rested, rested-all, met-then, rested-both}
+use Rattle.mirror_layer.specs.Meeting.{shuts_in, bads_in}
+use Rattle.mirror_layer.proofs.MeetSteps.{good-at, none-at, new-at, rested, rested-all, met-then, rested-both, reasons-good, reasons-at, reasons-then}
 use Rattle.mirror_layer.proofs.meet.+meet.Goals as goal
 
 pub returns-in-Ok-Some-clause-met : goal.returns-in-Ok-Some-clause-met
 returns-in-Ok-Some-clause-met g t c = rw (c.in-Shut.is, c.hold.ensures) (good-at c.in-Shut.kept c.kept.inside.shut c.meet_leaf.new.shut c.in-Ok-Some.field-0 c.in-Ok-Some.disk c.in-Ok-Some.field-0-is c.kept.view_is c.in-Ok-Some.ensures.met)
+
+pub returns-in-Ok-Some-clause-reasons : goal.returns-in-Ok-Some-clause-reasons
+returns-in-Ok-Some-clause-reasons g t c = rw c.in-Shut.is (reasons-good c.in-Shut.kept)
 
 pub returns-in-Ok-Some-clause-rests : goal.returns-in-Ok-Some-clause-rests
 returns-in-Ok-Some-clause-rests g t c = rw (c.in-Shut.is, c.hold.ensures) (rested (good-at c.in-Shut.kept c.kept.inside.shut c.meet_leaf.new.shut c.in-Ok-Some.field-0 c.in-Ok-Some.disk c.in-Ok-Some.field-0-is c.kept.view_is c.in-Ok-Some.ensures.met))
 
 pub returns-in-Ok-None-clause-met : goal.returns-in-Ok-None-clause-met
 returns-in-Ok-None-clause-met g t c = rw c.in-Shut.is (none-at c.in-Shut.kept c.kept.inside.shut c.meet_leaf.new.shut c.in-Ok-None.field-0 c.in-Ok-None.field-0-is c.kept.view_is c.in-Ok-None.ensures.met)
+
+pub returns-in-Ok-None-clause-reasons : goal.returns-in-Ok-None-clause-reasons
+returns-in-Ok-None-clause-reasons g t c = rw c.in-Shut.is (reasons-at c.in-Shut.kept c.kept.inside.shut c.meet_leaf.new.shut c.in-Ok-None.field-0 c.in-Ok-None.field-0-is c.kept.view_is c.in-Ok-None.ensures.met)
 
 pub returns-in-Ok-None-clause-rests : goal.returns-in-Ok-None-clause-rests
 returns-in-Ok-None-clause-rests g t c = rw c.in-Shut.is (rested (none-at c.in-Shut.kept c.kept.inside.shut c.meet_leaf.new.shut c.in-Ok-None.field-0 c.in-Ok-None.field-0-is c.kept.view_is c.in-Ok-None.ensures.met))
@@ -21,6 +27,9 @@ returns-in-Err-clause-rests g t c = rw c.in-Shut.is (new-at c.in-Shut.kept c.kep
 
 pub returns-in-Ok-clause-met : goal.returns-in-Ok-clause-met
 returns-in-Ok-clause-met g t c = rw (c.in-Mirror.is, ← c.deref_mut-in-Mirror.ensures.value, ← c.deref_mut-in-Ok.ensures.value) (met-then c.meet-in-Ok.result (shuts_in c.deref_mut-in-Ok.result.now) (seats (tree_of c.meet-in-Ok.new.node)) c.in-Ok.ensures.met c.meet-in-Ok.ensures.met)
+
+pub returns-in-Ok-clause-reasons : goal.returns-in-Ok-clause-reasons
+returns-in-Ok-clause-reasons g t c = rw (c.in-Mirror.is, ← c.deref_mut-in-Mirror.ensures.value, ← c.deref_mut-in-Ok.ensures.value) (reasons-then c.meet-in-Ok.result (shuts_in c.deref_mut-in-Ok.result.now) (bads_in c.meet-in-Ok.new.node) c.in-Ok.ensures.reasons c.meet-in-Ok.ensures.reasons)
 
 pub returns-in-Ok-clause-rests : goal.returns-in-Ok-clause-rests
 returns-in-Ok-clause-rests g t c = rw (c.in-Mirror.is, ← c.deref_mut-in-Mirror.ensures.value, ← c.deref_mut-in-Ok.ensures.value) (rested-both c.meet-in-Mirror.ensures.rests c.meet-in-Ok.ensures.rests)

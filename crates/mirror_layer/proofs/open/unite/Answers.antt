@@ -15,7 +15,7 @@ why_none-requires-clause-none g c κs within = good-none (seats (tree_of c.meet.
 pub returns-then-not-is_good-clause-united : goal.returns-then-not-is_good-clause-united
 returns-then-not-is_good-clause-united g c =
     united-none c.meet.new.node c.why_none.result c.args.shape.now _ _ c.why_none.ensures (good-none (seats (tree_of c.meet.new.node)) (sym c.is_good.ensures ∙ c.if-not-is_good.true))
-    (not-err c.meet.result (sym c.is_err.ensures.value ∙ c.if-is_err.false) c.meet.ensures.met)
+    (not-err c.meet.result (sym c.is_err.ensures.value ∙ c.if-is_err.false) c.meet.ensures.met) (not-err c.meet.result (sym c.is_err.ensures.value ∙ c.if-is_err.false) c.meet.ensures.reasons)
 
 pub choose-requires-clause-waits : goal.choose-requires-clause-waits
 choose-requires-clause-waits g c = met-waits (not-err c.meet.result (sym c.is_err.ensures.value ∙ c.if-is_err.false) c.meet.ensures.met).meets
