@@ -35,6 +35,13 @@ fn shape() -> ImageShape
     }
 }
 
+/// Whether a store has the shape of the tests.
+fn fits(store: &MemStore) -> bool
+    ensures { result ≡ true → Suits (record { page_size = 64; pages = 2 }) store.now.size (length store.now.content.blocks) }
+{
+    store.has_shape(64, 4)
+}
+
 /// A disk of a fresh image; nothing if the store has another shape.
 fn formatted(
     alloc: Global,
@@ -44,7 +51,7 @@ fn formatted(
     ensures { IfSome result (λ opened. IfOk opened (λ disk. disk.shape ≡ record { page_size = 64; pages = 2 })) }
 {
     let shape = shape();
-    if !store.has_shape(64, 4) {
+    if !fits(&store) {
         return None;
     }
     Some(Disk::format(alloc, store, number, &shape))
@@ -196,7 +203,7 @@ fn are_two(stores: &[MemStore]) -> bool
     ensures suits { result ≡ true → Every (λ s. Suits (record { page_size = 64; pages = 2 }) s.size (length s.content.blocks)) stores.now }
 {
     match stores {
-        [left, right] => left.has_shape(64, 4) && right.has_shape(64, 4),
+        [left, right] => fits(left) && fits(right),
         _ => false,
     }
 }
@@ -279,7 +286,7 @@ fn last_generation(alloc: Global, stores: &mut Vec<MemStore>) -> Option<u64> {
     match stores.pop() {
         None => None,
         Some(store) => {
-            if !store.has_shape(64, 4) {
+            if !fits(&store) {
                 return None;
             }
             match Disk::open(alloc, store, 0, &shape()) {
