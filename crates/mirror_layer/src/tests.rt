@@ -325,10 +325,7 @@ fn both(alloc: Global, before: Before) -> Result<Option<Vec<MemStore>>, AllocErr
 }
 
 /// A sitting with a read and a flush, and the generation of each disk after it.
-fn looked(
-    alloc: Global,
-    before: Before,
-) -> Result<Option<(Answer, [Option<u64>; 2])>, AllocError> {
+fn looked(alloc: Global, before: Before) -> Result<Option<(Answer, [Option<u64>; 2])>, AllocError> {
     let sitting = Sitting {
         byte: None,
         flush: true,
@@ -366,26 +363,122 @@ fn each_opening(rt: HostRuntime) -> Result<(), Fail> {
     let none = [0u64; 3];
     let a = Ok((Some(b'a'), true));
     let b = Ok((Some(b'b'), true));
-    let rows: [([Option<(u8, u64)>; 2], [u64; 3], [u64; 3], Answer, [Option<u64>; 2]); 30] = [
+    let rows: [(
+        [Option<(u8, u64)>; 2],
+        [u64; 3],
+        [u64; 3],
+        Answer,
+        [Option<u64>; 2],
+    ); 30] = [
         // The greater generation wins, the left one of equals.
-        ([Some((b'a', 1)), Some((b'b', 2))], none, none, b, [Some(2), Some(2)]),
-        ([Some((b'a', 2)), Some((b'b', 1))], none, none, a, [Some(2), Some(2)]),
-        ([Some((b'a', 1)), Some((b'b', 1))], none, none, a, [Some(1), Some(1)]),
-        ([Some((b'a', 3)), Some((b'b', 7))], none, none, b, [Some(7), Some(7)]),
+        (
+            [Some((b'a', 1)), Some((b'b', 2))],
+            none,
+            none,
+            b,
+            [Some(2), Some(2)],
+        ),
+        (
+            [Some((b'a', 2)), Some((b'b', 1))],
+            none,
+            none,
+            a,
+            [Some(2), Some(2)],
+        ),
+        (
+            [Some((b'a', 1)), Some((b'b', 1))],
+            none,
+            none,
+            a,
+            [Some(1), Some(1)],
+        ),
+        (
+            [Some((b'a', 3)), Some((b'b', 7))],
+            none,
+            none,
+            b,
+            [Some(7), Some(7)],
+        ),
         // One that joins refuses the read, the page, its flush, the generation, or the last flush.
-        ([Some((b'a', 1)), Some((b'b', 2))], [3, 0, 0], none, b, [Some(1), Some(3)]),
-        ([Some((b'a', 1)), Some((b'b', 2))], [0, 6, 0], none, b, [Some(1), Some(3)]),
-        ([Some((b'a', 1)), Some((b'b', 2))], [0, 0, 3], none, b, [Some(1), Some(3)]),
-        ([Some((b'a', 1)), Some((b'b', 2))], [0, 7, 0], none, b, [Some(1), Some(3)]),
-        ([Some((b'a', 1)), Some((b'b', 2))], [0, 0, 4], none, b, [Some(2), Some(3)]),
-        ([Some((b'a', 2)), Some((b'b', 1))], none, [3, 0, 0], a, [Some(3), Some(1)]),
+        (
+            [Some((b'a', 1)), Some((b'b', 2))],
+            [3, 0, 0],
+            none,
+            b,
+            [Some(1), Some(3)],
+        ),
+        (
+            [Some((b'a', 1)), Some((b'b', 2))],
+            [0, 6, 0],
+            none,
+            b,
+            [Some(1), Some(3)],
+        ),
+        (
+            [Some((b'a', 1)), Some((b'b', 2))],
+            [0, 0, 3],
+            none,
+            b,
+            [Some(1), Some(3)],
+        ),
+        (
+            [Some((b'a', 1)), Some((b'b', 2))],
+            [0, 7, 0],
+            none,
+            b,
+            [Some(1), Some(3)],
+        ),
+        (
+            [Some((b'a', 1)), Some((b'b', 2))],
+            [0, 0, 4],
+            none,
+            b,
+            [Some(2), Some(3)],
+        ),
+        (
+            [Some((b'a', 2)), Some((b'b', 1))],
+            none,
+            [3, 0, 0],
+            a,
+            [Some(3), Some(1)],
+        ),
         // The winner cannot be read: it gives way to an equal alone.
-        ([Some((b'a', 1)), Some((b'b', 1))], [3, 0, 0], none, b, [Some(1), Some(2)]),
-        ([Some((b'a', 2)), Some((b'b', 1))], [3, 0, 0], none, fault(0), [Some(2), Some(1)]),
+        (
+            [Some((b'a', 1)), Some((b'b', 1))],
+            [3, 0, 0],
+            none,
+            b,
+            [Some(1), Some(2)],
+        ),
+        (
+            [Some((b'a', 2)), Some((b'b', 1))],
+            [3, 0, 0],
+            none,
+            fault(0),
+            [Some(2), Some(1)],
+        ),
         // One is down, or both are.
-        ([Some((b'a', 1)), Some((b'b', 2))], [1, 0, 0], none, b, [Some(1), Some(3)]),
-        ([Some((b'a', 1)), Some((b'b', 2))], [1, 0, 0], [1, 0, 0], fault(1), [Some(1), Some(2)]),
-        ([Some((b'a', 1)), None], [1, 0, 0], none, fault(0), [Some(1), None]),
+        (
+            [Some((b'a', 1)), Some((b'b', 2))],
+            [1, 0, 0],
+            none,
+            b,
+            [Some(1), Some(3)],
+        ),
+        (
+            [Some((b'a', 1)), Some((b'b', 2))],
+            [1, 0, 0],
+            [1, 0, 0],
+            fault(1),
+            [Some(1), Some(2)],
+        ),
+        (
+            [Some((b'a', 1)), None],
+            [1, 0, 0],
+            none,
+            fault(0),
+            [Some(1), None],
+        ),
         // A disk of zeros is formatted, and joins.
         ([None, Some((b'a', 1))], none, none, a, [Some(2), Some(2)]),
         ([None, Some((b'a', 3))], none, none, a, [Some(3), Some(3)]),
@@ -394,19 +487,67 @@ fn each_opening(rt: HostRuntime) -> Result<(), Fail> {
         ([None, Some((b'a', 1))], [0, 1, 0], none, a, [None, Some(3)]),
         ([None, Some((b'a', 1))], [0, 2, 0], none, a, [None, Some(3)]),
         ([None, Some((b'a', 3))], [0, 3, 0], none, a, [None, Some(4)]),
-        ([None, Some((b'a', 1))], [0, 0, 1], none, a, [Some(1), Some(3)]),
+        (
+            [None, Some((b'a', 1))],
+            [0, 0, 1],
+            none,
+            a,
+            [Some(1), Some(3)],
+        ),
         // It refuses a call of its joining.
-        ([None, Some((b'a', 1))], [0, 4, 0], none, a, [Some(1), Some(3)]),
-        ([None, Some((b'a', 1))], [0, 5, 0], none, a, [Some(1), Some(3)]),
-        ([None, Some((b'a', 1))], [0, 0, 2], none, a, [Some(1), Some(3)]),
-        ([None, Some((b'a', 3))], [0, 6, 0], none, a, [Some(1), Some(4)]),
+        (
+            [None, Some((b'a', 1))],
+            [0, 4, 0],
+            none,
+            a,
+            [Some(1), Some(3)],
+        ),
+        (
+            [None, Some((b'a', 1))],
+            [0, 5, 0],
+            none,
+            a,
+            [Some(1), Some(3)],
+        ),
+        (
+            [None, Some((b'a', 1))],
+            [0, 0, 2],
+            none,
+            a,
+            [Some(1), Some(3)],
+        ),
+        (
+            [None, Some((b'a', 3))],
+            [0, 6, 0],
+            none,
+            a,
+            [Some(1), Some(4)],
+        ),
         // The good one cannot be read, or cannot be raised before the format.
-        ([None, Some((b'a', 1))], none, [3, 0, 0], fault(1), [Some(1), Some(2)]),
-        ([None, Some((b'a', 1))], none, [0, 6, 0], fault(1), [None, Some(1)]),
+        (
+            [None, Some((b'a', 1))],
+            none,
+            [3, 0, 0],
+            fault(1),
+            [Some(1), Some(2)],
+        ),
+        (
+            [None, Some((b'a', 1))],
+            none,
+            [0, 6, 0],
+            fault(1),
+            [None, Some(1)],
+        ),
         // Both are zeros.
         ([None, None], none, none, zeros(), [None, None]),
         // Both refuse the flush.
-        ([Some((b'a', 1)), Some((b'a', 1))], [0, 0, 3], [0, 0, 3], Ok((Some(b'a'), false)), [Some(1), Some(1)]),
+        (
+            [Some((b'a', 1)), Some((b'a', 1))],
+            [0, 0, 3],
+            [0, 0, 3],
+            Ok((Some(b'a'), false)),
+            [Some(1), Some(1)],
+        ),
     ];
     for (images, left, right, answer, after) in rows {
         let before = Before {
@@ -428,13 +569,37 @@ fn three_sittings(
     let Some(stores) = both(alloc, before)? else {
         return Ok(None);
     };
-    let Some((first, stores)) = sit(alloc, stores, Sitting { byte: Some(b'b'), flush: false })? else {
+    let Some((first, stores)) = sit(
+        alloc,
+        stores,
+        Sitting {
+            byte: Some(b'b'),
+            flush: false,
+        },
+    )?
+    else {
         return Ok(None);
     };
-    let Some((second, stores)) = sit(alloc, stores, Sitting { byte: None, flush: true })? else {
+    let Some((second, stores)) = sit(
+        alloc,
+        stores,
+        Sitting {
+            byte: None,
+            flush: true,
+        },
+    )?
+    else {
         return Ok(None);
     };
-    let Some((third, stores)) = sit(alloc, stores, Sitting { byte: None, flush: false })? else {
+    let Some((third, stores)) = sit(
+        alloc,
+        stores,
+        Sitting {
+            byte: None,
+            flush: false,
+        },
+    )?
+    else {
         return Ok(None);
     };
     Ok(Some(([first, second, third], generations(alloc, stores))))
@@ -454,7 +619,10 @@ fn page_that_the_right_disk_took(rt: HostRuntime) -> Result<(), Fail> {
         Ok((Some(b'b'), true)),
         Ok((Some(b'b'), false)),
     ];
-    assert_eq!(rt; three_sittings(rt.alloc(), before)?, Some((answers, [Some(2); 2])));
+    assert_eq!(rt;
+        three_sittings(rt.alloc(), before)?,
+        Some((answers, [Some(2); 2]))
+    );
     Ok(())
 }
 
