@@ -1,4 +1,4 @@
-use Rattle.std.proofs.Common.{◌≡◌, ℕ, ◌≤◌, ◌<◌, List, [], ◌∷◌, length, get_or, subst, arith}
+use Rattle.std.proofs.Common.{◌≡◌, ◌≤◌, ◌<◌, List, [], ◌∷◌, length, get_or, subst, arith}
 use Rattle.mirror_rules.specs.Claims.{Every, every_none, every_more}
 use Rattle.mirror_layer.proofs.tests.are_two.Goals as goal
 

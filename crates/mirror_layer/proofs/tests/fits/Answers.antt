@@ -1,7 +1,6 @@
-use Rattle.std.proofs.Common.{◌≡◌, ℕ, ◌&&◌, ◌==◌, Bool, true, sym, ap, ◌∙◌, length}
+use Rattle.std.proofs.Common.{◌≡◌, ℕ, ◌&&◌, ◌==◌, Bool, true, sym, ◌∙◌, length}
 use Rattle.std.proofs.lemmas.Bool.{and_parts, eqb-true}
-use Rattle.disk_format.specs.declared.shape.ImageShape.{ImageShape}
-use Rattle.disk_format.specs.Shape.{map_blocks, blocks_of}
+use Rattle.disk_format.specs.Shape.{map_blocks}
 use Rattle.disk_layer.specs.Disk.{Suits}
 use Rattle.mirror_layer.proofs.tests.fits.Goals as goal
 
