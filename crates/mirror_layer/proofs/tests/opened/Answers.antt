@@ -1,26 +1,30 @@
-use Rattle.std.proofs.Common.{◌≡◌, sym, subst, ◌∙◌}
+use Rattle.std.proofs.Common.{◌≡◌, ℕ, List, [], ◌∷◌, length, sym, ap, subst, ◌∙◌}
+use Rattle.std.specs.List.Sorted.{IsPermutation}
+use Rattle.std.proofs.lemmas.List.Sorted.{IsPermutation-append_comm}
+use Rattle.spr_io.specs.declared.memory.MemStore.{MemStore}
 use Rattle.disk_format.specs.declared.shape.ImageShape.{ImageShape}
-use Rattle.mirror_rules.specs.Tree.{seats}
-use Rattle.mirror_rules.specs.Claims.{Every, Pairs}
-use Rattle.mirror_layer.specs.View.{Beside, beside_in, tree_of}
-use Rattle.mirror_layer.specs.Ceding.{AtFirst}
-use Rattle.mirror_layer.proofs.CloseSteps.{every_both}
-use Rattle.mirror_layer.proofs.AdmitSteps.{met-waits}
-use Rattle.mirror_layer.proofs.ChooseSteps.{met-both}
+use Rattle.disk_layer.specs.Disk.{Suits}
+use Rattle.stack_accept.specs.Plan.{Plan, OnDisk, OnMirror, disks_in, numbers_below}
+use Rattle.mirror_rules.specs.Claims.{Every}
 use Rattle.mirror_layer.proofs.tests.opened.Goals as goal
 
-pub choose-requires-clause-waits : goal.choose-requires-clause-waits
-choose-requires-clause-waits c = met-waits c.in-Ok.ensures.met.meets
+-- the disks of a mirror of two are the numbers below 2
+two-numbers : (plan : Plan) (n : ℕ) → plan ≡ OnMirror (OnDisk 0) (OnDisk 1) → n ≡ 2 → IsPermutation (disks_in plan) (numbers_below n)
+two-numbers plan n mirror two =
+    subst (λ (p : Plan). IsPermutation (disks_in p) (numbers_below n)) (sym mirror)
+    (subst (λ m. IsPermutation (0 ∷ 1 ∷ []) (numbers_below m)) (sym two) (IsPermutation-append_comm (0 ∷ []) (1 ∷ [])))
 
-pub choose-requires-clause-shapes : goal.choose-requires-clause-shapes
-choose-requires-clause-shapes c = subst (λ (v : ImageShape). Every (λ (b : Beside). b.shape ≡ v) (beside_in c.meet.new.node)) (sym c.shape.ensures.shape)
-    (subst (λ bs. Every (λ (b : Beside). b.shape ≡ record { page_size = 64; pages = 2 }) bs) (sym c.meet.ensures.beside)
-    (rw (c.in_ok-left_side.ensures.ok, c.in_ok-right_side.ensures.ok) (every_both (beside_in c.args.left) (beside_in c.args.right) c.requires.left_shape c.requires.right_shape)))
+-- what suits one shape suits the same one
+all-suit : (shape : ImageShape) (seen stores : List MemStore) → shape ≡ record { page_size = 64; pages = 2 } → seen ≡ stores → Every (λ s. Suits (record { page_size = 64; pages = 2 }) s.size (length s.content.blocks)) seen
+    → Every (λ s. Suits shape s.size (length s.content.blocks)) stores
+all-suit shape seen stores same list all =
+    subst (λ (v : ImageShape). Every (λ (s : MemStore). Suits v s.size (length s.content.blocks)) stores) (sym same)
+    (subst (λ ss. Every (λ (s : MemStore). Suits (record { page_size = 64; pages = 2 }) s.size (length s.content.blocks)) ss) list all)
 
-pub choose-requires-clause-first : goal.choose-requires-clause-first
-choose-requires-clause-first c = subst (λ bs. Pairs AtFirst bs (seats (tree_of c.meet.new.node))) (sym c.meet.ensures.beside)
-    (rw (c.in_ok-left_side.ensures.ok, c.in_ok-right_side.ensures.ok) (met-both c.args.left c.args.right c.requires.left c.requires.right (rw (c.in_ok-left_side.ensures.ok, c.in_ok-right_side.ensures.ok) at c.in-Ok.ensures.met)))
+pub open-requires-clause-plan : goal.open-requires-clause-plan
+open-requires-clause-plan c κs =
+    two-numbers _ (length c.args.stores.items) c.in_ok-plan.ensures (ap (λ (ss : List MemStore). length ss) (sym c.as_slice.ensures.value) ∙ c.are_two.ensures.two c.if-not-are_two.false)
 
-pub first_byte-requires-clause-small : goal.first_byte-requires-clause-small
-first_byte-requires-clause-small c = subst (λ bs. Every (λ (b : Beside). b.shape ≡ record { page_size = 64; pages = 2 }) bs) (sym (c.choose.ensures.beside ∙ c.meet.ensures.beside))
-    (rw (c.in_ok-left_side.ensures.ok, c.in_ok-right_side.ensures.ok) (every_both (beside_in c.args.left) (beside_in c.args.right) c.requires.left_shape c.requires.right_shape))
+pub open-requires-clause-suits : goal.open-requires-clause-suits
+open-requires-clause-suits c κs =
+    all-suit c.shape.result c.as_slice.result.now c.args.stores.items c.shape.ensures.shape c.as_slice.ensures.value (c.are_two.ensures.suits c.if-not-are_two.false)
