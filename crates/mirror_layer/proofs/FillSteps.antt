@@ -1,11 +1,11 @@
 -- The stores that are put into a tree, over plain variables.
-use Rattle.std.proofs.Common.{◌≡◌, ◌≢◌, ℕ, List, [], ◌∷◌, ◌++◌, get_or, Option, Some, None, refl, sym, ◌∙◌, subst}
+use Rattle.std.proofs.Common.{◌≡◌, ◌≢◌, ℕ, List, [], ◌∷◌, ◌++◌, get_or, Option, None, sym, ◌∙◌}
 use Rattle.spr_io.specs.Content.{Content}
 use Rattle.disk_format.specs.declared.shape.ImageShape.{ImageShape}
 use Rattle.mirror_rules.specs.Claims.{Every, every_none, every_more, Pairs, pairs_none, pairs_more}
 use Rattle.mirror_layer.specs.Shut.{ShutSeen}
 use Rattle.mirror_layer.specs.Filling.{HasStore, has_store, Fills, fills, Apart}
-use Rattle.mirror_layer.proofs.CloseSteps.{every_left, every_right, every_both}
+use Rattle.mirror_layer.proofs.CloseSteps.{every_left, every_right}
 
 pub apart-left : (xs ys : List ℕ) → Apart (xs ++ ys) → Apart xs
 apart-left [] ys a = tt

@@ -1,6 +1,6 @@
 -- An opening and the pages that its disks guard, over plain variables.
-use Rattle.std.proofs.Common.{◌≡◌, ℕ, Bool, true, List, sym, subst}
-use Rattle.mirror_rules.specs.Tree.{Store, Seat, Tree, seats}
+use Rattle.std.proofs.Common.{ℕ, Bool, true, List, sym, subst}
+use Rattle.mirror_rules.specs.Tree.{Store, Seat}
 use Rattle.mirror_rules.specs.Claims.{Pairs, Every}
 use Rattle.mirror_rules.specs.Opening.{Meets, Outcome, Good, Bad, Lost, Opens}
 use Rattle.mirror_rules.specs.Fates.{Sized}

@@ -1,13 +1,13 @@
 -- An opening, over plain variables.
-use Rattle.std.proofs.Common.{◌≡◌, ℕ, Bool, true, false, not, List, [], ◌∷◌, ◌++◌, length, map, Option, Some, Result, Ok, Err, refl, sym, ap, ◌∙◌, subst}
+use Rattle.std.proofs.Common.{◌≡◌, ℕ, Bool, true, false, List, [], ◌∷◌, ◌++◌, length, map, Option, Some, Result, Ok, Err, refl, sym, ap, ◌∙◌, subst}
 use Rattle.std.specs.Prelude.{OnOk, is_err}
 use Rattle.disk_format.specs.declared.shape.ImageShape.{ImageShape}
 use Rattle.disk_format.specs.declared.why.BadImage.{BadImage}
 use Rattle.disk_layer.specs.declared.fault.StoreFault.{StoreFault}
-use Rattle.mirror_rules.specs.Tree.{Store, Seat, In, Out, seats}
-use Rattle.mirror_rules.specs.Claims.{Every, every_none, every_more, Pairs, pairs_none, pairs_more}
-use Rattle.mirror_rules.specs.Steps.{Says, Done, Fault}
-use Rattle.mirror_rules.specs.Opening.{Meets, meets_bad, IsBad, NotGood, Renews, Good, Bad, Lost, Opens, open_down, open_bad, all_live}
+use Rattle.mirror_rules.specs.Tree.{Store, Seat, Out, seats}
+use Rattle.mirror_rules.specs.Claims.{Every, every_none, every_more, Pairs, pairs_more}
+use Rattle.mirror_rules.specs.Steps.{Done, Fault}
+use Rattle.mirror_rules.specs.Opening.{Meets, meets_bad, IsBad, NotGood, Renews, Bad, Opens, open_down, open_bad}
 use Rattle.mirror_layer.specs.declared.node.Node.{Node, Opened, Shut, Coherency', Mirror'}
 use Rattle.mirror_layer.specs.declared.refuse.Refusal.{Refusal}
 use Rattle.mirror_layer.specs.declared.refuse.Refusal.TheVariants as why
@@ -18,7 +18,7 @@ use Rattle.mirror_layer.specs.Choosing.{Chooses}
 use Rattle.mirror_layer.specs.Filling.{beside_of_shut}
 use Rattle.mirror_layer.specs.Meeting.{IsNew, AllNew, Found, Met, Reason, Reasons, shuts_in, bads_in}
 use Rattle.mirror_layer.specs.Refusing.{IsFirstBad, Refuses}
-use Rattle.mirror_layer.specs.Bringing.{Goes, IsFirstOf, UnitedAs}
+use Rattle.mirror_layer.specs.Bringing.{IsFirstOf, UnitedAs}
 use Rattle.mirror_layer.proofs.CloseSteps.{every_both}
 use Rattle.mirror_layer.proofs.PlaceSteps.{row-length}
 use Rattle.mirror_layer.proofs.ChooseSteps.{opens-good, opens-gone, opens-unrenewed}

@@ -1,5 +1,5 @@
 -- A ground of disks that were opened well, over plain variables.
-use Rattle.std.proofs.Common.{◌≡◌, ℕ, Bool, true, not, List, Option, refl, sym, subst}
+use Rattle.std.proofs.Common.{◌≡◌, ℕ, Bool, not, List, Option, refl, sym, subst}
 use Rattle.spr_io.specs.Content.{Content}
 use Rattle.disk_format.specs.declared.shape.ImageShape.{ImageShape}
 use Rattle.stack_accept.specs.Plan.{Plan}

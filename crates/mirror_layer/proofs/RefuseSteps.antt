@@ -1,5 +1,5 @@
 -- The refusal of a ground of which no disk is good, over plain variables.
-use Rattle.std.proofs.Common.{◌≡◌, ℕ, Bool, true, false, List, [], ◌∷◌, ◌++◌, Option, Some, None, refl, sym, ap, ◌∙◌, subst}
+use Rattle.std.proofs.Common.{◌≡◌, ℕ, Bool, true, false, List, [], ◌∷◌, ◌++◌, Option, Some, None, refl, subst}
 use Rattle.std.specs.Prelude.{is_some, IfSome, IfNone}
 use Rattle.disk_format.specs.declared.why.BadImage.{BadImage}
 use Rattle.disk_layer.specs.declared.fault.StoreFault.{StoreFault}

@@ -1,5 +1,5 @@
 -- A bad disk is formatted and joins, over plain variables.
-use Rattle.std.proofs.Common.{◌≡◌, ◌⊎◌, inl, inr, ℕ, zero, suc, ◌+◌, ◌<◌, ◌≤◌, max, Bool, true, false, not, ◌||◌, List, [], ◌∷◌, set, map, replicate, Option, Some, None, Result, Ok, Err, refl, sym, ap, ◌∙◌, subst, arith}
+use Rattle.std.proofs.Common.{◌≡◌, ◌⊎◌, inl, inr, ℕ, suc, ◌+◌, ◌<◌, ◌≤◌, max, Bool, true, false, not, ◌||◌, List, set, replicate, Option, Some, None, Result, Ok, Err, refl, sym, ap, ◌∙◌, subst, arith}
 use Rattle.std.specs.Prelude.{is_some, IfSome}
 use Rattle.std.specs.Option.{option_map}
 use Rattle.spr_io.specs.Content.{Content, flushed}
@@ -11,11 +11,10 @@ use Rattle.disk_format.specs.Image.{Imaged, image, pages_of, page_of}
 use Rattle.disk_layer.specs.declared.fault.StoreFault.{StoreFault}
 use Rattle.disk_layer.specs.Disk.{Disk, HasImage, pages_on, kept_on, formatted, laid}
 use Rattle.disk_layer.specs.Calls.{IsNone, IsNoneOrFresh}
-use Rattle.disk_layer.specs.Calls as calls
 use Rattle.mirror_rules.specs.Tree.{Cell, Seat, In, Out, Tree, generation, lives, seats, is_live}
 use Rattle.mirror_rules.specs.Tree as machine
 use Rattle.mirror_rules.specs.Claims.{Pairs, pairs_none, pairs_more, Nth, nth_here, nth_later, Has, has_here, has_later, IsLive, live_in}
-use Rattle.mirror_rules.specs.Steps.{Act, Raise, Says, Done, Fault, Passes, Asked, asked_out, asked_stale, asked_took, asked_lost, asked_none, Answer, Named, Round}
+use Rattle.mirror_rules.specs.Steps.{Act, Raise, Says, Done, Fault, Passes, Asked, asked_out, asked_stale, asked_none, Answer, Round}
 use Rattle.mirror_rules.specs.Opening.{Copies, Readies, ready_higher, ready_raised, Formats, Unformatted, unformatted, NotBad, good_in, good_down, Renews, renew_end, renew_next, renew_unraised, renew_refused, renew_joins, renew_gone}
 use Rattle.mirror_rules.specs.Opening as opening
 use Rattle.mirror_rules.proofs.RoundLaws.{passes-round, live-tree, live-seats}
@@ -24,11 +23,11 @@ use Rattle.mirror_layer.specs.declared.node.Mark.{Mark}
 use Rattle.mirror_layer.specs.declared.node.Mark.TheVariants as mark
 use Rattle.mirror_layer.specs.declared.node.Node.{Node}
 use Rattle.mirror_layer.specs.Shut.{ShutSeen, CanFormat, CanRenew}
-use Rattle.mirror_layer.specs.View.{Beside, as_image, image_in, cell_from, cell_of, seat_of, store_of, beside_of, tree_of, beside_in}
-use Rattle.mirror_layer.specs.Calls.{said, answered, all_told}
+use Rattle.mirror_layer.specs.View.{Beside, as_image, image_in, cell_from, cell_of, seat_of, store_of, tree_of, beside_in}
+use Rattle.mirror_layer.specs.Calls.{answered, all_told}
 use Rattle.mirror_layer.specs.Ground.{outcome}
 use Rattle.mirror_layer.specs.Joining.{Joins, joined, ended}
-use Rattle.mirror_layer.specs.Places.{Exchanged, LeafTells, first_seat, first_beside}
+use Rattle.mirror_layer.specs.Places.{Exchanged, LeafTells, first_seat}
 use Rattle.mirror_layer.specs.Renewing.{Formatted, Declined, RenewsLeaf}
 use Rattle.mirror_layer.proofs.CloseSteps.{beside_shut, shut_seen}
 use Rattle.mirror_layer.proofs.JoinSteps.{nth-plug, only-plug, named-plug}

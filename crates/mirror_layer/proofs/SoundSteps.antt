@@ -1,5 +1,5 @@
 -- What holds of every tree whose disks have their stores, over plain variables.
-use Rattle.std.proofs.Common.{◌≡◌, ℕ, ◌≤◌, max, true, List, ◌++◌, refl, arith}
+use Rattle.std.proofs.Common.{◌≤◌, List, ◌++◌, refl, arith}
 use Rattle.std.proofs.lemmas.Bool.{eq-eqb}
 use Rattle.disk_layer.specs.Disk.{Disk}
 use Rattle.disk_layer.specs.Disk as disk_layer

@@ -1,7 +1,7 @@
 -- Why a ground of which no disk is good is not opened.
-use Rattle.std.specs.Prelude.{◌≡◌, ℕ, Some, List}
+use Rattle.std.specs.Prelude.{◌≡◌, ℕ, Some}
 use Rattle.disk_format.specs.declared.why.BadImage.{BadImage}
-use Rattle.mirror_rules.specs.Tree.{Seat, seats}
+use Rattle.mirror_rules.specs.Tree.{seats}
 use Rattle.mirror_rules.specs.Claims.{Every}
 use Rattle.mirror_rules.specs.Opening.{IsBad, LastDown}
 use Rattle.mirror_layer.specs.declared.node.Node.{Node, Opened, Shut, Coherency', Mirror'}

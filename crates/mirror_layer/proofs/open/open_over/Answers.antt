@@ -1,8 +1,8 @@
 use Rattle.std.proofs.Common.{◌≡◌, ◌≤◌, List, length, map, Some, true, vec_capacity, sym, subst, ◌∙◌, ap}
 use Rattle.std.proofs.lemmas.List.{length-map}
-use Rattle.stack_accept.specs.Plan.{Plan, disks_in, plan_of}
+use Rattle.stack_accept.specs.Plan.{disks_in, plan_of}
 use Rattle.mirror_rules.specs.Claims.{Every}
-use Rattle.mirror_layer.specs.View.{Beside, beside_in, tree_of}
+use Rattle.mirror_layer.specs.View.{Beside, tree_of}
 use Rattle.mirror_layer.specs.Meeting.{planned}
 use Rattle.mirror_layer.specs.Ground.{Differ}
 use Rattle.mirror_layer.specs.Stores.{Numbered}

@@ -1,4 +1,4 @@
-use Rattle.std.proofs.Common.{◌≡◌, sym, subst, ◌∙◌, refl}
+use Rattle.std.proofs.Common.{◌≡◌, sym, subst, ◌∙◌}
 use Rattle.mirror_rules.specs.Tree.{seats}
 use Rattle.mirror_rules.specs.Claims.{Every, Pairs}
 use Rattle.mirror_layer.specs.View.{Beside, beside_in, tree_of}

@@ -1,5 +1,5 @@
 use Rattle.mirror_rules.specs.Tree.{seats}
-use Rattle.mirror_layer.specs.View.{tree_of, cell_of, store_of}
+use Rattle.mirror_layer.specs.View.{tree_of, cell_of}
 use Rattle.mirror_layer.proofs.CloseSteps.{every_left, every_right}
 use Rattle.mirror_layer.proofs.RefuseSteps.{opened-good, down-here, none-down, later-down, down-left, bad-all}
 use Rattle.mirror_layer.proofs.refuse.+last_down.Goals as goal

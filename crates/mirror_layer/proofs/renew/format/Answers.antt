@@ -1,4 +1,4 @@
-use Rattle.std.proofs.Common.{◌≡◌, ◌∙◌, sym}
+use Rattle.std.proofs.Common.{◌∙◌, sym}
 use Rattle.mirror_layer.proofs.RenewSteps.{declined}
 use Rattle.mirror_layer.proofs.renew.format.Goals as goal
 

@@ -1,5 +1,4 @@
-use Rattle.std.proofs.Common.{◌≡◌, ap, ◌∙◌, subst, sym}
-use Rattle.disk_layer.specs.Disk.{Disk}
+use Rattle.std.proofs.Common.{◌≡◌, subst, sym}
 use Rattle.mirror_rules.specs.Claims.{Every}
 use Rattle.mirror_rules.specs.Tree.{seats}
 use Rattle.mirror_layer.specs.View.{Beside, beside_in, cell_of, seat_of, store_of, tree_of}
