@@ -1,5 +1,5 @@
 -- A fresh image that is written over other blocks, once their header is none.
-use Rattle.std.proofs.Common.{◌≡◌, ◌⊎◌, ⊎_elim, inl, inr, ℕ, zero, suc, ◌+◌, ◌-◌, ◌<◌, ◌≤◌, List, [], ◌∷◌, length, get_or, set, take, drop, replicate, Option, Some, None, IfSome, Err, refl, sym, ap, ◌∙◌, subst, arith}
+use Rattle.std.proofs.Common.{◌≡◌, ◌⊎◌, ⊎_elim, inl, inr, ℕ, zero, suc, ◌-◌, ◌<◌, ◌≤◌, List, [], ◌∷◌, length, get_or, set, drop, replicate, Option, Some, None, Err, refl, sym, ap, ◌∙◌, subst, arith}
 use Rattle.std.specs.Prelude.{is_some}
 use Rattle.std.proofs.lemmas.Bool.{ne_eqb, eq-eqb}
 use Rattle.std.proofs.lemmas.List.{length-set}
@@ -8,14 +8,14 @@ use Rattle.spr_io.specs.Content.{Content, HasShape, IsShaped, written}
 use Rattle.disk_format.specs.declared.shape.ImageShape.{ImageShape}
 use Rattle.disk_format.specs.declared.why.BadImage.{BadImage}
 use Rattle.disk_format.specs.declared.why.ImageWhy.TheVariants.{Magic}
-use Rattle.disk_format.specs.Shape.{IsShape, map_blocks, first_data, blocks_of}
+use Rattle.disk_format.specs.Shape.{map_blocks, first_data, blocks_of}
 use Rattle.disk_format.specs.VersionOne.{number_at, header_in, image_in}
-use Rattle.disk_format.specs.Image.{Imaged, image, imaged, pages_of, front_of}
+use Rattle.disk_format.specs.Image.{image, imaged, front_of}
 use Rattle.disk_format.proofs.RowLaws.{image-no_header}
 use Rattle.disk_format.proofs.MapLaws.{Sizes, sizes-all}
 use Rattle.disk_format.proofs.ShapeLaws.{size_low}
 use Rattle.disk_format.proofs.ImageLaws.{front-parts, head-data, head-header}
-use Rattle.disk_layer.specs.Front.{FrontSeen, IsFresh, entries_on}
+use Rattle.disk_layer.specs.Front.{FrontSeen, IsFresh}
 use Rattle.disk_layer.specs.Disk.{laid, formatted}
 use Rattle.disk_layer.specs.Calls.{IsNone, IsNoneOrFresh, fresh_image}
 use Rattle.disk_layer.proofs.BlockLaws.{length-laid}

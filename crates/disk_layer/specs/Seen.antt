@@ -1,5 +1,5 @@
 -- What lies under a file tells contracts, and what each call of it keeps.
-use Rattle.std.specs.Prelude.{◌≡◌, ◌⊎◌, ℕ, ◌<◌, ◌≤◌, ◌==◌, if◌then◌else◌, Bool, List, [], ◌∷◌, length, slice_get, slice_set, Option, Some, None, IfSome, Contains}
+use Rattle.std.specs.Prelude.{◌≡◌, ◌⊎◌, ℕ, ◌<◌, ◌≤◌, ◌==◌, if◌then◌else◌, Bool, List, [], ◌∷◌, length, map, slice_get, slice_set, is_some, Option, Some, None, IfSome, Contains}
 use Rattle.std.specs.Option.{option_map}
 use Rattle.disk_format.specs.Image.{Imaged}
 use Rattle.disk_layer.specs.declared.fault.StoreFault.{StoreFault}
@@ -41,6 +41,10 @@ abbrev pub live_in : List DiskSeen → List ℕ
 live_in [] = []
 live_in (d ∷ ds) = if d.live then d.disk ∷ live_in ds else live_in ds
 
+-- the numbers of all disks
+abbrev pub numbers_in : List DiskSeen → List ℕ
+numbers_in disks = map (λ d. d.disk) disks
+
 -- a page was read, if the pages are told
 abbrev pub ReadsPage : Option (List (List ℕ)) → ℕ → List ℕ → Type 0
 ReadsPage pages page bytes = IfSome pages (λ ps. slice_get ps page ≡ Some bytes)
@@ -66,6 +70,9 @@ pub record Keeps (before after : Seen) : Type 0 where
   pub same_size : after.page_size ≡ before.page_size
   pub same_number : after.number ≡ before.number
   pub many : IfSome after.pages (λ ps. length ps ≡ after.number)
+  -- the disks are the same ones, and each tells what it kept if it did
+  pub same_disks : numbers_in after.disks ≡ numbers_in before.disks
+  pub same_told : (d : ℕ) → is_some (kept_in after.disks d) ≡ is_some (kept_in before.disks d)
   -- a live disk has kept what it had kept before, or the pages from the call's start
   pub kept : (d : ℕ) → Contains (live_in after.disks) d → (pages_in (kept_in after.disks d) ≡ pages_in (kept_in before.disks d)) ⊎ KeptAt (kept_in after.disks d) before.pages
   -- no disk gets live, some disk is live, and a disk that is so no more has failed in the call

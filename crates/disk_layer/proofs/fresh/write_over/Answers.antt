@@ -1,6 +1,6 @@
-use Rattle.std.proofs.Common.{◌≡◌, sym, ap, ◌∙◌}
+use Rattle.std.proofs.Common.{ap, ◌∙◌}
 use Rattle.std.proofs.lemmas.Result.{on_ok_weaker}
-use Rattle.spr_io.specs.Content.{flushed, written}
+use Rattle.spr_io.specs.Content.{flushed}
 use Rattle.disk_format.specs.Shape.{first_data}
 use Rattle.disk_layer.specs.Disk.{formatted}
 use Rattle.disk_layer.proofs.RenewLaws.{formatted-over}
