@@ -1,5 +1,5 @@
 -- A tree whose disks have their stores, over plain variables.
-use Rattle.std.proofs.Common.{◌≡◌, ◌≢◌, ℕ, zero, suc, ◌<◌, ◌≤◌, true, List, [], ◌∷◌, length, get_or, map, Option, Some, None, Ok, Err, refl, sym, ap, ◌∙◌, subst, arith}
+use Rattle.std.proofs.Common.{◌≡◌, ◌≢◌, ℕ, zero, suc, ◌<◌, ◌≤◌, true, List, [], ◌∷◌, length, map, Option, Some, Ok, Err, refl, sym, ap, ◌∙◌, subst, arith}
 use Rattle.std.specs.List.Sorted.{IsPermutation}
 use Rattle.spr_io.specs.Content.{Content}
 use Rattle.disk_format.specs.declared.shape.ImageShape.{ImageShape}
@@ -9,29 +9,24 @@ use Rattle.stack_accept.specs.Plan.{Plan, disks_in, numbers_below}
 use Rattle.mirror_rules.specs.Tree.{Seat, seats, is_live, top, limit}
 use Rattle.mirror_rules.proofs.RoundLaws.{live-seats}
 use Rattle.mirror_rules.specs.Tree as machine
-use Rattle.mirror_rules.specs.Claims.{Every, every_none, every_more, Has, has_here, has_later, Pairs, pairs_none, pairs_more, Nth, nth_here, nth_later}
+use Rattle.mirror_rules.specs.Claims.{Every, every_none, every_more, Has, has_here, has_later, Pairs, pairs_none, pairs_more, Nth}
 use Rattle.mirror_layer.specs.Shut.{ShutSeen}
 use Rattle.mirror_layer.specs.declared.node.Node.{Node}
 use Rattle.mirror_layer.specs.declared.refuse.Refusal.{Refusal}
 use Rattle.mirror_layer.specs.declared.refuse.Refusal.TheVariants as why
-use Rattle.mirror_layer.specs.View.{Beside, beside_in, tree_of}
+use Rattle.mirror_layer.specs.View.{Beside, beside_in, beside_of_shut, tree_of}
 use Rattle.mirror_layer.specs.Ground.{Differ, Counted}
 use Rattle.mirror_layer.specs.Stores.{Finds, Numbered, GivesBack}
-use Rattle.mirror_layer.specs.Filling.{HasStore, has_store, Fills, fills, Apart, beside_of_shut}
+use Rattle.mirror_layer.specs.Filling.{HasStore, has_store, Fills, fills, Apart}
 use Rattle.mirror_layer.specs.Meeting.{IsNew, AllNew, Found, IsBadOf, Met, shuts_in}
 use Rattle.mirror_layer.specs.Bringing.{Brought, brought, Lies, lies, Seen, IsReady, RefusedOver, refused, lacked, UnitedAs, IsFirstOf, IsBadStore, bad_store}
 use Rattle.mirror_rules.specs.Opening.{Opens, Bad, Lost}
+use Rattle.mirror_layer.proofs.CloseSteps.{nth-some}
 use Rattle.mirror_layer.proofs.OpenSteps.{news}
 use Rattle.mirror_layer.proofs.EnterSteps.{told-every}
 use Rattle.mirror_layer.proofs.SizeSteps.{sizes}
 use Rattle.mirror_layer.proofs.LastSteps.{lasting, blames}
 use Rattle.mirror_layer.proofs.NumberSteps.{numbers-apart, numbers-many, numbers-under, numbers-each}
-
--- each store has its place
-placed-nth : {T : Type 0} (stores : List T) (n : ℕ) (t : T) → get_or (map (λ s. Some s) stores) n None ≡ Some t → Nth n stores t
-placed-nth [] n t e = cc
-placed-nth (s ∷ stores) zero t e = let q : s ≡ t = cc in subst (λ v. Nth zero (s ∷ stores) v) q nth_here
-placed-nth (s ∷ stores) (suc n) t e = nth_later (placed-nth stores n t e)
 
 -- the store of each number that is there
 pub placed-stores : {T : Type 0} {size number : T → ℕ} {shape : ImageShape} (stores : List T) (ns : List ℕ) → Every (λ n. n < length stores) ns → Every (λ s. Suits shape (size s) (number s)) stores
@@ -49,13 +44,13 @@ pub brought-all : {T : Type 0} {content : T → Option Content} {faults : T → 
     → Pairs (Fills content faults shape (map (λ s. Some s) stores)) ns ss → Pairs Found ss ts → Pairs (Brought content faults shape stores) ns ts
 brought-all pairs_none pairs_none = pairs_none
 brought-all {content = content} {faults = faults} {shape = shape} {stores = stores} (pairs_more {x = n} {y = s} (fills {t} e d h c f) fs) (pairs_more {y = u} g gs) =
-    pairs_more (brought {t = t} (placed-nth stores n t e) (subst (λ v. Finds shape n (content t) v u) f (subst (λ v. Finds shape n v s.faults u) c (subst (λ v. Finds shape v s.content s.faults u) d (subst (λ v. Finds v s.disk s.content s.faults u) h g))))) (brought-all fs gs)
+    pairs_more (brought {t = t} (nth-some stores n t e) (subst (λ v. Finds shape n (content t) v u) f (subst (λ v. Finds shape n v s.faults u) c (subst (λ v. Finds shape v s.content s.faults u) d (subst (λ v. Finds v s.disk s.content s.faults u) h g))))) (brought-all fs gs)
 
 pub lies-all : {T : Type 0} {content : T → Option Content} {faults : T → ℕ} {shape : ImageShape} {stores : List T} {ns : List ℕ} {ss : List ShutSeen}
     → Pairs (Fills content faults shape (map (λ s. Some s) stores)) ns ss → Every IsNew ss → Pairs (Lies content faults shape stores) ns (map beside_of_shut ss)
 lies-all pairs_none every_none = pairs_none
 lies-all {stores = stores} (pairs_more {x = n} {y = s} (fills {t} e d h c f) fs) (every_more w ws) =
-    pairs_more (lies {t = t} (placed-nth stores n t e) (rw (d, h, c, w.there, w.taken ∙ f) refl)) (lies-all fs ws)
+    pairs_more (lies {t = t} (nth-some stores n t e) (rw (d, h, c, w.there, w.taken ∙ f) refl)) (lies-all fs ws)
 
 -- what is said of each of them
 pub lies-there : {T : Type 0} {content : T → Option Content} {faults : T → ℕ} {shape : ImageShape} {stores : List T} {ns : List ℕ} {bs : List Beside} → Pairs (Lies content faults shape stores) ns bs → Every (λ (b : Beside). b.there ≡ true) bs
@@ -147,7 +142,7 @@ ready {content = content} {faults = faults} {shape = shape} {stores = stores} {p
 bad-first : {T : Type 0} {content : T → Option Content} {faults : T → ℕ} {shape : ImageShape} {stores : List T} {disk : ℕ} {bad : BadImage} {ns : List ℕ} (s : ShutSeen) {ss : List ShutSeen}
     → Pairs (Fills content faults shape (map (λ s. Some s) stores)) ns (s ∷ ss) → s.disk ≡ disk → IsBadOf s.shape s.content bad → IsBadStore content shape stores disk bad
 bad-first {content = content} {shape = shape} {stores = stores} {disk = disk} {bad = bad} s (pairs_more {x = n} (fills {t} e d h c f) fs) q r =
-    bad_store {t = t} (subst (λ v. Nth v stores t) (sym d ∙ q) (placed-nth stores n t e)) (subst (λ v. IsBadOf shape v bad) c (subst (λ v. IsBadOf v s.content bad) h r))
+    bad_store {t = t} (subst (λ v. Nth v stores t) (sym d ∙ q) (nth-some stores n t e)) (subst (λ v. IsBadOf shape v bad) c (subst (λ v. IsBadOf v s.content bad) h r))
 
 bad-placed : {T : Type 0} {content : T → Option Content} {faults : T → ℕ} {shape : ImageShape} {stores : List T} {disk : ℕ} {bad : BadImage} {ns : List ℕ} {ss : List ShutSeen}
     → Pairs (Fills content faults shape (map (λ s. Some s) stores)) ns ss → IsFirstOf ss disk bad → IsBadStore content shape stores disk bad

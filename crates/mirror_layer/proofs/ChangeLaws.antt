@@ -1,6 +1,6 @@
 -- From the machine's calls to what a ground tells of each disk.
 use Rattle.std.proofs.Common.{◌≡◌, ◌≢◌, ◌⊎◌, inl, inr, ℕ, zero, suc, ◌<◌, ◌≤◌, Bool, true, false, List, [], ◌∷◌, ◌++◌, length, get_or, Option, Some, None, refl, sym, ap, ◌∙◌, subst, arith}
-use Rattle.std.specs.Prelude.{slice_get}
+use Rattle.std.specs.Prelude.{slice_get, is_some}
 use Rattle.std.specs.Option.{option_map}
 use Rattle.disk_format.specs.Image.{Imaged}
 use Rattle.disk_layer.specs.Seen.{DiskSeen, KeptAt}
@@ -67,11 +67,15 @@ kept-step true true F k j f = elim (f refl) [
   | inr q ↦ inr (imaged-pages j ∙ q)
 ]
 
+told-step : (t : Bool) (k j : Option Image) → is_some (kept_told t j) ≡ is_some (kept_told t k)
+told-step true k j = refl
+told-step false k j = refl
+
 change-step : (T : Bool) (F : List (List ℕ)) (b : Beside) {x y : Seat} → Counted b x → Change T F x y → Step (pages_told T F) (disk_seen b x) (disk_seen b y)
-change-step T F b (counted e l) change_out = record { disk = refl; opened = refl; later = omega arith; since = l; live = λ q. cc; lost = λ q. cc; kept = λ q. cc }
-change-step T F b (counted e l) change_left = record { disk = refl; opened = refl; later = omega arith; since = l; live = λ q. cc; lost = λ q. cc; kept = λ q. cc }
-change-step T F b (counted e l) (change_live {c = c} {d = d} i k f) = record { disk = i; opened = refl; later = k; since = l; live = λ q. refl; lost = λ q. inl refl; kept = λ q. kept-step T b.told F c.kept d.kept f }
-change-step T F b (counted e l) (change_lost i k) = record { disk = i; opened = refl; later = omega arith; since = l; live = λ q. cc; lost = λ q. inr k; kept = λ q. cc }
+change-step T F b (counted e l) change_out = record { disk = refl; opened = refl; told = refl; later = omega arith; since = l; live = λ q. cc; lost = λ q. cc; kept = λ q. cc }
+change-step T F b (counted e l) change_left = record { disk = refl; opened = refl; told = refl; later = omega arith; since = l; live = λ q. cc; lost = λ q. cc; kept = λ q. cc }
+change-step T F b (counted e l) (change_live {c = c} {d = d} i k f) = record { disk = i; opened = refl; told = told-step b.told c.kept d.kept; later = k; since = l; live = λ q. refl; lost = λ q. inl refl; kept = λ q. kept-step T b.told F c.kept d.kept f }
+change-step T F b (counted e l) (change_lost {c = c} {d = d} i k) = record { disk = i; opened = refl; told = told-step b.told c.kept d.kept; later = omega arith; since = l; live = λ q. cc; lost = λ q. inr k; kept = λ q. cc }
 
 pub steps : {T : Bool} {F : List (List ℕ)} {bs : List Beside} {xs ys : List Seat} → Pairs Counted bs xs → Pairs (Change T F) xs ys → Pairs (Step (pages_told T F)) (disks_seen bs xs) (disks_seen bs ys)
 steps pairs_none pairs_none = pairs_none

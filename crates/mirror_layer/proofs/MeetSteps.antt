@@ -101,7 +101,7 @@ reasons-good s = pairs_more {x = s} {y = None} tt pairs_none
 reasons-none : (s t : ShutSeen) → MeetsLeaf s (Ok None) t → Reasons (s ∷ []) (t.bad ∷ [])
 reasons-none s t h = elim h.1 as (λ _. Reasons (s ∷ []) (t.bad ∷ [])) [
   | inl a ↦ subst (λ v. Reasons (s ∷ []) (v ∷ [])) (sym a.0) (reasons-good s)
-  | inr a ↦ subst (λ v. Reasons (s ∷ []) (v ∷ [])) (sym a.1) (pairs_more {x = s} {y = Some a.0} a.2.1 pairs_none)
+  | inr a ↦ subst (λ v. Reasons (s ∷ []) (v ∷ [])) (sym a.1) (pairs_more {x = s} {y = Some a.0} (a.2.0, a.2.1) pairs_none)
 ]
 
 pub reasons-at : (s k t : ShutSeen) (o : Option Disk) → o ≡ None → k ≡ s → MeetsLeaf k (Ok o) t → Reasons (s ∷ []) (t.bad ∷ [])

@@ -12,10 +12,9 @@ use Rattle.mirror_layer.specs.declared.node.Node.{Node, Opened, Shut, Coherency'
 use Rattle.mirror_layer.specs.declared.refuse.Refusal.{Refusal}
 use Rattle.mirror_layer.specs.declared.refuse.Refusal.TheVariants as why
 use Rattle.mirror_layer.specs.Shut.{ShutSeen}
-use Rattle.mirror_layer.specs.View.{Beside, tree_of, beside_in, store_of}
+use Rattle.mirror_layer.specs.View.{Beside, tree_of, beside_in, beside_of_shut, store_of}
 use Rattle.mirror_layer.specs.Calls.{answered, all_told}
 use Rattle.mirror_layer.specs.Choosing.{Chooses}
-use Rattle.mirror_layer.specs.Filling.{beside_of_shut}
 use Rattle.mirror_layer.specs.Meeting.{IsNew, AllNew, Found, Met, Reason, Reasons, shuts_in, bads_in}
 use Rattle.mirror_layer.specs.Refusing.{IsFirstBad, Refuses}
 use Rattle.mirror_layer.specs.Bringing.{IsFirstOf, UnitedAs}

@@ -23,13 +23,13 @@ use Rattle.mirror_layer.specs.declared.node.Mark.{Mark}
 use Rattle.mirror_layer.specs.declared.node.Mark.TheVariants as mark
 use Rattle.mirror_layer.specs.declared.node.Node.{Node}
 use Rattle.mirror_layer.specs.Shut.{ShutSeen, CanFormat, CanRenew}
-use Rattle.mirror_layer.specs.View.{Beside, as_image, image_in, cell_from, cell_of, seat_of, store_of, tree_of, beside_in}
+use Rattle.mirror_layer.specs.View.{Beside, as_image, image_in, cell_from, cell_of, seat_of, store_of, tree_of, beside_in, beside_of_shut}
 use Rattle.mirror_layer.specs.Calls.{answered, all_told}
 use Rattle.mirror_layer.specs.Ground.{outcome}
 use Rattle.mirror_layer.specs.Joining.{Joins, joined, ended}
 use Rattle.mirror_layer.specs.Places.{Exchanged, LeafTells, first_seat}
 use Rattle.mirror_layer.specs.Renewing.{Formatted, Declined, RenewsLeaf}
-use Rattle.mirror_layer.proofs.CloseSteps.{beside_shut, shut_seen}
+use Rattle.mirror_layer.proofs.CloseSteps.{shut_seen, some-mapped, told-kept}
 use Rattle.mirror_layer.proofs.JoinSteps.{nth-plug, only-plug, named-plug}
 use Rattle.mirror_layer.proofs.EnterSteps.{copies-live, Visit, spare-at, visit-row, visit-tells}
 
@@ -109,15 +109,11 @@ pub pass-out : {a : Act} {s : Says} {t u : Tree} → Passes a t s u → (i : ℕ
 pass-out h i b x k = asked-out (passes-round h).each k
 
 -- what a format leaves
-mapped : {A B : Type 0} (f : A → B) (o : Option A) → is_some (option_map f o) ≡ is_some o
-mapped f None = refl
-mapped f (Some x) = refl
-
 pub kept-told : (s : ShutSeen) (d : Disk) → Formatted s d → is_some (kept_on d) ≡ is_some s.content
 kept-told s d f =
-    mapped {A = Content} {B = Option Imaged} (λ c. image d.shape c.kept) d.content ∙ ap is_some f.fresh.content
-    ∙ mapped {A = Content} {B = Content} (λ c. record c { kept = c.blocks }) (formatted s.shape (first_data s.shape) s.content)
-    ∙ mapped {A = Content} {B = Content} (λ c. record c { blocks = laid s.shape (first_data s.shape) c.blocks }) s.content
+    told-kept d ∙ ap is_some f.fresh.content
+    ∙ some-mapped {A = Content} {B = Content} (λ c. record c { kept = c.blocks }) (formatted s.shape (first_data s.shape) s.content)
+    ∙ some-mapped {A = Content} {B = Content} (λ c. record c { blocks = laid s.shape (first_data s.shape) c.blocks }) s.content
 
 there-told : (there b : Bool) → there ≡ true → (not there || b) ≡ true → b ≡ true
 there-told true b e h = h
@@ -160,12 +156,12 @@ told-cell s d f t =
     let e : d.content ≡ Some (record { blocks = over; kept = over }) = f.fresh.content ∙ ap (λ (v : Option Content). flushed (formatted s.shape (first_data s.shape) v)) c.1 in
     fresh-cell s d (record { blocks = over; kept = over }) f.fresh.disk f.fresh.shape f.fresh.generation f.fresh.holes e refl f.fresh.image f.fresh.calm
 
-pub formats : {told : Bool} (shape : ImageShape) (s : ShutSeen) (d : Disk) → s.shape ≡ shape → (told ≡ true → (beside_shut s).told ≡ true) → Formatted s d → Formats told shape.page_size shape.pages (store_of s) (cell_of d)
+pub formats : {told : Bool} (shape : ImageShape) (s : ShutSeen) (d : Disk) → s.shape ≡ shape → (told ≡ true → (beside_of_shut s).told ≡ true) → Formatted s d → Formats told shape.page_size shape.pages (store_of s) (cell_of d)
 formats {told} shape s d e t f =
     subst (λ (v : ImageShape). Formats told v.page_size v.pages (store_of s) (cell_of d)) e
     (record { disk = f.fresh.disk; generation = f.fresh.generation; faults = f.fresh.calm; cell = λ q. told-cell s d f (there-told s.there (is_some s.content) f.there (t q)) })
 
-pub tells : {told : Bool} (bs cs : List Beside) (s k : ShutSeen) (d held : Disk) → k ≡ s → cs ≡ bs → held ≡ d → Formatted k d → (told ≡ true → (all_told bs ≡ true) × ((beside_shut s).told ≡ true)) → told ≡ true → (all_told cs ≡ true) × (is_some (kept_on held) ≡ true)
+pub tells : {told : Bool} (bs cs : List Beside) (s k : ShutSeen) (d held : Disk) → k ≡ s → cs ≡ bs → held ≡ d → Formatted k d → (told ≡ true → (all_told bs ≡ true) × ((beside_of_shut s).told ≡ true)) → told ≡ true → (all_told cs ≡ true) × (is_some (kept_on held) ≡ true)
 tells bs cs s k d held e c p f h t =
     let g : Formatted s d = subst (λ v. Formatted v d) e f in
     (ap all_told c ∙ (h t).0, ap (λ (v : Disk). is_some (kept_on v)) p ∙ kept-told s d g ∙ there-told s.there (is_some s.content) g.there (h t).1)
@@ -262,7 +258,7 @@ refused-at {told} {i} shape s k f t {xs = xs} {ys = ys} e a q z h r l =
     (subst (λ v. Renews told shape.page_size shape.pages i 1 (set xs i (Out v (store_of s))) (Done true) (set ys i (Out false (store_of f)))) (sym (bad-at s k t e a q))
     (refused (store_of s) (store_of f) r.0 r.1 r.2 (declines shape s f z g) l))
 
-pub renewed-at : {told : Bool} {i : ℕ} {b w : Bool} {u : machine.Store} (shape : ImageShape) (s k : ShutSeen) (d held : Disk) (j : Cell) (t : Bool) (o : Result Bool StoreFault) {xs ys : List Seat} (zs : List Seat) → k ≡ s → t ≡ is_some k.bad → t ≡ true → s.shape ≡ shape → (told ≡ true → (beside_shut s).told ≡ true) → Formatted k d
+pub renewed-at : {told : Bool} {i : ℕ} {b w : Bool} {u : machine.Store} (shape : ImageShape) (s k : ShutSeen) (d held : Disk) (j : Cell) (t : Bool) (o : Result Bool StoreFault) {xs ys : List Seat} (zs : List Seat) → k ≡ s → t ≡ is_some k.bad → t ≡ true → s.shape ≡ shape → (told ≡ true → (beside_of_shut s).told ≡ true) → Formatted k d
     → (r : Says) × (outcome r ≡ Done true) × Readies xs r ys → held ≡ d → Joins told false shape.pages ys (cell_of held) o w zs j → Nth i xs (Out b u)
     → Renews told shape.page_size shape.pages i 1 (set xs i (Out (is_some s.bad) (store_of s))) (ended o) (set zs i (In (joined o) j))
 renewed-at {told} {i} {w = w} shape s k d held j t o {xs = xs} {ys = ys} zs e a q z h f r p c l =

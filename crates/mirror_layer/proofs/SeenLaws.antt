@@ -1,16 +1,17 @@
 -- What a ground tells, through its calls.
-use Rattle.std.proofs.Common.{◌≡◌, ◌≢◌, ◌⊎◌, inl, inr, ℕ, zero, suc, ◌<◌, ◌≤◌, Bool, true, false, List, [], ◌∷◌, length, Option, IfSome, refl, sym, ◌∙◌, subst, arith, if◌then◌else◌}
-use Rattle.std.specs.Prelude.{Contains}
+use Rattle.std.proofs.Common.{◌≡◌, ◌≢◌, ◌⊎◌, inl, inr, ℕ, zero, suc, ◌<◌, ◌≤◌, Bool, true, false, List, [], ◌∷◌, length, Option, IfSome, refl, sym, ap, ◌∙◌, subst, arith, if◌then◌else◌}
+use Rattle.std.specs.Prelude.{Contains, is_some}
 use Rattle.std.proofs.lemmas.Bool.{eq-eqb, ne_eqb}
 use Rattle.std.proofs.lemmas.Bool.Decides.{eqb_tells}
 use Rattle.disk_layer.specs.declared.fault.StoreFault.{StoreFault}
-use Rattle.disk_layer.specs.Seen.{DiskSeen, Seen, Keeps, IsCalm, IsFault, KeptAt, kept_in, faults_in, opened_in, live_in, pages_in}
+use Rattle.disk_layer.specs.Seen.{DiskSeen, Seen, Keeps, IsCalm, IsFault, KeptAt, kept_in, faults_in, opened_in, live_in, numbers_in, pages_in}
 use Rattle.mirror_rules.specs.Claims.{Pairs, pairs_none, pairs_more, Every, every_none, every_more}
 
 -- one disk in a call, where the ground's pages were such at its start
 pub record Step (pages : Option (List (List ℕ))) (a d : DiskSeen) : Type 0 where
   pub disk : d.disk ≡ a.disk
   pub opened : d.opened ≡ a.opened
+  pub told : is_some d.kept ≡ is_some a.kept
   pub later : a.faults ≤ d.faults
   pub since : a.opened ≤ a.faults
   pub live : d.live ≡ true → a.live ≡ true
@@ -77,6 +78,17 @@ opened-first a es n e = rw (eq-eqb n a.disk e) refl
 opened-rest : (a : DiskSeen) (es : List DiskSeen) (n : ℕ) → n ≢ a.disk → opened_in (a ∷ es) n ≡ opened_in es n
 opened-rest a es n e = rw (ne_eqb n a.disk e) refl
 
+told-all : {pages : Option (List (List ℕ))} {es ds : List DiskSeen} → Pairs (Step pages) es ds → (n : ℕ) → is_some (kept_in ds n) ≡ is_some (kept_in es n)
+told-all pairs_none n = refl
+told-all (pairs_more {x = a} {y = d} {xs = es} {ys = ds} s h) n = elim (eqb_tells n a.disk) as (λ _. is_some (kept_in (d ∷ ds) n) ≡ is_some (kept_in (a ∷ es) n)) [
+  | inl t ↦ rw (kept-first d ds n (t.1 ∙ sym s.disk), kept-first a es n t.1) s.told
+  | inr t ↦ rw (kept-rest d ds n (λ e. t.1 (e ∙ s.disk)), kept-rest a es n t.1) (told-all h n)
+]
+
+same-numbers : {pages : Option (List (List ℕ))} {es ds : List DiskSeen} → Pairs (Step pages) es ds → numbers_in ds ≡ numbers_in es
+same-numbers pairs_none = refl
+same-numbers (pairs_more {x = a} {y = d} {xs = es} {ys = ds} s h) = ap (λ (n : ℕ). n ∷ numbers_in ds) s.disk ∙ ap (λ (ns : List ℕ). a.disk ∷ ns) (same-numbers h)
+
 later-all : {pages : Option (List (List ℕ))} {es ds : List DiskSeen} → Pairs (Step pages) es ds → (n : ℕ) → faults_in es n ≤ faults_in ds n
 later-all pairs_none n = omega arith
 later-all (pairs_more {x = a} {y = d} {xs = es} {ys = ds} s h) n = elim (eqb_tells n a.disk) as (λ _. faults_in (a ∷ es) n ≤ faults_in (d ∷ ds) n) [
@@ -131,6 +143,8 @@ keeps-by before after size number many h p some = record {
   same_size = size;
   same_number = number;
   many = many;
+  same_disks = same-numbers h;
+  same_told = told-all h;
   kept = kept-all h p;
   live = live-all h;
   some = some;

@@ -12,11 +12,10 @@ use Rattle.std.specs.Prelude.{is_some}
 use Rattle.mirror_layer.specs.declared.node.Mark.{Mark}
 use Rattle.mirror_layer.specs.declared.node.Mark.TheVariants as mark
 use Rattle.mirror_layer.specs.Shut.{ShutSeen}
-use Rattle.mirror_layer.specs.View.{beside_of, cell_of, seat_of, store_of}
-use Rattle.mirror_layer.specs.Filling.{beside_of_shut}
+use Rattle.mirror_layer.specs.View.{beside_of, beside_of_shut, cell_of, seat_of, store_of}
 use Rattle.mirror_layer.specs.Ground.{Counted, counted}
 
-disk-since : (d : Disk) → Keeps (disk_layer.seen_of d) (disk_layer.seen_of d) → d.opened ≤ d.faults
+pub disk-since : (d : Disk) → Keeps (disk_layer.seen_of d) (disk_layer.seen_of d) → d.opened ≤ d.faults
 disk-since d k = rw (eq-eqb d.disk d.disk refl) at (k.since d.disk)
 
 pub opened-counted : (m : Mark) (d : Disk) → Keeps (disk_layer.seen_of d) (disk_layer.seen_of d) → Pairs Counted (beside_of d ∷ []) (seat_of m (cell_of d) ∷ [])

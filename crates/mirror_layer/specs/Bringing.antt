@@ -75,7 +75,8 @@ pub record OpenedOver {T : Type 0} (content : T → Option Content) (faults : T 
   pub lasting : all_told g.beside ≡ true → Lasting seen.stores_seen seen.row g.row
   pub given : all_told g.beside ≡ true → Given seen.stores_seen seen.row g.row
 
--- the store of this disk, which stands in the list at the place of its number: this is why its blocks are no image, if they are told
+-- the store of this disk, which stands in the list at the place of its number: this is why its blocks are no image, if they are told, and
+-- it is never that memory ran out
 pub data IsBadStore {T : Type 0} (content : T → Option Content) (shape : ImageShape) (stores : List T) (disk : ℕ) (bad : BadImage) : Type 0 where
   bad_store : {t : T} → Nth disk stores t → IsBadOf shape (content t) bad → IsBadStore content shape stores disk bad
 

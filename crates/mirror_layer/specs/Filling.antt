@@ -1,11 +1,10 @@
 -- The stores of a ground, put into its tree.
-use Rattle.std.specs.Prelude.{◌≡◌, ◌≢◌, ℕ, List, [], ◌∷◌, get_or, Option, Some, None, not, ◌||◌, is_some}
+use Rattle.std.specs.Prelude.{◌≡◌, ◌≢◌, ℕ, List, [], ◌∷◌, get_or, Option, Some, None}
 use Rattle.spr_io.specs.Content.{Content}
 use Rattle.disk_format.specs.declared.shape.ImageShape.{ImageShape}
 use Rattle.disk_layer.specs.Disk.{Suits}
 use Rattle.mirror_rules.specs.Claims.{Every}
 use Rattle.mirror_layer.specs.Shut.{ShutSeen}
-use Rattle.mirror_layer.specs.View.{Beside}
 
 -- there is a store for the disk of this number, and it has the shape's blocks
 pub data HasStore {T : Type 0} (size number : T → ℕ) (shape : ImageShape) (places : List (Option T)) (disk : ℕ) : Type 0 where
@@ -19,7 +18,3 @@ pub data Fills {T : Type 0} (content : T → Option Content) (faults : T → ℕ
 abbrev pub Apart : List ℕ → Type 0
 Apart [] = Unit {0}
 Apart (n ∷ ns) = Every (λ m. m ≢ n) ns × Apart ns
-
--- what no call changes of a disk that was not opened
-abbrev pub beside_of_shut : ShutSeen → Beside
-beside_of_shut s = record { disk = s.disk; shape = s.shape; there = s.there; told = not s.there || is_some s.content; opened = s.opened }

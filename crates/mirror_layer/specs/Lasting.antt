@@ -24,12 +24,13 @@ pub record Given (ss : List Store) (row us : List Seat) : Type 0 where
   -- the pages and the generation are what the tree of the disks gives, once those that gave way count as down
   pub gives : (t : Tree) → seats t ≡ row → (F : List (List ℕ)) × (u : Tree) × DownedTree t u × Every (HasPages F) us × Opened u (generation us) F
 
--- which disks failed, whatever they tell: each disk of an opened ground is live, or its store refused a call; a ground is refused by a store
--- that refused a call, with its count after that
+-- which disks failed, whatever they tell: each disk of an opened ground is live, or its store refused a call since; if none did, all are
+-- live
 pub record Fair (ss : List Store) (us : List Seat) : Type 0 where
   pub excused : Pairs Excused ss us
   pub whole : Pairs Calmly ss us → all_live us ≡ true
 
+-- a ground that is refused names a store that refused a call in the opening, with its count after that
 abbrev pub Blames : Outcome → List Store → List Seat → Type 0
 Blames (Good owed) ss us = Fair ss us
 Blames (Bad d) ss us = Unit {0}

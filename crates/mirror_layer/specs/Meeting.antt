@@ -1,8 +1,9 @@
 -- The opening of each disk of a ground.
-use Rattle.std.specs.Prelude.{◌≡◌, ◌⊎◌, ◌<◌, List, [], ◌∷◌, ◌++◌, true, false, Option, Some, None, IfSome, Result, Ok, Err}
+use Rattle.std.specs.Prelude.{◌≡◌, ◌≢◌, ◌⊎◌, ◌<◌, List, [], ◌∷◌, ◌++◌, true, false, Option, Some, None, IfSome, Result, Ok, Err}
 use Rattle.spr_io.specs.Content.{Content}
 use Rattle.disk_format.specs.declared.shape.ImageShape.{ImageShape}
 use Rattle.disk_format.specs.declared.why.BadImage.{BadImage}
+use Rattle.disk_format.specs.declared.why.ImageWhy.TheVariants.{Memory}
 use Rattle.disk_format.specs.Image.{front_of}
 use Rattle.disk_format.specs.VersionOne.{image_in}
 use Rattle.disk_layer.specs.declared.refused.OpenWhy.{OpenWhy}
@@ -58,9 +59,9 @@ MeetsLeaf s (Ok None) t =
     × (((t.bad ≡ None) × (s.faults < t.faults)) ⊎ ((b : BadImage) × (t.bad ≡ Some b) × IsRefusal (record { disk = s.disk; shape = s.shape; content = s.content; faults = s.faults }) t.faults (whys.BadImage b)))
 MeetsLeaf s (Err e) t = Unit {0}
 
--- why blocks that are told are no image
+-- why blocks are no image, if they are told; it is never that memory ran out
 abbrev pub IsBadOf : ImageShape → Option Content → BadImage → Type 0
-IsBadOf shape content bad = IfSome content (λ c. image_in shape (front_of shape c.blocks) ≡ Err bad)
+IsBadOf shape content bad = (bad.why ≢ Memory) × IfSome content (λ c. image_in shape (front_of shape c.blocks) ≡ Err bad)
 
 -- why the blocks of each disk are no image, where the opening found that
 abbrev pub bads_in : {D H : Type 0} → Node D H → List (Option BadImage)

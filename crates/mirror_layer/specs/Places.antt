@@ -1,5 +1,5 @@
 -- The disk at a place of a ground, and the exchange of it for another leaf.
-use Rattle.std.specs.Prelude.{◌≡◌, ℕ, List, set, Bool, true, not, ◌||◌, is_some, Result}
+use Rattle.std.specs.Prelude.{◌≡◌, ℕ, List, set, Bool, true, is_some, Result}
 use Rattle.disk_format.specs.declared.shape.ImageShape.{ImageShape}
 use Rattle.disk_layer.specs.declared.fault.StoreFault.{StoreFault}
 use Rattle.mirror_rules.specs.Tree.{Cell, Seat, In, Out, seats}
@@ -7,7 +7,7 @@ use Rattle.mirror_rules.specs.Tree as machine
 use Rattle.mirror_rules.specs.Claims.{Nth}
 use Rattle.mirror_rules.specs.Opening.{Enters}
 use Rattle.mirror_layer.specs.declared.node.Node.{Node, Opened, Shut, Coherency', Mirror'}
-use Rattle.mirror_layer.specs.View.{Beside, seat_of, cell_of, store_of, tree_of, beside_of, beside_in}
+use Rattle.mirror_layer.specs.View.{Beside, seat_of, cell_of, store_of, tree_of, beside_of, beside_of_shut, beside_in}
 use Rattle.mirror_layer.specs.Calls.{answered, all_told}
 
 -- a disk, opened or not, and not a mirror or a layer
@@ -26,7 +26,7 @@ first_seat (Mirror' p l q r) = first_seat l
 
 abbrev pub first_beside : {D H : Type 0} → Node D H → Beside
 first_beside (Opened m d) = beside_of d
-first_beside (Shut s) = record { disk = s.disk; shape = s.shape; there = s.there; told = not s.there || is_some s.content; opened = s.opened }
+first_beside (Shut s) = beside_of_shut s
 first_beside (Coherency' p t) = first_beside t
 first_beside (Mirror' p l q r) = first_beside l
 

@@ -1,10 +1,10 @@
 -- The stores of a ground, in the order of the disks, and what the machine of mirrors sees of them.
-use Rattle.std.specs.Prelude.{◌≡◌, ℕ, ◌<◌, ◌≤◌, List, [], length, get_or, Option, Some, None, IfSome}
+use Rattle.std.specs.Prelude.{◌≡◌, ℕ, ◌<◌, ◌≤◌, List, [], length, get_or, Option, Some, None, is_some, IfSome}
 use Rattle.std.specs.Option.{option_map}
 use Rattle.spr_io.specs.Content.{Content}
 use Rattle.disk_format.specs.declared.shape.ImageShape.{ImageShape}
 use Rattle.disk_format.specs.Image.{Imaged, image}
-use Rattle.mirror_rules.specs.Tree.{Seat}
+use Rattle.mirror_rules.specs.Tree.{Image, Seat, In, Out}
 use Rattle.mirror_rules.specs.Tree as machine
 use Rattle.mirror_rules.specs.Claims.{Pairs, Every, Has, Nth}
 use Rattle.mirror_rules.specs.Guards.{Leaves}
@@ -19,17 +19,24 @@ pub record Finds (shape : ImageShape) (disk : ℕ) (content : Option Content) (f
   pub now : IfSome content (λ c. s.image ≡ option_map {T = Imaged} as_image (image shape c.blocks))
   pub last : IfSome content (λ c. s.kept ≡ option_map {T = Imaged} as_image (image shape c.kept))
 
--- the store at the place of a disk's number is so seen
+-- the store at the place of a disk's number is so seen; it tells what it holds if its disk did, and has no fewer faults than when its disk
+-- was opened
 pub data Stored {T : Type 0} (content : T → Option Content) (faults : T → ℕ) (stores : List T) (b : Beside) (s : machine.Store) : Type 0 where
-  stored : {t : T} → Nth b.disk stores t → Finds b.shape b.disk (content t) (faults t) s → Stored content faults stores b s
+  stored : {t : T} → Nth b.disk stores t → Finds b.shape b.disk (content t) (faults t) s → is_some (content t) ≡ b.told → b.opened ≤ faults t → Stored content faults stores b s
 
--- a ground gave its stores back in the order of the disks: each has the image that its disk had last, and its count
+-- what a disk kept
+abbrev pub kept_of : Seat → Option Image
+kept_of (In b c) = c.kept
+kept_of (Out b s) = s.kept
+
+-- a ground gave its stores back in the order of the disks: each has the image that its disk had last, its count, and what its disk kept
 pub data Left (x : Seat) (s : machine.Store) : Type 0 where
-  left : Leaves x s → s.faults ≡ faults_of x → Left x s
+  left : Leaves x s → s.faults ≡ faults_of x → s.kept ≡ kept_of x → Left x s
 
--- a disk and its seat, and the store at the place of its number
+-- a disk and its seat, and the store at the place of its number, of which the same is said
 pub data Shuts {T : Type 0} (content : T → Option Content) (faults : T → ℕ) (places : List (Option T)) (b : Beside) (x : Seat) : Type 0 where
-  shuts : {t : T} {s : machine.Store} → get_or places b.disk None ≡ Some t → Finds b.shape b.disk (content t) (faults t) s → Leaves x s → s.faults ≡ faults_of x → Shuts content faults places b x
+  shuts : {t : T} {s : machine.Store} → get_or places b.disk None ≡ Some t → Finds b.shape b.disk (content t) (faults t) s → Leaves x s → s.faults ≡ faults_of x → s.kept ≡ kept_of x → is_some (content t) ≡ b.told → b.opened ≤ faults t
+      → Shuts content faults places b x
 
 abbrev pub IsShut : {T : Type 0} → (T → Option Content) → (T → ℕ) → List Beside → List Seat → List (Option T) → Type 0
 IsShut content faults bs xs places = Pairs (Shuts content faults places) bs xs

@@ -74,8 +74,12 @@ pub record Beside : Type 0 where
 abbrev pub beside_of : disk_layer.Disk → Beside
 beside_of d = record { disk = d.disk; shape = d.shape; there = true; told = is_some (kept_on d); opened = d.opened }
 
+-- of a disk that was not opened
+abbrev pub beside_of_shut : ShutSeen → Beside
+beside_of_shut s = record { disk = s.disk; shape = s.shape; there = s.there; told = not s.there || is_some s.content; opened = s.opened }
+
 abbrev pub beside_in : {D H : Type 0} → Node D H → List Beside
 beside_in (Opened m d) = beside_of d ∷ []
-beside_in (Shut s) = record { disk = s.disk; shape = s.shape; there = s.there; told = not s.there || is_some s.content; opened = s.opened } ∷ []
+beside_in (Shut s) = beside_of_shut s ∷ []
 beside_in (Coherency' p t) = beside_in t
 beside_in (Mirror' p l q r) = beside_in l ++ beside_in r

@@ -9,7 +9,7 @@ ghost use Rattle.mirror_rules.specs.History.{Since_then};
 ghost use Rattle.mirror_rules.specs.Steps.{Says, Look, Puts, Flushes};
 ghost use Rattle.mirror_layer.specs.Calls.{answered};
 ghost use Rattle.mirror_layer.specs.Ground.{IsGround, PutsPage, outcome, seen_of};
-ghost use Rattle.mirror_layer.specs.Stores.{GivesBack};
+ghost use Rattle.mirror_layer.specs.Stores.{GivesBack, Numbered};
 ghost use Rattle.mirror_layer.specs.Bringing.{OpenedOver, RefusedOver};
 ghost use Rattle.std.specs.List.Sorted.{IsPermutation};
 ghost use Rattle.disk_format.specs.Shape.{IsShape};
@@ -79,6 +79,14 @@ impl<S: Store> AnyGround<S> {
             }
             Err(refused) => Err(refused),
         }
+    }
+
+    /// What holds of every ground, for proofs alone.
+    pub fn sound(&self)
+        ensures is { IsGround self.now }
+        ensures numbered { Numbered self.now.beside }
+    {
+        self.ground.sound();
     }
 
     /// Gives the stores back, in the order of the disks. It asks no store, and takes no memory.

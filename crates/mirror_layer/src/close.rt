@@ -30,10 +30,12 @@ pub(crate) fn shut_all<S: Store>(node: Node<Disk<S>, Shut<S>>, places: &mut [Opt
 {
     match node {
         Node::Opened(_, held) => {
+            held.disk.sound();
             let disk = held.disk.number();
             put_at(places, disk, Some(held.disk.close()));
         }
         Node::Shut(kept) => {
+            kept.shut.sound();
             let shut = kept.shut;
             put_at(places, shut.disk, shut.store);
         }

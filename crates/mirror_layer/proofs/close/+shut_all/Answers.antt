@@ -3,6 +3,7 @@ use Rattle.disk_layer.specs.Disk.{Disk}
 use Rattle.mirror_layer.specs.Shut.{ShutSeen}
 use Rattle.mirror_layer.specs.View.{beside_in}
 use Rattle.mirror_layer.proofs.CloseSteps.{shut-held, shut-shut, shut-both, other-number, others-both, every-first, every_left, every_right, differ_left, differ_right}
+use Rattle.mirror_layer.proofs.SoundSteps.{disk-since}
 use Rattle.mirror_layer.proofs.close.+shut_all.Goals as goal
 
 pub put_at-requires-after_bounds : goal.put_at-requires-after_bounds
@@ -35,7 +36,7 @@ shut_all-requires-in-Mirror-2-clause-differ g t c κs within = rw c.into_inner-i
 
 pub returns-in-Opened-clause-shut : goal.returns-in-Opened-clause-shut
 returns-in-Opened-clause-shut g t c = rw c.in-Opened.is
-    (shut-held (λ s. g.S.Store.content s) (λ s. g.S.Store.faults s) c.in-Opened.field-0 c.held.inside.disk c.in-Opened.held c.close.result c.number-disk.result c.put_at.new.places c.held.view_is c.number-disk.ensures c.close.ensures.content c.close.ensures.faults c.close.ensures.image c.put_at.ensures.at)
+    (shut-held (λ s. g.S.Store.content s) (λ s. g.S.Store.faults s) c.in-Opened.field-0 c.held.inside.disk c.in-Opened.held c.close.result c.number-disk.result c.put_at.new.places c.held.view_is c.number-disk.ensures c.close.ensures.content c.close.ensures.faults c.close.ensures.image (disk-since c.held.inside.disk c.sound.ensures.keeps) c.put_at.ensures.at)
 
 pub returns-in-Opened-clause-others : goal.returns-in-Opened-clause-others
 returns-in-Opened-clause-others g t c d h =
@@ -43,7 +44,7 @@ returns-in-Opened-clause-others g t c d h =
 
 pub returns-in-Shut-clause-shut : goal.returns-in-Shut-clause-shut
 returns-in-Shut-clause-shut g t c = rw c.in-Shut.is
-    (shut-shut (λ s. g.S.Store.content s) (λ s. g.S.Store.faults s) c.in-Shut.kept c.shut.inside.disk c.shut.inside.shape c.shut.inside.bad c.shut.inside.opened c.shut.inside.store c.put_at-in-Shut.new.places (c.shut.view_is ∙ c.kept.view_is) (every-first (rw c.in-Shut.is at c.requires.there)) c.put_at-in-Shut.ensures.at)
+    (shut-shut (λ s. g.S.Store.content s) (λ s. g.S.Store.faults s) c.in-Shut.kept c.shut.inside.disk c.shut.inside.shape c.shut.inside.bad c.shut.inside.opened c.shut.inside.store c.put_at-in-Shut.new.places (c.shut.view_is ∙ c.kept.view_is) (every-first (rw c.in-Shut.is at c.requires.there)) (rw c.kept.view_is at c.sound-in-Shut.ensures) c.put_at-in-Shut.ensures.at)
 
 pub returns-in-Shut-clause-others : goal.returns-in-Shut-clause-others
 returns-in-Shut-clause-others g t c d h =
