@@ -28,7 +28,7 @@ use Rattle.stack_engine.specs.Moves.{Enters, Goes, IsRefused}
 use Rattle.stack_engine.specs.Opened.{IsOf, KeepsSince, from_after, last_from}
 use Rattle.stack_engine.proofs.Entering.{at_same}
 use Rattle.stack_engine.proofs.Logs.{counts_of-append}
-use Rattle.shared_tower.specs.Later.{IsLater, IsLaterOn, IsNoteOf, IsOnDisk, KeepsFirst}
+use Rattle.shared_tower.specs.Later.{AreLater, IsLater, IsNoteOf, IsOnDisk, KeepsFirst}
 
 -- LISTS
 
@@ -44,24 +44,52 @@ some_of : (xs : List ℕ) → 0 < length xs → (x : ℕ) × Contains xs x
 some_of [] some = absurd (omega arith)
 some_of (x ∷ xs) some = (x, (0, some, refl))
 
--- THE ONE LIVE DISK after one call at most
+some_in : (xs : List ℕ) (x : ℕ) → Contains xs x → 0 < length xs
+some_in [] x (k, inside, is) = absurd (omega (arith, inside))
+some_in (y ∷ xs) x found = omega arith
 
-pub on_disk_once : (before after : Seen) (disk : ℕ) → IsOneCall before after → IsOnDisk disk before → IsOnDisk disk after
-on_disk_once before after disk (inl same) on = subst (IsOnDisk disk) (sym same) on
-on_disk_once before after disk (inr keeps) on =
-    let other = some_of (live_in after.disks) keeps.some in
+-- a note of one of some disks is of one of more
+notes_of_more : (some all : List ℕ) (log : List Logged) → ((disk : ℕ) → Contains some disk → Contains all disk) → AllByRecursion (IsNoteOf some) log → AllByRecursion (IsNoteOf all) log
+notes_of_more some all [] to h = tt
+notes_of_more some all (Entered entry ∷ log) to h = (tt, notes_of_more some all log to h.1)
+notes_of_more some all (Noted note ∷ log) to h = (to note.disk h.0, notes_of_more some all log to h.1)
+
+-- A GROUND after one call at most
+
+-- after it the disks are later on
+later_once : (more : List Logged) (before after : Seen) → IsOneCall before after → AllByRecursion (IsNoteOf (live_in before.disks)) more → AreLater more before after
+later_once more before after (inl same) notes = subst (AreLater more before) (sym same) (record {
+  disks = refl;
+  told = λ disk. refl;
+  live = λ disk live. live;
+  some = λ some. some;
+  lost = λ disk live. inl live;
+  faults = λ disk. omega arith;
+  opened = λ disk. refl;
+  notes = notes;
+})
+later_once more before after (inr keeps) notes = record {
+  disks = keeps.same_disks;
+  told = keeps.same_told;
+  live = keeps.live;
+  some = λ _. keeps.some;
+  lost = keeps.lost;
+  faults = keeps.later;
+  opened = keeps.same_opened;
+  notes = notes;
+}
+
+-- THE ONE LIVE DISK later on
+pub on_later : (disk : ℕ) (more : List Logged) (before after : Seen) → AreLater more before after → IsOnDisk disk before → IsOnDisk disk after
+on_later disk more before after later on =
+    let other = some_of (live_in after.disks) (later.some (some_in (live_in before.disks) disk on.live)) in
     record {
-      live = subst (Contains (live_in after.disks)) (on.alone other.0 (keeps.live other.0 other.1)) other.1;
-      alone = λ d live. on.alone d (keeps.live d live);
+      live = subst (Contains (live_in after.disks)) (on.alone other.0 (later.live other.0 other.1)) other.1;
+      alone = λ d live. on.alone d (later.live d live);
     }
 
-once_opened : (before after : Seen) (disk : ℕ) → IsOneCall before after → opened_in after.disks disk ≡ opened_in before.disks disk
-once_opened before after disk (inl same) = ap (λ (s : Seen). opened_in s.disks disk) same
-once_opened before after disk (inr keeps) = keeps.same_opened disk
-
-once_faults : (before after : Seen) (disk : ℕ) → IsOneCall before after → faults_in before.disks disk ≤ faults_in after.disks disk
-once_faults before after disk (inl same) = subst (λ (s : Seen). faults_in before.disks disk ≤ faults_in s.disks disk) (sym same) (omega arith)
-once_faults before after disk (inr keeps) = keeps.later disk
+on_disk_once : (before after : Seen) (disk : ℕ) → IsOneCall before after → IsOnDisk disk before → IsOnDisk disk after
+on_disk_once before after disk call on = on_later disk [] before after (later_once [] before after call tt) on
 
 calm_on : (before after : Seen) (disk : ℕ) → IsOneCall before after → IsOnDisk disk before → IsCalmCall before after → faults_in after.disks disk ≡ faults_in before.disks disk
 calm_on before after disk call on (inl same) = ap (λ (s : Seen). faults_in s.disks disk) same
@@ -95,7 +123,7 @@ last-none trail more e = none-before (last_from trail) more (sym (fold-append fr
 pub record IsTry (more : List Logged) (old new : EngineSeen) : Type 0 where
   pub goes : Goes old new
   pub log : log_in new ≡ log_in old ++ more
-  pub notes : (disk : ℕ) → IsOnDisk disk old.ground → AllByRecursion (IsNoteOf disk) more
+  pub notes : AllByRecursion (IsNoteOf (live_in old.ground.disks)) more
   pub calm : (disk : ℕ) → IsOnDisk disk old.ground → counts_of disk more ≡ [] → faults_in new.ground.disks disk ≡ faults_in old.ground.disks disk
 
 -- pages of a told ground are from the first place on
@@ -106,7 +134,7 @@ module _ (more : List Logged) (old new : EngineSeen) (sound : IsSound old) (move
   pub tried_events : events_in new ≡ events_in old ++ trail_of more
   tried_events = ap trail_of move.log ∙ trail_of-append (log_in old) more
 
-  module _ (opening : List ℕ) (first : Option (Option Imaged)) (disk : ℕ) (of : IsOf opening old) (on : IsOnDisk disk old.ground) where
+  module _ (opening : List ℕ) (first : Option (Option Imaged)) (disk : ℕ) (of : IsOf opening old) (live : Contains (live_in new.ground.disks) disk) where
     -- pages as they were at some place of the longer trail
     abbrev Since : Option (Option (List (List ℕ))) → Type 0
     Since kept = IfSome kept (λ pages. (ps : List (List ℕ)) × (pages ≡ Some ps) × AreSince (tree_in old) (file_in old).page_size opening (events_in old ++ trail_of more) 0 ps)
@@ -126,7 +154,7 @@ module _ (more : List Logged) (old new : EngineSeen) (sound : IsSound old) (move
 
     kept_now : (pages_in (kept_on old.ground.disks disk) ≡ pages_in first) ⊎ KeepsSince (tree_in old) (file_in old).page_size opening (events_in old) 0 (kept_on old.ground.disks disk)
         → (pages_in (kept_on new.ground.disks disk) ≡ pages_in first) ⊎ Since (pages_in (kept_on new.ground.disks disk))
-    kept_now was = kept_once (λ kept. (kept ≡ pages_in first) ⊎ Since kept) old.ground new.ground disk move.goes.call (on_disk_once old.ground new.ground disk move.goes.call on).live
+    kept_now was = kept_once (λ kept. (kept ≡ pages_in first) ⊎ Since kept) old.ground new.ground disk move.goes.call live
         (was_kept (kept_on old.ground.disks disk) was)
         (λ at. inr (of_ground (kept_on new.ground.disks disk) old.ground.pages at
         (told_stays (tree_in old) (file_in old).page_size (file_in old).pages opening (events_in old) (sides_in old) old.ground.pages 0 sound.true_to of.began
@@ -145,14 +173,9 @@ module _ (more : List Logged) (old new : EngineSeen) (sound : IsSound old) (move
     of = move.goes.of;
     more = more;
     log = move.log;
-    disk = λ disk on. record {
-      same = on_disk_once old.ground new.ground disk move.goes.call on;
-      notes = move.notes disk on;
-      opened = once_opened old.ground new.ground disk move.goes.call;
-      faults = once_faults old.ground new.ground disk move.goes.call;
-      calm = move.calm disk on;
-    };
-    kept = λ opening first disk of on. keeps_first opening first disk of on;
+    disks = later_once more old.ground new.ground move.goes.call move.notes;
+    calm = move.calm;
+    kept = λ opening first disk of live. keeps_first opening first disk of live;
   }
 
 -- an event was entered without a fault
@@ -160,7 +183,7 @@ pub try_entered : (entry : Entry) (old new : EngineSeen) → Enters entry old ne
 try_entered entry old new enters = record {
   goes = enters.goes;
   log = enters.log;
-  notes = λ disk on. (tt, tt);
+  notes = (tt, tt);
   calm = λ disk on none. calm_on old.ground new.ground disk enters.goes.call on enters.calm;
 }
 
@@ -181,19 +204,19 @@ pub try_refused : (caller : ℕ) (old new : EngineSeen) (err : StepErr) → IsRe
 try_refused caller old new (StoreFault disk count) refused = record {
   goes = refused.goes;
   log = refused.why.0;
-  notes = λ d on. (on.alone disk refused.why.1.named, tt);
+  notes = (refused.why.1.named, tt);
   calm = λ d on none. absurd (one_note (disk == d) count (own_note disk d (on.alone disk refused.why.1.named)) none);
 }
 try_refused caller old new TrailFull refused = record {
   goes = refused.goes;
   log = refused.why.0 ∙ sym (append-nil (log_in old));
-  notes = λ d on. tt;
+  notes = tt;
   calm = λ d on none. ap (λ (s : Seen). faults_in s.disks d) refused.why.2;
 }
 try_refused caller old new Memory refused = record {
   goes = refused.goes;
   log = refused.why.0 ∙ sym (append-nil (log_in old));
-  notes = λ d on. tt;
+  notes = tt;
   calm = λ d on none. calm_on old.ground new.ground d refused.goes.call on refused.why.2;
 }
 
@@ -202,7 +225,7 @@ pub try_none : (old new : EngineSeen) → new ≡ old → IsTry [] old new
 try_none old new same = subst (IsTry [] old) (sym same) (record {
   goes = record { file = record { tree = refl; file = refl }; call = inl refl; of = λ opening of. of };
   log = sym (append-nil (log_in old));
-  notes = λ disk on. tt;
+  notes = tt;
   calm = λ disk on none. refl;
 })
 
@@ -214,17 +237,27 @@ later_refl e = record {
   of = λ opening of. of;
   more = [];
   log = sym (append-nil (log_in e));
-  disk = λ disk on. record { same = on; notes = tt; opened = refl; faults = omega arith; calm = λ none. refl };
-  kept = λ opening first disk of on was. was;
+  disks = later_once [] e.ground e.ground (inl refl) tt;
+  calm = λ disk on none. refl;
+  kept = λ opening first disk of live was. was;
 }
 
-on_later : (disk : ℕ) (xs ys : List Logged) (a b c : Seen) → IsLaterOn disk xs a b → IsLaterOn disk ys b c → IsLaterOn disk (xs ++ ys) a c
-on_later disk xs ys a b c p q = record {
-  same = q.same;
-  notes = all-append (IsNoteOf disk) xs ys p.notes q.notes;
-  opened = q.opened ∙ p.opened;
-  faults = omega (arith, p.faults, q.faults);
-  calm = λ none. let both = none-append (counts_of disk xs) (counts_of disk ys) (sym (counts_of-append disk xs ys) ∙ none) in q.calm both.1 ∙ p.calm both.0;
+disks_on : (xs ys : List Logged) (a b c : Seen) → AreLater xs a b → AreLater ys b c → AreLater (xs ++ ys) a c
+disks_on xs ys a b c p q = record {
+  disks = q.disks ∙ p.disks;
+  told = λ disk. q.told disk ∙ p.told disk;
+  live = λ disk live. p.live disk (q.live disk live);
+  some = λ some. q.some (p.some some);
+  lost = λ disk live. elim (p.lost disk live) [
+    | inl stays ↦ elim (q.lost disk stays) [
+      | inl still ↦ inl still
+      | inr rose ↦ inr (omega (arith, p.faults disk, rose))
+    ]
+    | inr rose ↦ inr (omega (arith, q.faults disk, rose))
+  ];
+  faults = λ disk. omega (arith, p.faults disk, q.faults disk);
+  opened = λ disk. q.opened disk ∙ p.opened disk;
+  notes = all-append (IsNoteOf (live_in a.disks)) xs ys p.notes (notes_of_more (live_in b.disks) (live_in a.disks) ys p.live q.notes);
 }
 
 pub later_trans : (a b c : EngineSeen) → IsLater a b → IsLater b c → IsLater a c
@@ -233,6 +266,9 @@ later_trans a b c p q = record {
   of = λ opening of. q.of opening (p.of opening of);
   more = p.more ++ q.more;
   log = q.log ∙ ap (λ (l : List Logged). l ++ q.more) p.log ∙ append_assoc (log_in a) p.more q.more;
-  disk = λ disk on. let first : IsLaterOn disk p.more a.ground b.ground = p.disk disk on in on_later disk p.more q.more a.ground b.ground c.ground first (q.disk disk first.same);
-  kept = λ opening first disk of on was. q.kept opening first disk (p.of opening of) (p.disk disk on).same (p.kept opening first disk of on was);
+  disks = disks_on p.more q.more a.ground b.ground c.ground p.disks q.disks;
+  calm = λ disk on none.
+      let both = none-append (counts_of disk p.more) (counts_of disk q.more) (sym (counts_of-append disk p.more q.more) ∙ none) in
+      q.calm disk (on_later disk p.more a.ground b.ground p.disks on) both.1 ∙ p.calm disk on both.0;
+  kept = λ opening first disk of live was. q.kept opening first disk (p.of opening of) live (p.kept opening first disk of (q.disks.live disk live) was);
 }

@@ -1,6 +1,5 @@
--- Events that leave the file as it is, and what the disk keeps if nothing else came after the place that a sync is from: the whole
--- file.
-use Rattle.std.proofs.Common.{◌≡◌, ℕ, zero, suc, ◌+◌, ◌-◌, ◌<◌, ◌≤◌, List, [], ◌∷◌, ◌++◌, length, take, Option, Some, None, IfSome, IsSome, refl, sym, ap, subst, ◌∙◌, arith}
+-- Events that leave the file as it is: pages as they were from a place on are then those of the whole file.
+use Rattle.std.proofs.Common.{◌≡◌, ℕ, zero, suc, ◌+◌, ◌-◌, ◌<◌, ◌≤◌, List, [], ◌∷◌, ◌++◌, length, take, Some, None, refl, sym, ap, subst, ◌∙◌, arith}
 use Rattle.std.specs.Prelude.{slice_get}
 use Rattle.std.specs.List.{AllByRecursion}
 use Rattle.std.proofs.Math.Seq.{take-append-add}
@@ -11,17 +10,11 @@ use Rattle.hist_plain.specs.File.{File, Shape}
 use Rattle.hist_plain.specs.History.{page_in, replay}
 use Rattle.hist_plain.specs.Plain.{applied, fresh}
 use Rattle.hist_plain.proofs.Replay.{replay-append}
-use Rattle.disk_format.specs.Image.{Imaged}
-use Rattle.disk_layer.specs.Seen.{AllKept, KeptAt, pages_in}
-use Rattle.disk_layer.specs.Seen.{kept_in as kept_on}
 use Rattle.tower_core.specs.Legal.{file_after, plain_shape}
 use Rattle.tower_core.specs.TreeShape.{TreeShape}
 use Rattle.tower_pages.specs.Shown.{page_shown}
 use Rattle.tower_shows.specs.Began.{ArePagesOf}
 use Rattle.tower_shows.specs.Since.{AreSince, IsSince}
-use Rattle.stack_engine.specs.Engine.{EngineSeen, events_in, file_in, tree_in}
-use Rattle.stack_engine.specs.Opened.{last_from}
-use Rattle.shared_tower.specs.Later.{KeepsWhole}
 
 -- EVENTS that leave the file as it is
 abbrev pub IsIdle : Event → Type 0
@@ -82,35 +75,3 @@ module _ (tree : TreeShape) (size : ℕ) (opening : List ℕ) (trail more : List
       item_at [] k inside = absurd (omega arith)
       item_at (x ∷ xs) zero inside = (x, refl)
       item_at (x ∷ xs) (suc k) inside = item_at xs k (omega (arith, inside))
-
--- what is kept has as many pages as the ground has
-kept_many : (kept : Option (Option Imaged)) (told : Option (List (List ℕ))) (pages : ℕ) → KeptAt kept told → IsSome told → IfSome told (λ ps. length ps ≡ pages)
-    → (ps : List (List ℕ)) → pages_in kept ≡ Some (Some ps) → length ps ≡ pages
-kept_many None told pages at some many ps e = absurd cc
-kept_many (Some image) None pages at some many ps e = absurd (let both : _ = some in cc)
-kept_many (Some image) (Some qs) pages at some many ps e =
-    let same : ps ≡ qs = both (sym (inner e) ∙ at) in ap length same ∙ many
-  where
-    inner : {A : Type 0} {x : A} {y : A} → Some x ≡ Some y → x ≡ y
-    inner e = cc
-
-    both : Some ps ≡ Some qs → ps ≡ qs
-    both e = cc
-
-if_some : {A : Type 0} (o : Option A) (P Q : A → Type 0) → ((x : A) → o ≡ Some x → P x → Q x) → IfSome o P → IfSome o Q
-if_some None P Q go h = tt
-if_some (Some x) P Q go h = go x refl h
-
--- AFTER A SYNC from a place behind which nothing changed the file, the disks keep the whole file
-pub whole_synced : (e : EngineSeen) (trail more : List Event) → events_in e ≡ trail ++ more → AllByRecursion IsIdle more → last_from (events_in e) ≡ Some (length trail) → AllKept e.ground e.ground.pages → KeepsWhole e
-whole_synced e trail more events_are idle last_is kept = λ opening disk of on.
-    if_some (pages_in (kept_on e.ground.disks disk)) _ _
-    (λ pages is was. (
-      was.0,
-      was.1,
-      subst (λ (es : List Event). ArePagesOf (file_in e).page_size (file_in e).pages (file_after (tree_in e) (file_in e).page_size opening es).bytes was.0) (sym events_are)
-          (pages_end (tree_in e) (file_in e).page_size opening trail more idle (file_in e).pages was.0
-          (kept_many (kept_on e.ground.disks disk) e.ground.pages (file_in e).pages (kept disk on.live) of.began.is_told of.began.many was.0 (is ∙ ap (λ (p : Option (List (List ℕ))). Some p) was.1))
-          (subst (λ (es : List Event). AreSince (tree_in e) (file_in e).page_size opening es (length trail) was.0) events_are was.2)),
-    ))
-    ((of.synced (length trail) last_is).disks disk on.live)
