@@ -4,3 +4,4 @@ pub mod HeldLaws
 pub mod ReturnLaws
 pub mod StopLaws
 pub mod StackLaws
+pub mod FileLaws

@@ -12,7 +12,7 @@ use Rattle.file_stores.specs.declared.stop.Stop.TheVariants as stops
 use Rattle.file_stores.specs.Keys.{AreStores, berth_of, is_lost, SameOthers}
 use Rattle.file_stores.specs.State.{StoreState, Lay, BackFrom, Turned, Returned, RoseBy, AsTaken}
 use Rattle.file_stores.specs.Held.{StoreSeen, keys_of, Took, AreOut, IsUntaken, Gave, AreGiven, BecameOne, Became}
-use Rattle.file_stores.specs.Stops.{OutOfMemory, Stops}
+use Rattle.file_stores.specs.Stops.{OutOfMemory, Untaken}
 use Rattle.file_stores.proofs.Lists.{some-is, no-item, there, at-more, map-more, from-map, to-map}
 use Rattle.file_stores.proofs.HeldLaws.{same-then, rose-then, out-none, out-same, out-one, given-none, given-one}
 
@@ -79,7 +79,7 @@ became-same stores = record {
 
 -- a command that could not take all stores
 pub stops-taking : (mount : Mount) (before mid after : BaySeen) (keys lost : List StoreKey) (stores : List StoreSeen) (stop : Stop) → AreOut mount before mid stores → keys_of stores ≡ take (length stores) keys
-    → IsUntaken keys (length stores) before mid stop → AreGiven mount mid after stores lost → Stops mount before after keys lost stop
+    → IsUntaken keys (length stores) before mid stop → AreGiven mount mid after stores lost → Untaken mount before after keys lost stop
 stops-taking mount before mid after keys lost stores (stops.Bay key) out first untaken given =
     let calm : RoseBy 0 before.faults mid.faults = let r = untaken.1 in omega (arith, r) in
     record {
@@ -96,13 +96,6 @@ stops-taking mount before mid after keys lost stores stops.Memory out first unta
     }
 stops-taking mount before mid after keys lost stores (stops.Store key count) out first untaken given = absurd untaken
 stops-taking mount before mid after keys lost stores (stops.Image key place why) out first untaken given = absurd untaken
-
--- a command that lacked memory once all stores were taken
-pub stops-memory : (mount : Mount) (before after : BaySeen) (keys lost : List StoreKey) → Returned mount before after keys lost AsTaken → OutOfMemory mount before after keys lost
-stops-memory mount before after keys lost back = record {
-  number = length keys;
-  back = subst (λ (ks : List StoreKey). Returned mount before after ks lost AsTaken) (sym (take_all (length keys) keys (omega arith))) back;
-}
 
 pub became-none : (P : ℕ → StoreKey → StoreState → StoreState → Type 0) → Became [] [] P
 became-none P = record { keys = refl; each = λ at old new io in_. absurd (no-item at old io) }
@@ -151,18 +144,3 @@ returned-none mount bay P = record {
 -- memory ran out before anything was taken
 pub no-memory : (mount : Mount) (bay : BaySeen) (keys : List StoreKey) → OutOfMemory mount bay bay keys []
 no-memory mount bay keys = record { number = 0; back = returned-none mount bay AsTaken }
-
--- one store was taken and given back
-pub returned-one : (mount : Mount) (before mid after : BaySeen) (key : StoreKey) (old new : StoreSeen) (lost : List StoreKey) (P : ℕ → StoreKey → StoreState → StoreState → Type 0) → AreStores mount (key ∷ []) → old.key ≡ key → new.key ≡ old.key
-    → Took mount before mid old → BecameOne old.state new.state (P 0 old.key) → Gave mount mid after [] lost new → Returned mount before after (key ∷ []) lost P
-returned-one mount before mid after key old new lost P stores is same took became gave =
-    let calm = took.calm in
-    let old_stores : AreStores mount (old.key ∷ []) = subst (λ (k : StoreKey). AreStores mount (k ∷ [])) (sym is) stores in
-    let new_stores : AreStores mount (new.key ∷ []) = subst (λ (k : StoreKey). AreStores mount (k ∷ [])) (sym same) old_stores in
-    subst (λ (k : StoreKey). Returned mount before after (k ∷ []) lost P) is
-    (returned-of mount before mid after (old ∷ []) (new ∷ []) lost P (out-one mount before mid old old_stores took) (omega (arith, calm)) (became-more P [] [] old new (became-none P) same became) (given-one mount mid after lost new new_stores gave))
-
--- the one store was not taken
-pub stops-untaken : (mount : Mount) (before after : BaySeen) (key : StoreKey) (stop : Stop) → SameBerths before.berths after.berths → IsUntaken (key ∷ []) 0 before after stop → Stops mount before after (key ∷ []) [] stop
-stops-untaken mount before after key stop same untaken =
-    stops-taking mount before after after (key ∷ []) [] [] stop (out-same mount before before after [] (out-none mount before) same) refl untaken (given-none mount after)

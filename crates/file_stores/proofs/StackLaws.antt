@@ -93,17 +93,6 @@ length-rows disks from (suc n) =
 pub length-stores : (mount : Mount) → length (stores_of mount) ≡ length mount.files * length mount.disks
 length-stores mount = length-rows (length mount.disks) 0 (length mount.files)
 
--- on one disk there is a store for each file, in their order
-pub store-of-one : (mount : Mount) (at : ℕ) (key : StoreKey) → length mount.disks ≡ 1 → slice_get (stores_of mount) at ≡ Some key → key ≡ record { file = at; disk = 0 }
-store-of-one mount at key one e =
-    let is = stores-at mount at key e in
-    let disk = is.disk in
-    let none : key.disk ≡ 0 = omega (arith, disk, one) in
-    let times : key.file * length mount.disks ≡ key.file = ap (λ n. key.file * n) one ∙ omega arith in
-    let place = is.place in
-    let file : key.file ≡ at = omega (arith, place, times, none) in
-    λ i. record { file = file i; disk = none i }
-
 -- the stores of one more file
 pub rows-more : (disks files : ℕ) → flat_map (stores_of_file disks) (range_with_len 0 (files + 1)) ≡ flat_map (stores_of_file disks) (range_with_len 0 files) ++ stores_of_file disks files
 rows-more disks files =

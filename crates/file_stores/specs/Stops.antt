@@ -35,28 +35,13 @@ pub record NotTaken (mount : Mount) (before after : BaySeen) (keys lost : List S
   pub back : Returned mount before after (take number keys) lost AsTaken
   pub fault : RoseBy (length lost + 1) before.faults after.faults
 
--- what becomes of stores of which the one of this number was read and refused: those before it hold images, and each but this
--- one comes back as it was taken
-pub record Refused (mount : Mount) (number : ℕ) (Cause : StoreState → StoreState → Type 0) (at : ℕ) (key : StoreKey) (old new : StoreState) : Type 0 where
-  pub earlier : at < number → HoldsImage (image_shape mount key) old.content
-  pub same : at ≢ number → new ≡ old
-  pub content : new.content ≡ old.content
-  pub cause : at ≡ number → Cause old new
-
--- All stores were taken, and this one was read and refused. It is the first that was.
-pub record NotRead (mount : Mount) (before after : BaySeen) (keys lost : List StoreKey) (key : StoreKey) (Cause : StoreState → StoreState → Type 0) : Type 0 where
-  pub number : ℕ
-  pub is : slice_get keys number ≡ Some key
-  pub back : Returned mount before after keys lost (Refused mount number Cause)
-
 -- Memory ran out. The first stores had been taken, and came back as they were; the bay had no fault but for those that are lost.
 pub record OutOfMemory (mount : Mount) (before after : BaySeen) (keys lost : List StoreKey) : Type 0 where
   pub number : ℕ
   pub back : Returned mount before after (take number keys) lost AsTaken
 
--- why a command ends that only reads these stores, and which of them are lost
-abbrev pub Stops : Mount → BaySeen → BaySeen → List StoreKey → List StoreKey → Stop → Type 0
-Stops mount before after keys lost (stops.Bay key) = NotTaken mount before after keys lost key
-Stops mount before after keys lost (stops.Store key count) = NotRead mount before after keys lost key (Failed count)
-Stops mount before after keys lost (stops.Image key place why) = NotRead mount before after keys lost key (λ old new. IsNoImage (image_shape mount key) old.content place why × (new ≡ old))
-Stops mount before after keys lost stops.Memory = OutOfMemory mount before after keys lost
+-- why not all of these stores were taken, and which of them are lost
+abbrev pub Untaken : Mount → BaySeen → BaySeen → List StoreKey → List StoreKey → Stop → Type 0
+Untaken mount before after keys lost (stops.Bay key) = NotTaken mount before after keys lost key
+Untaken mount before after keys lost stops.Memory = OutOfMemory mount before after keys lost
+Untaken mount before after keys lost stop = ⊥

@@ -78,16 +78,6 @@ pub fn take_stores<B: Bay>(
     Ok(())
 }
 
-/// Puts stores behind others. The room for them is there.
-pub fn put_behind<S: Store>(stores: &mut Vec<Held<S>>, rest: Vec<Held<S>>)
-    requires { length stores.old.items + length rest.items ≤ vec_capacity stores.old }
-    ensures { stores.new.items ≡ stores.old.items ++ rest.items }
-{
-    for store in rest {
-        stores.push_reserved(store);
-    }
-}
-
 /// Gives a store back; one that the bay refuses is lost. The room for that is there.
 pub fn give<B: Bay>(mount: &Mounted, bay: &mut B, held: Held<B::Store>, lost: &mut Vec<StoreKey>)
     requires { length lost.old.items < vec_capacity lost.old }

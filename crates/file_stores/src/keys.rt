@@ -34,6 +34,18 @@ pub fn stores_of(alloc: Global, mount: &Mounted) -> Result<Vec<StoreKey>, AllocE
     Ok(keys)
 }
 
+/// The stores of one file of a stack: one on each disk, in order.
+pub fn stores_of_one(alloc: Global, mount: &Mounted, file: u32) -> Result<Vec<StoreKey>, AllocError>
+    requires { file < length mount.now.files }
+    ensures value { IfOk result (λ keys. keys.items ≡ stores_of_file (length mount.now.disks) file) }
+    ensures stores { IfOk result (λ keys. AreStores mount.now keys.items) }
+{
+    let disks = mount.disks().len() as u32;
+    let mut keys = Vec::new(alloc);
+    put_stores(&mut keys, file, disks)?;
+    Ok(keys)
+}
+
 /// The shape of the image on a store.
 pub fn shape_of(mount: &Mounted, key: StoreKey) -> ImageShape
     requires { key.file < length mount.now.files }

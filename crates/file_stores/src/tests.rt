@@ -7,7 +7,7 @@ use super::*;
 use disk_format::{BadImage, ImageShape, ImageWhy};
 use disk_layer::{OpenWhy, StoreFault};
 use run_defs::StoreKey;
-use spr_io::{MemBay, MemSink};
+use spr_io::{MemBay, MemSink, MemStore, Store};
 use spr_report::Status;
 use stack_accept::{Mounted, accept};
 use stack_text::{StackText, parse_stack};
@@ -182,6 +182,113 @@ fn stores_of_two_disks(rt: HostRuntime) -> Result<(), Fail> {
     assert_eq!(rt; (outcome.taken, outcome.done), (4, Ok(())));
     assert!(rt; lies(&bay, "e", "f", 4));
     assert!(rt; lies(&bay, "e", "g", 20));
+    Ok(())
+}
+
+/// A store of blocks of 64 bytes that had so many faults.
+fn worn(alloc: Global, blocks: u32, faults: u64) -> Result<MemStore, AllocError> {
+    let mut store = MemStore::new(alloc, 64, blocks, &[], &[], &[1, 2, 3, 4])?;
+    for _ in 0..faults {
+        let _failed = store.flush();
+    }
+    Ok(store)
+}
+
+/// The disk, the file and the blocks of each store of a stack, in order, and the counts of each file's stores.
+#[derive(Clone, Copy)]
+struct FilesRow {
+    text: &'static str,
+    stores: &'static [(&'static str, &'static str, u32)],
+    counts: &'static [&'static [u64]],
+}
+
+const FILES: [FilesRow; 2] = [
+    FilesRow {
+        text: ONE_DISK,
+        stores: &[("d", "f", 4), ("d", "g", 20)],
+        counts: &[&[1], &[2]],
+    },
+    FilesRow {
+        text: TWO_DISKS,
+        stores: &[("d", "f", 4), ("e", "f", 4), ("d", "g", 20), ("e", "g", 20)],
+        counts: &[&[1, 2], &[3, 4]],
+    },
+];
+
+/// A bay with these stores. The first had one fault, and each other one more than that before it.
+fn bay_of(alloc: Global, stores: &[(&'static str, &'static str, u32)]) -> Result<MemBay, Fail> {
+    let mut bay = MemBay::new(alloc, &[], &[])?;
+    let mut faults = 0u64;
+    for (disk, file, blocks) in stores {
+        faults = faults.saturating_add(1);
+        let store = worn(alloc, *blocks, faults)?;
+        if bay.put(alloc, disk, file, store).is_err() {
+            return Err(Fail::from("the bay"));
+        }
+    }
+    Ok(bay)
+}
+
+/// Whether a file is this one, and its stores have these counts.
+fn has_counts(file: &FileStores<MemStore>, number: usize, counts: &[u64]) -> bool {
+    file.file as usize == number
+        && file.stores.len() == counts.len()
+        && file
+            .stores
+            .iter()
+            .zip(counts)
+            .all(|(store, count)| store.count() == *count)
+}
+
+/// Whether these are the files in order, and their stores have these counts.
+fn have_counts(files: &[FileStores<MemStore>], counts: &[&'static [u64]]) -> bool {
+    let mut all = files.len() == counts.len();
+    for (number, (file, counts)) in files.iter().zip(counts).enumerate() {
+        all = all && has_counts(file, number, counts);
+    }
+    all
+}
+
+/// Whether these are the stores in order, and each had one fault more than that before it.
+fn are_in_order(stores: &[Held<MemStore>], keys: &[StoreKey]) -> bool {
+    let mut all = stores.len() == keys.len();
+    for (place, (held, key)) in stores.iter().zip(keys).enumerate() {
+        all = all && held.key == *key && held.store.count() as usize == place + 1;
+    }
+    all
+}
+
+/// Whether the stores of a bay, parted by their files, have these counts, and come in order when they are put together again.
+fn part_as(
+    alloc: Global,
+    mount: &Mounted,
+    bay: &mut MemBay,
+    counts: &[&'static [u64]],
+) -> Result<bool, Fail> {
+    let keys = stores_of(alloc, mount)?;
+    let mut stores = Vec::with_capacity(alloc, keys.len())?;
+    if take_stores(mount, bay, &keys, &mut stores).is_err() {
+        return Err(Fail::from("the stores"));
+    }
+    let rooms = rooms_of(alloc, mount)?;
+    let mut files = Vec::with_capacity(alloc, mount.files().len())?;
+    by_file(mount, stores, rooms, &mut files);
+    let parted = have_counts(&files, counts);
+    let mut back = Vec::with_capacity(alloc, keys.len())?;
+    put_files(files, &mut back);
+    Ok(parted && are_in_order(&back, &keys))
+}
+
+#[test]
+fn stores_by_file(rt: HostRuntime) -> Result<(), Fail> {
+    for (number, row) in FILES.iter().enumerate() {
+        let mount = mounted(rt.alloc(), row.text)?;
+        let mut bay = bay_of(rt.alloc(), row.stores)?;
+        assert!(rt;
+            part_as(rt.alloc(), &mount, &mut bay, row.counts)?,
+            "row {number}"
+        );
+    }
     Ok(())
 }
 
