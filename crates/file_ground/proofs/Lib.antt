@@ -1,0 +1,12 @@
+pub mod Lists
+pub mod CarryLaws
+pub mod KeyedLaws
+pub mod AloneLaws
+pub mod WholeLaws
+pub mod UnderLaws
+pub mod OpenLaws
+pub mod StoreLaws
+pub mod ManyLaws
+pub mod ReadLaws
+pub mod SpotLaws
+pub mod Crossing

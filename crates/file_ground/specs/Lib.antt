@@ -1,0 +1,4 @@
+pub mod WholeDisk
+pub mod Under
+pub mod Opening
+pub mod Reading
