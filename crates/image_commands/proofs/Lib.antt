@@ -2,3 +2,4 @@ pub mod FreshLaws
 pub mod LineLaws
 pub mod SaysLaws
 pub mod ReadLaws
+pub mod FileLaws

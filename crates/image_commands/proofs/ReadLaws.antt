@@ -14,7 +14,7 @@ use Rattle.std.proofs.lemmas.Option.{get_or_from_slice_get}
 use Rattle.image_commands.specs.Pages.{ArePagesOf}
 
 -- each page has its size
-cut-sizes : (size n : ℕ) (bytes : List ℕ) → length bytes ≡ n * size → All (λ p. length p ≡ size) (cut size n bytes)
+pub cut-sizes : (size n : ℕ) (bytes : List ℕ) → length bytes ≡ n * size → All (λ p. length p ≡ size) (cut size n bytes)
 cut-sizes size n bytes long = λ k d lt.
     let many = length-cut size n bytes in
     let within : k < n = omega (arith, many, lt) in

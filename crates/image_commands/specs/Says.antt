@@ -1,5 +1,5 @@
 -- What formatting the stores of a stack does, and what printing the pages of one does; and the text and status of each.
-use Rattle.std.specs.Prelude.{◌≡◌, ◌⊎◌, ℕ, ◌∷◌, [], ◌++◌, List, slice_get, Some}
+use Rattle.std.specs.Prelude.{◌≡◌, ◌⊎◌, ℕ, ◌++◌, List, length, slice_get, Some}
 use Rattle.stack_accept.specs.Mount.{Mount}
 use Rattle.run_defs.specs.declared.store.StoreKey.{StoreKey}
 use Rattle.spr_io.specs.Berth.{BaySeen}
@@ -9,12 +9,14 @@ use Rattle.spr_report.specs.declared.status.Status.TheVariants as statuses
 use Rattle.spr_report.specs.Writing.{Finishes}
 use Rattle.file_stores.specs.declared.stop.Stop.{Stop}
 use Rattle.file_stores.specs.declared.stop.Stop.TheVariants as stops
-use Rattle.file_stores.specs.Keys.{image_shape}
+use Rattle.file_stores.specs.Keys.{image_shape, stores_of_file}
+use Rattle.file_stores.specs.Files.{FileSeen, IsFile, StandsAt}
 use Rattle.file_stores.specs.State.{StoreState, Returned}
 use Rattle.file_stores.specs.Stop.{lost_text, stop_text, stop_status}
-use Rattle.file_stores.specs.Stops.{NotTaken, OutOfMemory, Stops}
+use Rattle.file_stores.specs.Stops.{NotTaken, OutOfMemory, Untaken}
 use Rattle.image_commands.specs.Fresh.{IsFresh, FailedAt, IsCalm, Part}
-use Rattle.image_commands.specs.Pages.{ArePagesOf, page_lines}
+use Rattle.image_commands.specs.Pages.{page_lines}
+use Rattle.image_commands.specs.Read.{IsRead, IsUnprinted}
 use Rattle.image_commands.specs.Told.{done_status}
 
 -- each store has a fresh image
@@ -40,15 +42,21 @@ pub data SaysFormat (mount : Mount) (before after : BaySeen) (keys : List StoreK
   all_fresh : (lost : List StoreKey) → AreFormatted mount before after keys lost → text ≡ lost_text mount lost → status ≡ done_status lost → SaysFormat mount before after keys text status
   not_fresh : (stop : Stop) (lost : List StoreKey) → FormatStops mount before after keys lost stop → text ≡ stop_text mount stop lost → status ≡ stop_status stop → SaysFormat mount before after keys text status
 
--- the pages of the image on a store, which came back as it was taken
-abbrev pub IsReadAs : Mount → List (List ℕ) → ℕ → StoreKey → StoreState → StoreState → Type 0
-IsReadAs mount pages at key old new = ArePagesOf (image_shape mount key) old.content pages × (new ≡ old)
+-- The stores of a file were taken, with what became of them, and came back, but for those that are lost.
+pub record FileTurned (mount : Mount) (before after : BaySeen) (file : ℕ) (lost : List StoreKey) (Becomes : FileSeen → FileSeen → Type 0) : Type 0 where
+  pub old : FileSeen
+  pub new : FileSeen
+  pub file_is : old.file ≡ file
+  pub of : IsFile mount old
+  pub stores : Returned mount before after (stores_of_file (length mount.disks) file) lost (StandsAt old.stores new.stores)
+  pub becomes : Becomes old new
 
--- The pages of the image on a store were printed, or could not be.
-pub data SaysDump (mount : Mount) (before after : BaySeen) (key : StoreKey) (text : List ℕ) (status : Status) : Type 0 where
-  printed : (pages : List (List ℕ)) (lost : List StoreKey) → Returned mount before after (key ∷ []) lost (IsReadAs mount pages) → text ≡ page_lines 0 pages ++ lost_text mount lost → status ≡ done_status lost
-      → SaysDump mount before after key text status
-  not_printed : (stop : Stop) (lost : List StoreKey) → Stops mount before after (key ∷ []) lost stop → text ≡ stop_text mount stop lost → status ≡ stop_status stop → SaysDump mount before after key text status
+-- The pages of a file were printed; or not, because its stores could not be taken, or for what became of them.
+pub data SaysDump (mount : Mount) (before after : BaySeen) (file : ℕ) (text : List ℕ) (status : Status) : Type 0 where
+  printed : (pages : List (List ℕ)) (lost : List StoreKey) → FileTurned mount before after file lost (λ f g. IsRead mount f g pages) → text ≡ page_lines 0 pages ++ lost_text mount lost → status ≡ done_status lost
+      → SaysDump mount before after file text status
+  not_taken : (stop : Stop) (lost : List StoreKey) → Untaken mount before after (stores_of_file (length mount.disks) file) lost stop → text ≡ stop_text mount stop lost → status ≡ stop_status stop → SaysDump mount before after file text status
+  not_printed : (stop : Stop) (lost : List StoreKey) → FileTurned mount before after file lost (λ f g. IsUnprinted mount f g stop) → text ≡ stop_text mount stop lost → status ≡ stop_status stop → SaysDump mount before after file text status
 
 -- the pages and a line for each store that is lost were written, or memory ran out for the text
 abbrev pub PrintsPages : Mount → List (List ℕ) → List StoreKey → SinkSeen → SinkSeen → Status → Type 0

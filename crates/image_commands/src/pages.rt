@@ -1,64 +1,75 @@
-//! The pages of an image, and their text.
+//! The pages of a file, and their text.
 
-ghost use Rattle.std.specs.Prelude.{◌≡◌, ◌≤◌, ◌*◌, ◌++◌, ◌∷◌, IfOk, IfErr, OnOk, length};
+ghost use Rattle.std.specs.Prelude.{◌≡◌, ◌*◌, ◌++◌, ◌∷◌, IfOk, IfErr, OnOk, length};
 ghost use Rattle.disk_format.specs.Shape.{IsShape};
 ghost use Rattle.disk_layer.specs.Pages.{cut};
-ghost use Rattle.file_stores.specs.Keys.{IsStore, image_shape};
-ghost use Rattle.file_stores.specs.Held.{IsFit};
-ghost use Rattle.image_commands.specs.Pages.{ArePagesOf, page_word, page_line, page_lines};
-ghost use Rattle.image_commands.specs.Read.{IsReadFault, IsUnread};
+ghost use Rattle.run_defs.specs.Stack.{pages_of};
+ghost use Rattle.file_stores.specs.Keys.{stores_of_file};
+ghost use Rattle.file_stores.specs.Held.{keys_of};
+ghost use Rattle.file_stores.specs.Files.{ArePairs, IsFile, Lasts};
+ghost use Rattle.file_ground.specs.Under.{Under};
+ghost use Rattle.file_ground.specs.Opening.{IsLeft};
+ghost use Rattle.file_ground.specs.Reading.{Fails, ReadsAll, shape_under};
+ghost use Rattle.image_commands.specs.Pages.{page_word, page_line, page_lines};
+ghost use Rattle.image_commands.specs.Read.{IsRead, IsUnprinted};
 
 use disk_format::ImageShape;
-use disk_layer::{Disk, OpenErr, OpenWhy, is_zero_page, read_pages};
-use file_stores::{Held, Stop, shape_of};
+use disk_layer::{StoreFault, is_zero_page};
+use file_ground::{FileGround, close_file, open_file, read_file};
+use file_stores::{FileStores, Stop, shape_of};
+use run_defs::StoreKey;
 use spr_io::Store;
 use stack_accept::Mounted;
 use std::alloc::{AllocError, Global};
 use text_words::{put, put_hex, put_spaced_number, put_word};
 
-/// Reads all pages of a disk, one after another.
-fn read_disk<S: Store>(alloc: Global, disk: &mut Disk<S>) -> Result<Vec<u8>, OpenWhy>
-    ensures pages { IfOk result (λ bytes. ArePagesOf disk.old.shape disk.old.content (cut disk.old.shape.page_size disk.old.shape.pages bytes.items)) }
-    ensures size { IfOk result (λ bytes. length bytes.items ≡ disk.old.shape.pages * disk.old.shape.page_size) }
-    ensures calm { OnOk result (disk.new ≡ disk.old) }
-    ensures content { disk.new.content ≡ disk.old.content }
-    ensures cause { IfErr result (IsReadFault disk.old.faults disk.new.faults) }
+/// Reads the pages of an open file, and closes it.
+fn read_ground<S: Store>(
+    ground: FileGround<S>,
+    file: u32,
+    shape: &ImageShape,
+    bytes: &mut [u8],
+) -> (FileStores<S>, Result<(), StoreFault>)
+    requires shape { shape_under ground ≡ shape.now }
+    requires size { length bytes.old ≡ shape.now.pages * shape.now.page_size }
+    ensures file { result.0.file ≡ file }
+    ensures keys { keys_of result.0.stores ≡ stores_of_file (length result.0.stores) file }
+    ensures read { OnOk result.1 ((left : Under) × ReadsAll ground left bytes.new × IsLeft left result.0) }
+    ensures fault { IfErr result.1 (λ fault. (left : Under) × Fails ground left fault × IsLeft left result.0) }
 {
-    disk.sound();
-    let ImageShape { page_size, pages } = disk.shape();
-    let mut bytes = vec![in alloc; 0u8; (pages * page_size) as usize]?;
-    read_pages(disk, &mut bytes)?;
-    Ok(bytes)
+    let mut ground = ground;
+    let read = read_file(&mut ground, shape, bytes);
+    (close_file(ground, file), read)
 }
 
-/// Reads the pages of the image on a store, which is handed back.
-pub(crate) fn read_store<S: Store>(
+/// Reads the pages of a file from its stores, which are handed back.
+pub(crate) fn read_stores<S: Store>(
     alloc: Global,
     mount: &Mounted,
-    held: Held<S>,
-) -> (Held<S>, Result<Vec<u8>, Stop>)
-    requires store { IsStore mount.now held.key }
-    requires fit { IsFit mount.now held }
-    ensures key { result.0.key ≡ held.key }
-    ensures content { result.0.state.content ≡ held.state.content }
-    ensures pages { IfOk result.1 (λ bytes. ArePagesOf (image_shape mount.now held.key) held.state.content (cut mount.now.page_size (image_shape mount.now held.key).pages bytes.items)) }
-    ensures size { IfOk result.1 (λ bytes. length bytes.items ≡ (image_shape mount.now held.key).pages * mount.now.page_size) }
-    ensures calm { OnOk result.1 (result.0.state ≡ held.state) }
-    ensures cause { IfErr result.1 (IsUnread (image_shape mount.now held.key) held result.0) }
+    stores: FileStores<S>,
+    bytes: &mut [u8],
+) -> (FileStores<S>, Result<(), Stop>)
+    requires file { IsFile mount.now stores }
+    requires size { length bytes.old ≡ pages_of mount.now stores.file * mount.now.page_size }
+    ensures file { result.0.file ≡ stores.file }
+    ensures lasts { ArePairs Lasts stores.stores result.0.stores }
+    ensures read { OnOk result.1 (IsRead mount.now stores result.0 (cut mount.now.page_size (pages_of mount.now stores.file) bytes.new)) }
+    ensures cause { IfErr result.1 (IsUnprinted mount.now stores result.0) }
 {
-    let shape = shape_of(mount, held.key);
-    let Held { key, store } = held;
-    match Disk::open(alloc, store, key.disk, &shape) {
-        Ok(disk) => {
-            let mut disk = disk;
-            let read = read_disk(alloc, &mut disk);
-            let store = disk.close();
+    let file = stores.file;
+    let shape = shape_of(mount, StoreKey { file, disk: 0 });
+    match open_file(alloc, mount, stores) {
+        Ok(ground) => {
+            let (stores, read) = read_ground(ground, file, &shape, bytes);
             match read {
-                Ok(pages) => (Held { key, store }, Ok(pages)),
-                Err(why) => (Held { key, store }, Err(Stop::refused(key, why))),
+                Ok(()) => (stores, Ok(())),
+                Err(StoreFault { disk, count }) => {
+                    let store = StoreKey { file, disk };
+                    (stores, Err(Stop::Store { store, count }))
+                }
             }
         }
-        Err(OpenErr { store, why }) => (Held { key, store }, Err(Stop::refused(key, why))),
+        Err(unopened) => (unopened.stores, Err(unopened.stop)),
     }
 }
 

@@ -3,7 +3,6 @@
 ghost use Rattle.std.specs.Prelude.{◌≤◌, IfOk, length};
 
 use super::*;
-use run_defs::StoreKey;
 use spr_io::{MemBay, MemSink, MemStore, Store};
 use spr_report::Status;
 use stack_accept::{Mounted, accept};
@@ -14,17 +13,20 @@ use std::test::Fail;
 /// The files `f` of 2 pages and `g` of 17, each of 64 bytes, on the disk `d`, and the layer `c`.
 const STACK: &str = "page 64\nfile f 2\nfile g 17\ndisk d m\ncoherency c m d\n";
 
-fn stack_of(alloc: Global) -> Result<StackText, Fail>
+/// The file `f` alone, on a mirror of the disks `d` and `e`.
+const MIRRORED: &str = "page 64\nfile f 2\ndisk d m\ndisk e m\nmirror r m d e\ncoherency c m r\n";
+
+fn stack_of(alloc: Global, text: &str) -> Result<StackText, Fail>
     ensures { IfOk result (λ stack. length stack.lines ≤ 128) }
 {
-    match parse_stack(alloc, STACK.as_bytes()) {
+    match parse_stack(alloc, text.as_bytes()) {
         Ok(stack) => Ok(stack),
         Err(_) => Err(Fail::from("the text")),
     }
 }
 
-fn mounted(alloc: Global) -> Result<Mounted, Fail> {
-    match accept(alloc, &stack_of(alloc)?) {
+fn mounted(alloc: Global, text: &str) -> Result<Mounted, Fail> {
+    match accept(alloc, &stack_of(alloc, text)?) {
         Ok(mount) => Ok(mount),
         Err(_) => Err(Fail::from("the stack")),
     }
@@ -99,12 +101,11 @@ fn dumped_to(
     bay: &mut MemBay,
     failing: &[u64],
 ) -> Result<Told, Fail> {
-    if file as usize >= mount.files().len() || mount.disks().is_empty() {
+    if file as usize >= mount.files().len() {
         return Err(Fail::from("the file"));
     }
-    let store = StoreKey { file, disk: 0 };
     let mut sink = MemSink::new(alloc, 4_096, failing)?;
-    let status = dump_file(alloc, mount, store, bay, &mut sink);
+    let status = dump_file(alloc, mount, file, bay, &mut sink);
     Ok(Told { status, sink })
 }
 
@@ -134,7 +135,7 @@ const ZEROS_OF_G: &[u8] =
 
 #[test]
 fn fresh_images(rt: HostRuntime) -> Result<(), Fail> {
-    let mount = mounted(rt.alloc())?;
+    let mount = mounted(rt.alloc(), STACK)?;
     let mut bay = MemBay::new(rt.alloc(), &[], &[])?;
     let told = formatted(rt.alloc(), &mount, &mut bay)?;
     assert!(rt; is_told(&told, Status::Good, b"", b"status 0\n"));
@@ -241,7 +242,7 @@ fn formats_as(alloc: Global, mount: &Mounted, row: &FormatRow) -> Result<bool, F
 
 #[test]
 fn formats_over_failures(rt: HostRuntime) -> Result<(), Fail> {
-    let mount = mounted(rt.alloc())?;
+    let mount = mounted(rt.alloc(), STACK)?;
     for (number, row) in FORMATS.iter().enumerate() {
         assert!(rt; formats_as(rt.alloc(), &mount, row)?, "row {number}");
     }
@@ -250,7 +251,7 @@ fn formats_over_failures(rt: HostRuntime) -> Result<(), Fail> {
 
 #[test]
 fn a_failure_leaves_the_later_files(rt: HostRuntime) -> Result<(), Fail> {
-    let mount = mounted(rt.alloc())?;
+    let mount = mounted(rt.alloc(), STACK)?;
     let store = MemStore::new(rt.alloc(), 64, 4, &[], &[2], &[])?;
     let mut bay = bay_of(rt.alloc(), 0, 0, store)?;
     let told = formatted(rt.alloc(), &mount, &mut bay)?;
@@ -331,16 +332,51 @@ fn dumps_as(alloc: Global, mount: &Mounted, row: &DumpRow) -> Result<bool, Fail>
 
 #[test]
 fn dumps_over_failures(rt: HostRuntime) -> Result<(), Fail> {
-    let mount = mounted(rt.alloc())?;
+    let mount = mounted(rt.alloc(), STACK)?;
     for (number, row) in DUMPS.iter().enumerate() {
         assert!(rt; dumps_as(rt.alloc(), &mount, row)?, "row {number}");
     }
     Ok(())
 }
 
+/// Puts a store of `f` on a disk into a bay: one with the image, or a blank one.
+fn put_store(alloc: Global, bay: &mut MemBay, disk: &str, image: bool) -> Result<(), Fail> {
+    let store = if image {
+        image_store(alloc, 24, 0, 0)?
+    } else {
+        MemStore::new(alloc, 64, 4, &[], &[], &[])?
+    };
+    match bay.put(alloc, disk, "f", store) {
+        Ok(()) => Ok(()),
+        Err(_) => Err(Fail::from("the store")),
+    }
+}
+
+/// Whether the pages of `f` are printed over a mirror of two disks, the first with an image or blank; and whether that has them
+/// afterwards, as it shows alone.
+fn prints_mirrored(alloc: Global, image: bool) -> Result<bool, Fail> {
+    let mut bay = MemBay::new(alloc, &[], &[])?;
+    put_store(alloc, &mut bay, "d", image)?;
+    put_store(alloc, &mut bay, "e", true)?;
+    let both = dumped(alloc, &mounted(alloc, MIRRORED)?, 0, &mut bay)?;
+    let alone = dumped(alloc, &mounted(alloc, STACK)?, 0, &mut bay)?;
+    Ok(
+        is_told(&both, Status::Good, ABCD, b"status 0\n")
+            && is_told(&alone, Status::Good, ABCD, b"status 0\n"),
+    )
+}
+
+#[test]
+fn dumps_over_mirrors(rt: HostRuntime) -> Result<(), Fail> {
+    for image in [true, false] {
+        assert!(rt; prints_mirrored(rt.alloc(), image)?, "{image}");
+    }
+    Ok(())
+}
+
 #[test]
 fn a_sink_that_fails(rt: HostRuntime) -> Result<(), Fail> {
-    let mount = mounted(rt.alloc())?;
+    let mount = mounted(rt.alloc(), STACK)?;
     let store = image_store(rt.alloc(), 24, 0, 0)?;
     let mut bay = bay_of(rt.alloc(), 0, 0, store)?;
     let told = dumped_to(rt.alloc(), &mount, 0, &mut bay, &[2])?;
@@ -375,7 +411,7 @@ fn prints_at(alloc: Global, mount: &Mounted, place: usize) -> Result<bool, Fail>
 
 #[test]
 fn headers_with_another_byte(rt: HostRuntime) -> Result<(), Fail> {
-    let mount = mounted(rt.alloc())?;
+    let mount = mounted(rt.alloc(), STACK)?;
     for place in 0..24 {
         assert!(rt; prints_at(rt.alloc(), &mount, place)?, "at {place}");
     }
