@@ -1,20 +1,14 @@
 -- A mounted stack as a run sees it.
-use Rattle.std.specs.Prelude.{◌≡◌, ℕ, List, [], ◌&&◌, length, map, slice_get, slice_index_or, position, Option, Some, None}
+use Rattle.std.specs.Prelude.{ℕ, List, [], ◌&&◌, map, slice_get, slice_index_or, position, Option, Some, None}
 use Rattle.std.specs.Str.{bytes_eq}
 use Rattle.hist_plain.specs.File.{Shape}
 use Rattle.stack_accept.specs.declared.entries.FileEntry.{FileEntry}
 use Rattle.stack_accept.specs.declared.entries.NodeEntry.{NodeEntry}
 use Rattle.stack_accept.specs.Mount.{Mount, is_view}
-use Rattle.stack_accept.specs.Plan.{OnDisk}
 
 -- the size of a page, and the parent of each node
 abbrev pub shape_of : Mount → Shape
 shape_of mount = record { page_size = mount.page_size; parents = mount.tree.parents }
-
--- a stack that a run can build so far: its ground is its one disk
-pub record IsBuilt (mount : Mount) : Type 0 where
-  pub disk : length mount.disks ≡ 1
-  pub ground : mount.ground ≡ OnDisk 0
 
 -- the name of a number, by a list of names; a number that has none has the empty name
 abbrev pub name_in : List (List ℕ) → ℕ → List ℕ

@@ -9,12 +9,12 @@ use Rattle.script_text.specs.declared.script.Sub.{Sub}
 use Rattle.script_text.specs.declared.script.Sub.TheVariants.{Singleton, Cluster, Caching}
 use Rattle.script_text.specs.declared.script.CallLine.{CallLine}
 
--- a mirror or a distributed layer
+-- a distributed layer
 abbrev pub is_later : StackLine → Bool
 is_later (Page size) = false
 is_later (File name pages) = false
 is_later (Disk name machine) = false
-is_later (Mirror name machine left right) = true
+is_later (Mirror name machine left right) = false
 is_later (Coherency name machine below) = false
 is_later (Dfs name machine below) = true
 is_later (Vmm name machine below frames) = false

@@ -12,7 +12,7 @@ use stack_text::{MAX_LINES, StackLine, StackText};
 fn is_later(line: &StackLine) -> bool
     ensures { result ≡ is_later line.now }
 {
-    matches!(line, StackLine::Mirror { .. } | StackLine::Dfs { .. })
+    matches!(line, StackLine::Dfs { .. })
 }
 
 /// The place of the first such line.
@@ -24,7 +24,7 @@ fn later_place(lines: &[StackLine]) -> Option<usize>
 }
 
 /// The number, from 1, of the first line of a stack that asks for a layer that a run does not build
-/// yet: a mirror or a distributed layer.
+/// yet: a distributed layer.
 pub fn later_line(stack: &StackText) -> Option<u32>
     requires { length stack.now.lines ≤ MAX_LINES }
     ensures { result ≡ later_line stack.now.lines }

@@ -38,6 +38,10 @@ const STACK: &[u8] = b"page 64\nfile f 2\ndisk d m\ncoherency c m d\n";
 const MIRRORED: &[u8] =
     b"page 64\nfile f 2\ndisk d m\ndisk e m\nmirror x m d e\ncoherency c m x\nvmm v m c 2\n";
 
+/// A distributed layer behind a mirror.
+const SPREAD: &[u8] =
+    b"page 64\nfile f 2\ndisk d m\ndisk e m\nmirror x m d e\ncoherency c m x\ndfs r m c\n";
+
 const SCRIPT: &[u8] = b"client a m\nphase\na open x c/f\n";
 
 /// A memory manager on a layer above the only disk.
@@ -90,7 +94,7 @@ const UNKNOWN: [(&[u8], Option<u32>); 23] = [
 type Texts<'a> = (&'a [u8], &'a [u8], &'a [u8]);
 
 /// Texts with why one of them is refused, and the line that says so.
-const REFUSED: [(Texts<'static>, Refusal, &str); 20] = [
+const REFUSED: [(Texts<'static>, Refusal, &str); 21] = [
     (
         (b"struct s {\n  u8 ?;\n};\n", b"", b""),
         Refusal::Idl {
@@ -165,8 +169,16 @@ const REFUSED: [(Texts<'static>, Refusal, &str); 20] = [
     ),
     (
         (IDL, MIRRORED, b"a"),
-        Refusal::StackLater { line: 5 },
-        "stack 5 later",
+        Refusal::Script {
+            line: 1,
+            why: ScriptWhy::End,
+        },
+        "script 1 end",
+    ),
+    (
+        (IDL, SPREAD, b"a"),
+        Refusal::StackLater { line: 7 },
+        "stack 7 later",
     ),
     (
         (
@@ -424,22 +436,33 @@ fn a_run(rt: HostRuntime) -> Result<(), Fail> {
 }
 
 #[test]
+fn a_run_over_a_mirror(rt: HostRuntime) -> Result<(), Fail> {
+    let Ok((mount, script, _ops)) = read(rt.alloc(), &NAMES, (IDL, MIRRORED, SCRIPT))? else {
+        return Err("the texts".into());
+    };
+    assert_eq!(rt; mount.disks().len(), 2);
+    assert_eq!(rt; mount.nodes().len(), 3);
+    assert_eq!(rt; script.phases.as_slice().len(), 1);
+    Ok(())
+}
+
+#[test]
 fn one_text(rt: HostRuntime) -> Result<(), Fail> {
-    let mut shelf = shelf_of(rt.alloc(), (SMALL, MIRRORED, STACK))?;
+    let mut shelf = shelf_of(rt.alloc(), (SMALL, SPREAD, MIRRORED))?;
     let interfaces = Text::of(rt.alloc(), "I")?;
-    let mirrored = Text::of(rt.alloc(), "S")?;
-    let plain = Text::of(rt.alloc(), "T")?;
+    let spread = Text::of(rt.alloc(), "S")?;
+    let mirrored = Text::of(rt.alloc(), "T")?;
     let Ok(lines) = read_tables(rt.alloc(), &mut shelf, &interfaces) else {
         return Err("the interfaces".into());
     };
     assert_eq!(rt; lines.as_slice(), TABLES);
-    let later = Some(Refusal::StackLater { line: 5 });
-    assert!(rt; read_stack(rt.alloc(), &mut shelf, &mirrored).is_ok());
+    let later = Some(Refusal::StackLater { line: 7 });
+    assert!(rt; read_stack(rt.alloc(), &mut shelf, &spread).is_ok());
+    assert_eq!(rt; read_runnable(rt.alloc(), &mut shelf, &spread).err(), later);
     assert_eq!(rt;
         read_runnable(rt.alloc(), &mut shelf, &mirrored).err(),
-        later
+        None
     );
-    assert_eq!(rt; read_runnable(rt.alloc(), &mut shelf, &plain).err(), None);
     Ok(())
 }
 

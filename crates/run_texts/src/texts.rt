@@ -3,7 +3,6 @@
 ghost use Rattle.std.specs.Prelude.{◌≡◌, ◌⊎◌, ◌≤◌, IfOk, IfErr, OnOk, None};
 ghost use Rattle.spr_io.specs.Causes.{Rose};
 ghost use Rattle.stack_accept.specs.Mount.{Mount, mounted};
-ghost use Rattle.run_defs.specs.Stack.{IsBuilt};
 ghost use Rattle.script_text.specs.Grammar.{IsScript};
 ghost use Rattle.run_texts.specs.Known.{unknown_line};
 ghost use Rattle.run_texts.specs.Later.{later_line, later_call};
@@ -114,7 +113,6 @@ pub fn read_runnable<H: Shelf>(
     name: &Text,
 ) -> Result<Mounted, Refusal>
     ensures mounted { IfOk result (IsRunnable (H.told shelf.old) name.now) }
-    ensures built { IfOk result IsBuilt }
     ensures err { IfErr result (IsRunnableCause (H.told shelf.old) (H.told shelf.new) name.now) }
     ensures same { SameTexts (H.told shelf.old) (H.told shelf.new) }
     ensures calm { OnOk result ((H.told shelf.new).faults ≡ (H.told shelf.old).faults) }
@@ -136,7 +134,6 @@ fn read_stack_and_script<H: Shelf>(
 ) -> Result<(Mounted, Script), Refusal>
     ensures mounted { IfOk result (λ found. IsRunnable (H.told shelf.old) stack.now found.0) }
     ensures script { IfOk result (λ found. HasScript (H.told shelf.old) name.now found.0 found.1) }
-    ensures built { IfOk result (λ found. IsBuilt found.0) }
     ensures err { IfErr result (IsRunCause (H.told shelf.old) (H.told shelf.new) stack.now name.now) }
     ensures calm { OnOk result ((H.told shelf.new).faults ≡ (H.told shelf.old).faults) }
 {
@@ -156,7 +153,6 @@ pub fn read_run<H: Shelf>(
     name: &Text,
 ) -> Result<(Mounted, Script, Ops), Refusal>
     ensures ok { IfOk result (λ found. IsPrepared (H.told shelf.old) (record { idl = idl.now; stack = stack.now; script = name.now }) found.0 found.1 found.2) }
-    ensures built { IfOk result (λ found. IsBuilt found.0) }
     ensures script { IfOk result (λ found. IsScript found.1 × (later_call found.1.phases ≡ None) × (unknown_line found.0 found.1 ≡ None)) }
     ensures err { IfErr result (IsCause (H.told shelf.old) (H.told shelf.new) (record { idl = idl.now; stack = stack.now; script = name.now })) }
     ensures calm { OnOk result ((H.told shelf.new).faults ≡ (H.told shelf.old).faults) }
