@@ -98,7 +98,7 @@ closed-now end closer t q made =
     let from : last_from (events_in e) ≡ Some q.from = ap last_from q.is ∙ last_from-entered (trail_of q.before) (Synced closer q.number q.node q.from q.keep) in
     record {
       ends = record { before = trail_of q.before; number = q.number; node = q.node; from = q.from; keep = q.keep; is = q.is };
-      now = λ opening disk of on.
+      now = λ opening disk of live.
           kept-now (tree_in e) (file_in e).page_size opening (events_in e) (trail_of q.start) more q.from (kept_on e.ground.disks disk) events_are idle q.from_is
-          ((of.synced q.from from).disks disk on.live);
+          ((of.synced q.from from).disks disk live);
     }

@@ -1,6 +1,10 @@
 pub mod WholeLaws
 pub mod PageLaws
+pub mod GivenLaws
 pub mod EngineLaws
+pub mod DiskLaws
+pub mod MirrorLaws
+pub mod TurnLaws
 pub mod EndedLaws
 pub mod TowerLaws
 pub mod ClosedLaws

@@ -1,69 +1,24 @@
--- What a disk tells that is told with all that its store holds.
-use Rattle.std.proofs.Common.{◌≡◌, ℕ, zero, suc, Bool, true, false, [], ◌∷◌, List, Option, Some, None, refl, sym, ap, arith}
+-- The only disk of a file.
+use Rattle.std.proofs.Common.{◌≡◌, ℕ, zero, suc, [], ◌∷◌, List, refl, sym, ap, arith}
 use Rattle.std.specs.Prelude.{Contains}
-use Rattle.std.specs.Option.{option_map}
-use Rattle.std.proofs.lemmas.Bool.{eq-eqb}
-use Rattle.spr_io.specs.Content.{Content}
-use Rattle.disk_format.specs.Image.{Imaged}
-use Rattle.disk_layer.specs.Disk.{Disk, kept_on}
-use Rattle.disk_layer.specs.Seen.{DiskSeen, Seen, faults_in, kept_in, live_in, opened_in}
+use Rattle.disk_layer.specs.Disk.{Disk}
+use Rattle.disk_layer.specs.Seen.{numbers_in}
 use Rattle.shared_tower.specs.Later.{IsOnDisk}
-use Rattle.run_files.specs.WholeDisk.{seen_whole}
-
--- what is found under its number
-pub kept-under : (d : Disk) (n : ℕ) → n ≡ d.disk → kept_in (seen_whole d).disks n ≡ kept_on d
-kept-under d n is = rw (eq-eqb n d.disk is) refl
-
-pub faults-under : (d : Disk) (n : ℕ) → n ≡ d.disk → faults_in (seen_whole d).disks n ≡ d.faults
-faults-under d n is = rw (eq-eqb n d.disk is) refl
-
-pub opened-under : (d : Disk) (n : ℕ) → n ≡ d.disk → opened_in (seen_whole d).disks n ≡ d.opened
-opened-under d n is = rw (eq-eqb n d.disk is) refl
+use Rattle.file_ground.specs.WholeDisk.{seen_whole}
+use Rattle.file_ground.proofs.WholeLaws.{is-live}
 
 one-live : (x n : ℕ) → Contains (x ∷ []) n → n ≡ x
 one-live x n (zero, lt, is) = sym is
 one-live x n (suc k, lt, is) = absurd (omega arith)
 
-pub is-live : (d : Disk) → Contains (live_in (seen_whole d).disks) d.disk
-is-live d = (0, omega arith, refl)
-
--- it is the only one that is live
+-- it alone is live
 pub on-disk : (d : Disk) → IsOnDisk d.disk (seen_whole d)
 on-disk d = record { live = is-live d; alone = λ other live. one-live d.disk other live }
 
-abbrev kept-at : ℕ → List DiskSeen → Option (Option Imaged)
-kept-at n [] = None
-kept-at zero (d ∷ ds) = d.kept
-kept-at (suc n) (d ∷ ds) = kept-at n ds
-
-abbrev faults-first : List DiskSeen → ℕ
-faults-first [] = 0
-faults-first (d ∷ ds) = d.faults
-
-abbrev blocks-of : Option (Option Imaged) → List (List ℕ)
-blocks-of None = []
-blocks-of (Some None) = []
-blocks-of (Some (Some i)) = i.pages
-
-abbrev is-told : Option (Option Imaged) → Bool
-is-told None = false
-is-told (Some i) = true
-
-differ : false ≡ true → ⊥
-differ e = cc
-
-same-content : (a b : Option Content) → is-told (option_map {T = Content} (λ c. let all : Imaged = record { generation = 0; pages = c.blocks } in Some all) a) ≡ is-told (option_map {T = Content} (λ c. let all : Imaged = record { generation = 0; pages = c.blocks } in Some all) b)
-    → blocks-of (option_map {T = Content} (λ c. let all : Imaged = record { generation = 0; pages = c.blocks } in Some all) a) ≡ blocks-of (option_map {T = Content} (λ c. let all : Imaged = record { generation = 0; pages = c.blocks } in Some all) b)
-    → blocks-of (option_map {T = Content} (λ c. let all : Imaged = record { generation = 0; pages = c.kept } in Some all) a) ≡ blocks-of (option_map {T = Content} (λ c. let all : Imaged = record { generation = 0; pages = c.kept } in Some all) b) → a ≡ b
-same-content None None t p q = refl
-same-content None (Some c) t p q = absurd (differ t)
-same-content (Some c) None t p q = absurd (differ (sym t))
-same-content (Some c) (Some e) t p q = λ i. Some (let x : Content = record { blocks = p i; kept = q i } in x)
-
--- disks that tell the same have stores that hold the same
-pub whole-content : (a b : Disk) → seen_whole a ≡ seen_whole b → a.content ≡ b.content
-whole-content a b same =
-    same-content a.content b.content (ap (λ (s : Seen). is-told (kept-at 1 s.disks)) same) (ap (λ (s : Seen). blocks-of (kept-at 1 s.disks)) same) (ap (λ (s : Seen). blocks-of (kept-at 2 s.disks)) same)
-
-pub whole-count : (a b : Disk) → seen_whole a ≡ seen_whole b → a.faults ≡ b.faults
-whole-count a b same = ap (λ (s : Seen). faults-first s.disks) same
+-- disks of the same numbers are one
+pub same-number-under : (a b : Disk) → numbers_in (seen_whole b).disks ≡ numbers_in (seen_whole a).disks → a.disk ≡ b.disk
+same-number-under a b same = sym (ap first same)
+  where
+    first : List ℕ → ℕ
+    first [] = 0
+    first (n ∷ ns) = n

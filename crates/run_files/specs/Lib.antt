@@ -4,4 +4,3 @@ pub mod Play
 pub mod Room
 pub mod Run
 pub mod Told
-pub mod WholeDisk

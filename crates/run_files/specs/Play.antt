@@ -1,5 +1,5 @@
 -- What a script over the files did.
-use Rattle.std.specs.Prelude.{◌≡◌, ℕ, suc, List, [], length, slice_get, Some, IfSome}
+use Rattle.std.specs.Prelude.{◌≡◌, ℕ, suc, List, [], length, slice_get, Some, IfSome, Contains}
 use Rattle.std.specs.List.{AllByRecursion}
 use Rattle.hist_plain.specs.History.{IsNumbered}
 use Rattle.script_text.specs.declared.script.Script.{Script}
@@ -7,7 +7,7 @@ use Rattle.script_text.specs.declared.script.Said.{Said}
 use Rattle.script_text.specs.declared.script.Reply.{Reply}
 use Rattle.script_text.specs.declared.script.Reply.TheVariants.{Done}
 use Rattle.stack_accept.specs.Mount.{Mount}
-use Rattle.disk_layer.specs.Seen.{pages_in}
+use Rattle.disk_layer.specs.Seen.{live_in, pages_in}
 use Rattle.disk_layer.specs.Seen.{kept_in as kept_on}
 use Rattle.tower_core.specs.Legal.{file_after}
 use Rattle.tower_log.specs.declared.logged.Logged.{Logged}
@@ -20,7 +20,6 @@ use Rattle.run_defs.specs.Fits.{FitsScript, EachAnswered, IsEntryUpTo, IsUpTo}
 use Rattle.stack_engine.specs.Engine.{EngineSeen, events_in, file_in, log_in, tree_in}
 use Rattle.stack_engine.specs.Opened.{IsOf}
 use Rattle.stack_engine.specs.Tower.{TowerSeen}
-use Rattle.shared_tower.specs.Later.{IsOnDisk}
 use Rattle.spr_volume.specs.Passes.{AreBack, Knows, as_known, known, logs}
 use Rattle.spr_client.specs.Calls.{histories}
 use Rattle.run_phases.specs.Closing.{EndsQuietly}
@@ -51,13 +50,13 @@ pub record IsPlayed (mount : Mount) (script : Script) (p q : Knows) (said : List
   pub said_each : length said ≡ length script.clients
   pub closing_each : length closing ≡ length mount.files
 
--- the live disk keeps pages of the file as it is now, if it is told
+-- each live disk keeps pages of the file as it is now, if they are told
 abbrev pub KeepsNow : EngineSeen → Type 0
-KeepsNow e = (opening : List ℕ) (disk : ℕ) → IsOf opening e → IsOnDisk disk e.ground
+KeepsNow e = (opening : List ℕ) (disk : ℕ) → IsOf opening e → Contains (live_in e.ground.disks) disk
     → IfSome (pages_in (kept_on e.ground.disks disk)) (λ pages. (ps : List (List ℕ)) × (pages ≡ Some ps)
     × ArePagesOf (file_in e).page_size (length ps) (file_after (tree_in e) (file_in e).page_size opening (events_in e)).bytes ps)
 
--- a file that a caller's sync ended: its disk keeps the file as it is now
+-- a file that a caller's sync ended: its live disks keep the file as it is now
 pub record IsClosed (caller : ℕ) (t : TowerSeen) : Type 0 where
   pub ends : EndsSynced caller (events_in t.engine)
   pub now : KeepsNow t.engine

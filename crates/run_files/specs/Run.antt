@@ -1,5 +1,5 @@
 -- What a run does to the files of a stack and their stores, and what it writes.
-use Rattle.std.specs.Prelude.{◌≡◌, ◌⊎◌, ℕ, ◌*◌, ◌<◌, ◌≤◌, List, [], map, filter, length, slice_get, Option, Some, None, IfSome, Bool, if◌then◌else◌}
+use Rattle.std.specs.Prelude.{◌≡◌, ◌⊎◌, ℕ, ◌*◌, ◌<◌, ◌≤◌, List, [], ◌∷◌, map, length, slice_get, unwrap_or, Option, Some, None, IfSome, IsSome, Contains, Bool, if◌then◌else◌}
 use Rattle.std.specs.List.{AllByRecursion}
 use Rattle.std.specs.Option.{option_map}
 use Rattle.hist_plain.specs.declared.TheConstants.{MAX_EVENTS}
@@ -24,17 +24,27 @@ use Rattle.stack_names.specs.Views.{names_at_start}
 use Rattle.run_defs.specs.Log.{Histories, log_of, EndsSynced}
 use Rattle.run_defs.specs.Fits.{FitsScript, EachAnswered}
 use Rattle.spr_io.specs.Content.{Content}
-use Rattle.spr_io.specs.Berth.{BaySeen, taken}
+use Rattle.spr_io.specs.Berth.{BaySeen}
 use Rattle.disk_format.specs.declared.shape.ImageShape.{ImageShape}
 use Rattle.disk_format.specs.Image.{Imaged, image}
 use Rattle.spr_report.specs.declared.status.Status.{Status}
 use Rattle.spr_report.specs.declared.status.Status.TheVariants as statuses
 use Rattle.spr_report.specs.Report.{report}
-use Rattle.file_stores.specs.Keys.{EachAt, stores_of, image_shape, berth_of, is_lost, SameOthers}
-use Rattle.file_stores.specs.State.{StoreState, Lay, BackFrom, RoseBy}
+use Rattle.disk_layer.specs.Seen.{kept_in, live_in}
+use Rattle.disk_layer.specs.Seen.{pages_in as told_in}
+use Rattle.mirror_layer.specs.Ground.{Ground, seen_of}
+use Rattle.mirror_layer.specs.Bringing.{OpenedOver}
+use Rattle.mirror_layer.specs.Stores.{GivesBack}
+use Rattle.file_stores.specs.Keys.{EachAt, stores_of, image_shape}
+use Rattle.file_stores.specs.State.{StoreState, Returned}
+use Rattle.file_stores.specs.Held.{StoreSeen}
+use Rattle.file_stores.specs.Files.{FileSeen, StandsAt, stores_in}
+use Rattle.file_ground.specs.Opening.{content_of, faults_of, shape_of_file}
+use Rattle.run_files.specs.Held.{AreFiles, Closes, IsUnheld}
 use Rattle.file_stores.specs.declared.stop.Stop.{Stop}
+use Rattle.file_stores.specs.declared.stop.Stop.TheVariants as stops
 use Rattle.file_stores.specs.Stop.{lost_text, stop_text, stop_status}
-use Rattle.file_stores.specs.Stops.{Stops}
+use Rattle.file_stores.specs.Stops.{Untaken}
 use Rattle.run_files.specs.Ended.{status_of}
 
 -- the numbers of the operations, if the page messages are traced
@@ -83,52 +93,70 @@ abbrev pub HoldsAll : Mount → ℕ → List ℕ → List Logged → List (List 
 HoldsAll mount file opening log pages =
     ArePagesOf mount.page_size (pages_of mount file) (file_after mount.tree mount.page_size opening (trail_of log)).bytes pages
 
--- WHAT A STORE THAT TELLS ITS CONTENT KEEPS, by the log of its file and the answer of the closing sync. It tells its content still.
-pub record IsKept (mount : Mount) (closing : List Reply) (log : List Logged) (key : StoreKey) (opening : List ℕ) (old new : Content) : Type 0 where
-  -- until a sync was completed: the pages that it kept, or an image that has, page by page, the file as it was at some place
-  pub unsynced : last_from (trail_of log) ≡ None → (pages_in (image_shape mount key) new.kept ≡ pages_in (image_shape mount key) old.kept)
-      ⊎ StandFor (image_shape mount key) (Holds mount opening log 0) new.kept
+-- WHAT A DISK KEEPS whose store tells its content, by the log of its file and the answer of the closing sync; when the file was opened it had
+-- kept these pages.
+pub record IsKept (mount : Mount) (closing : List Reply) (log : List Logged) (key : StoreKey) (opening : List ℕ) (first : Option (List (List ℕ))) (kept : List (List ℕ)) : Type 0 where
+  -- until a sync was completed: the pages that it had kept, or an image that has, page by page, the file as it was at some place
+  pub unsynced : last_from (trail_of log) ≡ None → (pages_in (image_shape mount key) kept ≡ first) ⊎ StandFor (image_shape mount key) (Holds mount opening log 0) kept
   -- then an image that has, page by page, the file as it was at some place from the last completed sync on
-  pub synced : (from : ℕ) → last_from (trail_of log) ≡ Some from → StandFor (image_shape mount key) (Holds mount opening log from) new.kept
+  pub synced : (from : ℕ) → last_from (trail_of log) ≡ Some from → StandFor (image_shape mount key) (Holds mount opening log from) kept
   -- and if the closing sync is done, an image of the whole file
-  pub whole : slice_get closing key.file ≡ Some replies.Done → StandFor (image_shape mount key) (HoldsAll mount key.file opening log) new.kept
+  pub whole : slice_get closing key.file ≡ Some replies.Done → StandFor (image_shape mount key) (HoldsAll mount key.file opening log) kept
 
--- a store told its content: the image that it held began the file, and it keeps what it is to keep
+-- a store told its content: the image that it held began the file, and it keeps what it is to keep. It tells its content still.
 pub record IsTold (mount : Mount) (closing : List Reply) (log : List Logged) (key : StoreKey) (old : Content) (after : Option Content) : Type 0 where
   pub opening : List ℕ
   pub began : StandFor (image_shape mount key) (ArePagesOf mount.page_size (pages_of mount key.file) opening) old.blocks
   pub along : IsAlong mount key.file opening log
   pub new : Content
   pub still : after ≡ Some new
-  pub kept : IsKept mount closing log key opening old new
+  pub kept : IsKept mount closing log key opening (pages_in (image_shape mount key) old.kept) new.kept
 
--- What became of a store of a file of this log, by the answer of its closing sync.
+-- What became of a file's only store.
 pub record Leaves (mount : Mount) (closing : List Reply) (log : List Logged) (key : StoreKey) (old new : StoreState) : Type 0 where
   -- the counts of its disk's notes are those of the store's faults in this run; if there is no such note it had none
   pub rises : Rises old.faults new.faults (counts_of key.disk log)
   pub calm : counts_of key.disk log ≡ [] → new.faults ≡ old.faults
   pub told : IfSome old.content (λ content. IsTold mount closing log key content new.content)
 
--- what became of each store, by the log of its file
-abbrev pub LeavesEach : Mount → List Reply → List (List Logged) → StoreKey → StoreState → StoreState → Type 0
-LeavesEach mount closing logs key old new = Leaves mount closing (log_of logs key.file) key old new
+-- the disks of a ground that are live
+abbrev pub live_of : Ground → List ℕ
+live_of g = live_in (seen_of g).disks
 
--- A store was taken, with what became of it, and came back, or is lost. Its count of faults never falls.
-pub record CameBack (mount : Mount) (before after : BaySeen) (key : StoreKey) (gone : Bool) (Becomes : StoreState → StoreState → Type 0) : Type 0 where
-  pub old : StoreState
-  pub lay : Lay mount before key old
-  pub new : StoreState
-  pub becomes : Becomes old new
-  pub later : old.faults ≤ new.faults
-  pub back : BackFrom (taken (berth_of mount key before.berths)) (berth_of mount key after.berths) gone new
+-- the store of this number before and after
+abbrev pub Store : FileSeen → FileSeen → ℕ → StoreSeen → StoreSeen → Type 0
+Store f g disk old new = (slice_get f.stores disk ≡ Some old) × (slice_get g.stores disk ≡ Some new)
 
--- These stores were taken, each with what became of it, and came back, but for those that are lost, in the same order. The bay
--- had a fault for each lost one, and no other berth changed.
-pub record AreBack (mount : Mount) (before after : BaySeen) (keys gone : List StoreKey) (Becomes : StoreKey → StoreState → StoreState → Type 0) : Type 0 where
-  pub each : EachAt (λ at key. CameBack mount before after key (is_lost gone key) (Becomes key)) keys
-  pub some : gone ≡ filter (is_lost gone) keys
-  pub paid : RoseBy (length gone) before.faults after.faults
-  pub others : SameOthers mount keys before.berths after.berths
+-- the stores of disks in mirrors told their content: the pages of the ground as it was opened began the file, and each disk that is live at
+-- the end keeps what it is to keep
+pub record AreTold (mount : Mount) (closing : List Reply) (log : List Logged) (f g : FileSeen) (opened closed : Ground) : Type 0 where
+  pub opening : List ℕ
+  pub pages : List (List ℕ)
+  pub shown : (seen_of opened).pages ≡ Some pages
+  pub began : ArePagesOf mount.page_size (pages_of mount f.file) opening pages
+  pub along : IsAlong mount f.file opening log
+  pub kept : (disk : ℕ) (old new : StoreSeen) → Store f g disk old new → Contains (live_of closed) disk
+      → (c : Content) × (new.state.content ≡ Some c) × IsKept mount closing log old.key opening (unwrap_or (told_in (kept_in (seen_of opened).disks disk)) None) c.kept
+
+-- What became of the stores of a file on disks in mirrors.
+pub record LeavesMirrors (mount : Mount) (closing : List Reply) (log : List Logged) (f g : FileSeen) : Type 0 where
+  -- the ground that the stores gave when they were opened, and the one that gave them back
+  pub opened : Ground
+  pub over : OpenedOver content_of faults_of (shape_of_file mount f.file) f.stores mount.ground opened
+  pub closed : Ground
+  pub back : GivesBack content_of faults_of closed.beside closed.row g.stores
+  -- at the end some disk is live, which was so at the opening; each other one's store failed since it was taken
+  pub some : 0 < length (live_of closed)
+  pub live : (disk : ℕ) → Contains (live_of closed) disk → Contains (live_of opened) disk
+  pub fell : (disk : ℕ) (old new : StoreSeen) → Store f g disk old new → Contains (live_of closed) disk ⊎ (old.state.faults < new.state.faults)
+  -- the counts of a disk's notes are among those of its store's faults in this run
+  pub rises : (disk : ℕ) (old new : StoreSeen) → Store f g disk old new → Rises old.state.faults new.state.faults (counts_of disk log)
+  pub told : EachAt (λ at s. IsSome s.state.content) f.stores → AreTold mount closing log f g opened closed
+
+-- WHAT BECAME OF A FILE'S STORES, by its log and the answer of its closing sync
+pub data LeavesFile (mount : Mount) (closing : List Reply) (log : List Logged) (f g : FileSeen) : Type 0 where
+  leaves_one : {old new : StoreSeen} → f.stores ≡ old ∷ [] → g.stores ≡ new ∷ [] → Leaves mount closing log old.key old.state new.state → LeavesFile mount closing log f g
+  leaves_many : 1 < length f.stores → LeavesMirrors mount closing log f g → LeavesFile mount closing log f g
 
 -- a log before its first entry
 abbrev pub start_of : List Logged → List Logged
@@ -139,18 +167,40 @@ abbrev pub before_all : Mount → Histories → Histories
 before_all mount h = record { logs = map start_of h.logs; names = record { began = names_at_start mount; history = [] } }
 
 -- The script was run over the files: these are their logs and the history of the names, the clients' answers and those of the closing
--- syncs; and these stores were lost.
+-- syncs; these stores were taken, each with what became of it, and came back, but for those that were lost.
 pub record Played (mount : Mount) (script : Script) (before after : BaySeen) (h : Histories) (said : List (List Said)) (closing : List Reply) (lost : List StoreKey) : Type 0 where
-  pub stores : AreBack mount before after (stores_of mount) lost (LeavesEach mount closing h.logs)
+  pub olds : List FileSeen
+  pub news : List FileSeen
+  pub of : AreFiles mount olds
+  pub stores : Returned mount before after (stores_of mount) lost (StandsAt (stores_in olds) (stores_in news))
+  pub leaves : (file : ℕ) (old new : FileSeen) → slice_get olds file ≡ Some old → slice_get news file ≡ Some new → LeavesFile mount closing (log_of h.logs file) old new
   pub files : AreOfFiles mount (length script.clients) closing h.logs
   pub fits : FitsScript mount script (before_all mount h) h said closing
   pub answered : EachAnswered script said
+
+-- All stores were taken, and the script was not run: the first files were opened and closed again; the next one could not be opened, and
+-- those behind it came back as they were taken; or all were opened, and memory ran out.
+pub record NotRun (mount : Mount) (before after : BaySeen) (lost : List StoreKey) (stop : Stop) : Type 0 where
+  pub olds : List FileSeen
+  pub news : List FileSeen
+  pub of : AreFiles mount olds
+  pub stores : Returned mount before after (stores_of mount) lost (StandsAt (stores_in olds) (stores_in news))
+  pub number : ℕ
+  pub opened : (file : ℕ) (old new : FileSeen) → file < number → slice_get olds file ≡ Some old → slice_get news file ≡ Some new → Closes mount old new
+  pub refused : (old new : FileSeen) → slice_get olds number ≡ Some old → slice_get news number ≡ Some new → IsUnheld mount old new stop
+  pub behind : (file : ℕ) (old new : FileSeen) → number < file → slice_get olds file ≡ Some old → slice_get news file ≡ Some new → new ≡ old
+  pub all : (number < length mount.files) ⊎ ((number ≡ length mount.files) × (stop ≡ stops.Memory))
+
+-- why a script is not run: the stores could not all be taken, or the files not be opened
+pub data Halted (mount : Mount) (before after : BaySeen) (lost : List StoreKey) (stop : Stop) : Type 0 where
+  untaken : Untaken mount before after (stores_of mount) lost stop → Halted mount before after lost stop
+  unopened : NotRun mount before after lost stop → Halted mount before after lost stop
 
 -- The ways in which a run ends over the files, each with its text and status: the stores could not be taken or opened; the
 -- script was run, and this is the report, with the page messages if they are traced; or it was run, and memory ran out for the
 -- report.
 pub data SaysRun (mount : Mount) (script : Script) (traced : Option Ops) (before after : BaySeen) (text : List ℕ) (status : Status) : Type 0 where
-  stopped : (stop : Stop) (lost : List StoreKey) → Stops mount before after (stores_of mount) lost stop
+  stopped : (stop : Stop) (lost : List StoreKey) → Halted mount before after lost stop
       → text ≡ stop_text mount stop lost → status ≡ stop_status stop → SaysRun mount script traced before after text status
   reported : (h : Histories) (said : List (List Said)) (closing : List Reply) (lost : List StoreKey) → Played mount script before after h said closing lost
       → text ≡ report mount script traced h.logs h.names.history said closing lost → status ≡ status_of said closing lost → SaysRun mount script traced before after text status

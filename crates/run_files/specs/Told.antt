@@ -15,7 +15,7 @@ use Rattle.spr_report.specs.declared.status.Status.TheVariants as statuses
 use Rattle.spr_report.specs.Writing.{Finishes}
 use Rattle.file_stores.specs.declared.stop.Stop.{Stop}
 use Rattle.file_stores.specs.Stop.{lost_text, stop_text, stop_status}
-use Rattle.file_stores.specs.Stops.{Stops}
+use Rattle.run_files.specs.Run.{Halted}
 
 -- the report and the status were written, or, if memory ran out for the report, a line for each store that is lost
 abbrev pub Tells : Mount → Script → Option Ops → Histories → List (List Said) → List Reply → List StoreKey → Status → SinkSeen → SinkSeen → Status → Type 0
@@ -23,10 +23,10 @@ Tells mount script traced h said closing lost status before after result =
     Finishes before after (report mount script traced h.logs h.names.history said closing lost) status result
     ⊎ Finishes before after (lost_text mount lost) statuses.Memory result
 
--- the stores could not all be taken or opened, and this is the text and the status
-pub record Stopped (mount : Mount) (before after : BaySeen) (keys : List StoreKey) (text : List ℕ) (status : Status) : Type 0 where
+-- the script was not run, and this is the text and the status
+pub record Stopped (mount : Mount) (before after : BaySeen) (text : List ℕ) (status : Status) : Type 0 where
   pub stop : Stop
   pub lost : List StoreKey
-  pub stops : Stops mount before after keys lost stop
+  pub halted : Halted mount before after lost stop
   pub says : text ≡ stop_text mount stop lost
   pub ends : status ≡ stop_status stop

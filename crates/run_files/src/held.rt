@@ -1,19 +1,21 @@
 //! The files of a run over their stores: how they are opened and closed.
 
-ghost use Rattle.std.specs.Prelude.{◌≡◌, ◌<◌, ◌≤◌, [], Some, IfOk, IfErr, OnOk, length, map, slice_get, vec_capacity};
-ghost use Rattle.disk_layer.specs.Calls.{Opened};
+ghost use Rattle.std.specs.Prelude.{◌≡◌, ◌+◌, ◌++◌, ◌<◌, ◌≤◌, ◌^◌, [], Some, IfOk, IfErr, OnOk, length, map, vec_capacity};
+ghost use Rattle.stack_accept.specs.Sound.{IsMount};
 ghost use Rattle.stack_engine.specs.Engine.{log_in};
 ghost use Rattle.stack_engine.specs.Start as engines;
 ghost use Rattle.spr_volume.specs.Passes.{logs};
-ghost use Rattle.file_stores.specs.Keys.{EachAt, AreStores, IsStore, image_shape};
-ghost use Rattle.file_stores.specs.Held.{IsRoom, IsFit, keys_of};
-ghost use Rattle.run_files.specs.WholeDisk.{seen_whole};
-ghost use Rattle.run_files.specs.Held.{under, paged, BeganOn, Opens, OpensEach, OpensSome, IsUnopened, IsShut, AreShut};
+ghost use Rattle.run_defs.specs.Stack.{pages_of};
+ghost use Rattle.page_messages.specs.Paged.{IsPagedFile};
+ghost use Rattle.file_stores.specs.Keys.{EachAt};
+ghost use Rattle.file_stores.specs.Held.{IsRoom};
+ghost use Rattle.file_stores.specs.Files.{ArePairs, IsFile, Lasts};
+ghost use Rattle.file_ground.specs.Under.{IsSound as IsSoundUnder, seen_under};
+ghost use Rattle.run_files.specs.Held.{paged, BeganOn, Opens, OpensEach, OpensSome, IsUnheld, IsShut, AreShut};
 
 use crate::layers::copy_tree;
-use crate::whole_disk::WholeDisk;
-use disk_layer::Disk;
-use file_stores::{Held, Stop, shape_of};
+use file_ground::{FileGround, Unopened, close_file, open_file};
+use file_stores::{FileStores, Stop, shape_of};
 use page_messages::PagedFile;
 use pager_channel::Ops;
 use run_defs::StoreKey;
@@ -23,122 +25,102 @@ use stack_engine::Tower;
 use std::alloc::Global;
 use tower_log::Trail;
 
-/// Opens the image on a store. A refusal hands the store back.
-fn open_disk<S: Store>(
-    alloc: Global,
-    mount: &Mounted,
-    held: Held<S>,
-) -> Result<Disk<S>, (Stop, Held<S>)>
-    requires store { IsStore mount.now held.key }
-    requires fit { IsFit mount.now held }
-    ensures opened { IfOk result (Opened (under mount.now held)) }
-    ensures key { IfErr result (λ e. e.1.key ≡ held.key) }
-    ensures content { IfErr result (λ e. e.1.state.content ≡ held.state.content) }
-    ensures cause { IfErr result (λ e. IsUnopened mount.now held e.1 e.0) }
+/// A file, as its messages name it.
+fn paged_file(mount: &Mounted, file: u32) -> PagedFile
+    requires file { file < length mount.now.files }
+    ensures value { result ≡ paged mount.now file }
+    ensures paged { IsPagedFile result }
+    ensures sound { IsMount mount.now }
 {
-    let shape = shape_of(mount, held.key);
-    let Held { key, store } = held;
-    match Disk::open(alloc, store, key.disk, &shape) {
-        Ok(disk) => Ok(disk),
-        Err(err) => {
-            let store = err.store;
-            Err((Stop::refused(key, err.why), Held { key, store }))
-        }
+    let shape = shape_of(mount, StoreKey { file, disk: 0 });
+    PagedFile {
+        number: file,
+        page_size: shape.page_size,
+        pages: shape.pages,
     }
 }
 
-/// Opens a file over the disk of a store. No page is read. Want of memory hands the disk back.
+/// Opens a tower over what lies under a file. No page is read. Want of memory hands that back.
 fn open_tower<S: Store>(
     alloc: Global,
     mount: &Mounted,
-    key: StoreKey,
-    disk: Disk<S>,
+    file: u32,
+    ground: FileGround<S>,
     ops: &Ops,
-) -> Result<Tower<WholeDisk<S>>, Disk<S>>
-    requires store { IsStore mount.now key }
-    requires shape { disk.shape ≡ image_shape mount.now key }
-    ensures opened { IfOk result (λ t. engines.Opens mount.now.tree (paged mount.now key.file) (seen_whole disk) t.engine) }
+) -> Result<Tower<FileGround<S>>, FileGround<S>>
+    requires file { file < length mount.now.files }
+    requires size { (seen_under ground).page_size ≡ mount.now.page_size }
+    requires number { (seen_under ground).number ≡ pages_of mount.now file }
+    ensures sound { IsSoundUnder ground }
+    ensures opened { IfOk result (λ t. engines.Opens mount.now.tree (paged mount.now file) (seen_under ground) t.engine) }
     ensures free { IfOk result (λ t. t.turns ≡ []) }
-    ensures began { IfOk result (BeganOn mount.now key.file disk) }
-    ensures back { IfErr result (λ d. d ≡ disk) }
+    ensures began { IfOk result (BeganOn mount.now file ground) }
+    ensures back { IfErr result (λ g. g ≡ ground) }
 {
-    // The proof reads here how often the store of a disk failed before it was opened.
-    disk.sound();
-    let shape = shape_of(mount, key);
-    let file = PagedFile {
-        number: key.file,
-        page_size: shape.page_size,
-        pages: shape.pages,
-    };
+    // The proof reads here how often the stores of disks failed before these were opened.
+    ground.sound();
+    let paged = paged_file(mount, file);
     let Ok(tree) = copy_tree(alloc, mount.tree()) else {
-        return Err(disk);
+        return Err(ground);
     };
-    match Tower::open(alloc, tree, file, WholeDisk { disk }, *ops) {
-        Ok(tower) => Ok(tower),
-        Err(whole) => {
-            let WholeDisk { disk } = whole;
-            Err(disk)
-        }
-    }
+    Tower::open(alloc, tree, paged, ground, *ops)
 }
 
-/// Opens the file of a store. A refusal hands the store back.
-fn open_store<S: Store>(
+/// Opens a file over its stores. A refusal hands the stores back.
+fn open_one<S: Store>(
     alloc: Global,
     mount: &Mounted,
-    held: Held<S>,
+    stores: FileStores<S>,
     ops: &Ops,
-) -> Result<Tower<WholeDisk<S>>, (Stop, Held<S>)>
-    requires store { IsStore mount.now held.key }
-    requires fit { IsFit mount.now held }
-    ensures opened { IfOk result (Opens mount.now held) }
-    ensures key { IfErr result (λ e. e.1.key ≡ held.key) }
-    ensures content { IfErr result (λ e. e.1.state.content ≡ held.state.content) }
-    ensures cause { IfErr result (λ e. IsUnopened mount.now held e.1 e.0) }
+) -> Result<Tower<FileGround<S>>, Unopened<S>>
+    requires file { IsFile mount.now stores }
+    ensures opened { IfOk result (Opens mount.now stores) }
+    ensures file { IfErr result (λ e. e.stores.file ≡ stores.file) }
+    ensures pairs { IfErr result (λ e. ArePairs Lasts stores.stores e.stores.stores) }
+    ensures cause { IfErr result (λ e. IsUnheld mount.now stores e.stores e.stop) }
 {
-    let key = held.key;
-    let disk = match open_disk(alloc, mount, held) {
-        Ok(disk) => disk,
-        Err(refused) => return Err(refused),
+    let file = stores.file;
+    let ground = match open_file(alloc, mount, stores) {
+        Ok(ground) => ground,
+        Err(unopened) => return Err(unopened),
     };
-    match open_tower(alloc, mount, key, disk, ops) {
+    match open_tower(alloc, mount, file, ground, ops) {
         Ok(tower) => Ok(tower),
-        Err(disk) => {
-            let store = disk.close();
-            Err((Stop::Memory, Held { key, store }))
-        }
+        Err(ground) => Err(Unopened {
+            stores: close_file(ground, file),
+            stop: Stop::Memory,
+        }),
     }
 }
 
-/// Opens the files over their stores, in order, as far as that goes; the stores that are left over go to `rest`. The room
+/// Opens the files over their stores, in order, as far as that goes; the stores of those that are left over go to `rest`. The room
 /// for the towers and for the rest is there.
 pub(crate) fn open_files<S: Store>(
     alloc: Global,
     mount: &Mounted,
     ops: &Ops,
-    stores: Vec<Held<S>>,
-    towers: &mut Vec<Tower<WholeDisk<S>>>,
-    rest: &mut Vec<Held<S>>,
+    files: Vec<FileStores<S>>,
+    towers: &mut Vec<Tower<FileGround<S>>>,
+    rest: &mut Vec<FileStores<S>>,
 ) -> Result<(), Stop>
-    requires stores { AreStores mount.now (keys_of stores.items) }
-    requires fit { EachAt (λ at store. IsFit mount.now store) stores.items }
-    requires towers { IsRoom (length stores.items) towers.old }
-    requires rest { IsRoom (length stores.items) rest.old }
-    ensures opened { OnOk result (OpensEach mount.now stores.items towers.new.items) }
+    requires files { EachAt (λ at f. IsFile mount.now f) files.items }
+    requires towers { IsRoom (length files.items) towers.old }
+    requires rest { IsRoom (length files.items) rest.old }
+    ensures opened { OnOk result (OpensEach mount.now files.items towers.new.items) }
     ensures none_left { OnOk result (rest.new.items ≡ []) }
-    ensures stopped { IfErr result (OpensSome mount.now stores.items towers.new.items rest.new.items) }
+    ensures stopped { IfErr result (OpensSome mount.now files.items towers.new.items rest.new.items) }
 {
     let mut stopped = None;
-    for store in stores {
+    for file in files {
         if stopped.is_some() {
-            rest.push_reserved(store);
+            rest.push_reserved(file);
             continue;
         }
-        match open_store(alloc, mount, store, ops) {
+        match open_one(alloc, mount, file, ops) {
             Ok(tower) => towers.push_reserved(tower),
-            Err((stop, store)) => {
-                rest.push_reserved(store);
-                stopped = Some(stop);
+            Err(unopened) => {
+                rest.push_reserved(unopened.stores);
+                stopped = Some(unopened.stop);
             }
         }
     }
@@ -148,41 +130,42 @@ pub(crate) fn open_files<S: Store>(
     }
 }
 
-fn key_at(keys: &[StoreKey], place: usize) -> StoreKey
-    requires { place < length keys.now }
-    ensures { slice_get keys.now place ≡ Some result }
-{
-    keys[place]
-}
-
-/// Closes the tower of a store.
-fn close<S: Store>(key: StoreKey, tower: Tower<WholeDisk<S>>) -> (Held<S>, Trail)
-    ensures shut { IsShut key tower result.0 }
+/// Closes the tower of a file.
+fn close<S: Store>(file: u32, tower: Tower<FileGround<S>>) -> (FileStores<S>, Trail)
+    ensures shut { IsShut file tower result.0 }
     ensures log { result.1.log ≡ log_in tower.engine }
 {
-    let (WholeDisk { disk }, trail) = tower.close();
-    let store = disk.close();
-    (Held { key, store }, trail)
+    let (ground, trail) = tower.close();
+    ground.sound();
+    (close_file(ground, file), trail)
 }
 
-/// Closes the towers of these stores, in order: their stores and their logs. There is a store for each tower, and the room
-/// for them is there.
+/// Closes the towers of the files, in order: the files' stores and their logs. The room for them is there.
 pub(crate) fn close_towers<S: Store>(
-    keys: &[StoreKey],
-    towers: Vec<Tower<WholeDisk<S>>>,
-    stores: &mut Vec<Held<S>>,
+    towers: Vec<Tower<FileGround<S>>>,
+    files: &mut Vec<FileStores<S>>,
     trails: &mut Vec<Trail>,
 )
-    requires keys { length towers.items ≤ length keys.now }
-    requires stores { IsRoom (length keys.now) stores.old }
-    requires trails { IsRoom (length keys.now) trails.old }
-    ensures shut { AreShut keys.now towers.items stores.new.items }
+    requires few { length towers.items < 2 ^ 32 }
+    requires files { IsRoom (length towers.items) files.old }
+    requires trails { IsRoom (length towers.items) trails.old }
+    ensures shut { AreShut 0 towers.items files.new.items }
     ensures logs { map (λ t. t.log) trails.new.items ≡ logs towers.items }
-    ensures room { length keys.now ≤ vec_capacity stores.new }
+    ensures room { vec_capacity files.new ≡ vec_capacity files.old }
 {
     for tower in towers {
-        let (store, trail) = close(key_at(keys, trails.len()), tower);
-        stores.push_reserved(store);
+        let (file, trail) = close(trails.as_slice().len() as u32, tower);
+        files.push_reserved(file);
         trails.push_reserved(trail);
+    }
+}
+
+/// Puts the stores of files behind others. The room for them is there.
+pub(crate) fn put_rest<S: Store>(files: &mut Vec<FileStores<S>>, rest: Vec<FileStores<S>>)
+    requires { length files.old.items + length rest.items ≤ vec_capacity files.old }
+    ensures { files.new.items ≡ files.old.items ++ rest.items }
+{
+    for file in rest {
+        files.push_reserved(file);
     }
 }

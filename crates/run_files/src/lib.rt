@@ -8,7 +8,6 @@ mod layers;
 mod play;
 mod room;
 mod run;
-mod whole_disk;
 
 pub use run::run_files;
 

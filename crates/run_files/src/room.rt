@@ -3,12 +3,12 @@
 
 ghost use Rattle.std.specs.Prelude.{◌≡◌, IfOk, length};
 ghost use Rattle.script_text.specs.Grammar.{IsScript};
-ghost use Rattle.file_stores.specs.Keys.{AreStores, stores_of};
+ghost use Rattle.file_stores.specs.Keys.{AreStores, EachAt, stores_of};
 ghost use Rattle.file_stores.specs.Held.{IsRoom};
 ghost use Rattle.run_files.specs.Room.{HasAnswerRoom};
 
-use crate::whole_disk::WholeDisk;
-use file_stores::{Held, stores_of};
+use file_ground::FileGround;
+use file_stores::{FileStores, Held, rooms_of, stores_of};
 use run_defs::StoreKey;
 use run_phases::{Worker, workers_of};
 use script_text::{Reply, Said, Script};
@@ -32,8 +32,14 @@ pub(crate) struct Asked {
 /// Room for the stores of a run.
 #[derive(Drop)]
 pub(crate) struct Shelves<S: Store> {
+    /// Which stores there are.
+    pub keys: Vec<StoreKey>,
     /// The stores that were taken.
     pub taken: Vec<Held<S>>,
+    /// Room for the stores of each file.
+    pub rooms: Vec<Vec<S>>,
+    /// Room for the files' stores.
+    pub parts: Vec<FileStores<S>>,
     /// Room for what is made of them.
     pub files: Files<S>,
 }
@@ -41,16 +47,16 @@ pub(crate) struct Shelves<S: Store> {
 /// The files of a run.
 #[derive(Drop)]
 pub(crate) struct Files<S: Store> {
-    /// Which stores there are.
-    pub keys: Vec<StoreKey>,
     /// The files that are open.
-    pub towers: Vec<Tower<WholeDisk<S>>>,
+    pub towers: Vec<Tower<FileGround<S>>>,
     /// The stores of files that were not opened.
-    pub rest: Vec<Held<S>>,
+    pub rest: Vec<FileStores<S>>,
     /// Room for the stores of closed files.
-    pub closed: Vec<Held<S>>,
+    pub closed: Vec<FileStores<S>>,
     /// Room for the logs of the files.
     pub trails: Vec<Trail>,
+    /// Room for all stores, as they go back.
+    pub back: Vec<Held<S>>,
     /// Room for the stores that were lost.
     pub lost: Vec<StoreKey>,
 }
@@ -71,25 +77,26 @@ pub(crate) fn room_for_answers(
     })
 }
 
-/// Makes room for the files over the stores of a stack.
-fn room_for_files<S: Store>(alloc: Global, mount: &Mounted) -> Result<Files<S>, AllocError>
-    ensures keys { IfOk result (λ r. r.keys.items ≡ stores_of mount.now) }
-    ensures stores { IfOk result (λ r. AreStores mount.now r.keys.items) }
-    ensures towers { IfOk result (λ r. IsRoom (length r.keys.items) r.towers) }
-    ensures rest { IfOk result (λ r. IsRoom (length r.keys.items) r.rest) }
-    ensures closed { IfOk result (λ r. IsRoom (length r.keys.items) r.closed) }
-    ensures trails { IfOk result (λ r. IsRoom (length r.keys.items) r.trails) }
-    ensures lost { IfOk result (λ r. IsRoom (length r.keys.items) r.lost) }
+/// Makes room for so many files, and for so many stores in all.
+fn room_for_files<S: Store>(
+    alloc: Global,
+    number: usize,
+    stores: usize,
+) -> Result<Files<S>, AllocError>
+    ensures towers { IfOk result (λ r. IsRoom number r.towers) }
+    ensures rest { IfOk result (λ r. IsRoom number r.rest) }
+    ensures closed { IfOk result (λ r. IsRoom number r.closed) }
+    ensures trails { IfOk result (λ r. IsRoom number r.trails) }
+    ensures back { IfOk result (λ r. IsRoom stores r.back) }
+    ensures lost { IfOk result (λ r. IsRoom stores r.lost) }
 {
-    let keys = stores_of(alloc, mount)?;
-    let number = keys.len();
     Ok(Files {
-        keys,
         towers: Vec::with_capacity(alloc, number)?,
         rest: Vec::with_capacity(alloc, number)?,
         closed: Vec::with_capacity(alloc, number)?,
         trails: Vec::with_capacity(alloc, number)?,
-        lost: Vec::with_capacity(alloc, number)?,
+        back: Vec::with_capacity(alloc, stores)?,
+        lost: Vec::with_capacity(alloc, stores)?,
     })
 }
 
@@ -98,16 +105,27 @@ pub(crate) fn room_for_stores<S: Store>(
     alloc: Global,
     mount: &Mounted,
 ) -> Result<Shelves<S>, AllocError>
-    ensures keys { IfOk result (λ r. r.files.keys.items ≡ stores_of mount.now) }
-    ensures stores { IfOk result (λ r. AreStores mount.now r.files.keys.items) }
-    ensures taken { IfOk result (λ r. IsRoom (length r.files.keys.items) r.taken) }
-    ensures towers { IfOk result (λ r. IsRoom (length r.files.keys.items) r.files.towers) }
-    ensures rest { IfOk result (λ r. IsRoom (length r.files.keys.items) r.files.rest) }
-    ensures closed { IfOk result (λ r. IsRoom (length r.files.keys.items) r.files.closed) }
-    ensures trails { IfOk result (λ r. IsRoom (length r.files.keys.items) r.files.trails) }
-    ensures lost { IfOk result (λ r. IsRoom (length r.files.keys.items) r.files.lost) }
+    ensures keys { IfOk result (λ r. r.keys.items ≡ stores_of mount.now) }
+    ensures stores { IfOk result (λ r. AreStores mount.now r.keys.items) }
+    ensures taken { IfOk result (λ r. IsRoom (length r.keys.items) r.taken) }
+    ensures rooms { IfOk result (λ r. length r.rooms.items ≡ length mount.now.files) }
+    ensures empty { IfOk result (λ r. EachAt (λ at room. IsRoom (length mount.now.disks) room) r.rooms.items) }
+    ensures parts { IfOk result (λ r. IsRoom (length mount.now.files) r.parts) }
+    ensures towers { IfOk result (λ r. IsRoom (length mount.now.files) r.files.towers) }
+    ensures rest { IfOk result (λ r. IsRoom (length mount.now.files) r.files.rest) }
+    ensures closed { IfOk result (λ r. IsRoom (length mount.now.files) r.files.closed) }
+    ensures trails { IfOk result (λ r. IsRoom (length mount.now.files) r.files.trails) }
+    ensures back { IfOk result (λ r. IsRoom (length r.keys.items) r.files.back) }
+    ensures lost { IfOk result (λ r. IsRoom (length r.keys.items) r.files.lost) }
 {
-    let files: Files<S> = room_for_files(alloc, mount)?;
-    let taken = Vec::with_capacity(alloc, files.keys.len())?;
-    Ok(Shelves { taken, files })
+    let keys = stores_of(alloc, mount)?;
+    let number = mount.files().len();
+    let stores = keys.as_slice().len();
+    Ok(Shelves {
+        keys,
+        taken: Vec::with_capacity(alloc, stores)?,
+        rooms: rooms_of(alloc, mount)?,
+        parts: Vec::with_capacity(alloc, number)?,
+        files: room_for_files(alloc, number, stores)?,
+    })
 }

@@ -1,30 +1,34 @@
 //! A run over the files of a stack: their stores are taken, opened, run over and given back, and the report is written.
 
-ghost use Rattle.std.specs.Prelude.{◌≡◌, ◌≤◌, [], List, length, map, drop};
+ghost use Rattle.std.specs.Prelude.{◌≡◌, ◌<◌, ◌^◌, [], List, length, map};
 ghost use Rattle.std.specs.List.{AllByRecursion};
 ghost use Rattle.script_text.specs.Grammar.{IsScript};
-ghost use Rattle.run_defs.specs.Stack.{IsBuilt};
+ghost use Rattle.stack_accept.specs.Sound.{IsMount};
 ghost use Rattle.spr_io.specs.Berth.{BaySeen};
 ghost use Rattle.spr_report.specs.Tracing.{AreReported};
 ghost use Rattle.spr_client.specs.Calls.{AreOfStack};
 ghost use Rattle.spr_client.specs.Lines.{AreCalls};
 ghost use Rattle.file_stores.specs.Keys.{EachAt, AreStores, stores_of};
-ghost use Rattle.file_stores.specs.Held.{StoreSeen, IsRoom, IsFit, keys_of};
+ghost use Rattle.file_stores.specs.Held.{AreGiven, IsRoom, keys_of};
+ghost use Rattle.file_stores.specs.Files.{FileSeen, stores_in};
 ghost use Rattle.file_stores.specs.Written.{Written};
 ghost use Rattle.stack_engine.specs.Tower.{TowerSeen};
-ghost use Rattle.run_files.specs.Held.{Halts, IsTaken, OpensEach};
-ghost use Rattle.run_files.specs.Play.{ArePlayed, IsUnwritten};
+ghost use Rattle.run_files.specs.Held.{AreFiles, Halts, IsTaken, OpensEach};
+ghost use Rattle.run_files.specs.Play.{ArePlayed};
 ghost use Rattle.run_files.specs.Room.{HasAnswerRoom};
 ghost use Rattle.run_files.specs.Run.{SaysRun, traced_by};
 ghost use Rattle.run_files.specs.Told.{Tells, Stopped};
 
 use crate::ended::status_of;
-use crate::held::{close_towers, open_files};
+use crate::held::{close_towers, open_files, put_rest};
 use crate::play::{Answers, play};
 use crate::room::{Asked, Files, Shelves, room_for_answers, room_for_stores};
-use file_stores::{Stop, finish_lost, give_back, put_behind, stopped, take_stores};
+use file_stores::{
+    FileStores, Held, Stop, by_file, finish_lost, give_back, put_files, stopped, take_stores,
+};
 use name_context::Names;
 use pager_channel::Ops;
+use run_defs::StoreKey;
 use script_text::Script;
 use spr_io::{Bay, Gate, Sink};
 use spr_report::{Run, Status, finish, report};
@@ -66,6 +70,26 @@ fn tell<K: Sink>(alloc: Global, run: &Run<'_>, status: Status, sink: &mut K) -> 
     }
 }
 
+/// Gives the stores of closed files back, in the order in which they came.
+fn give_files<B: Bay>(
+    mount: &Mounted,
+    bay: &mut B,
+    closed: Vec<FileStores<B::Store>>,
+    back: Vec<Held<B::Store>>,
+    lost: &mut Vec<StoreKey>,
+)
+    requires keys { keys_of (stores_in closed.items) ≡ stores_of mount.now }
+    requires stores { AreStores mount.now (stores_of mount.now) }
+    requires short { EachAt (λ at f. length f.stores < 2 ^ 32) closed.items }
+    requires back { IsRoom (length (stores_of mount.now)) back }
+    requires lost { IsRoom (length (stores_of mount.now)) lost.old }
+    ensures { AreGiven mount.now (B.told bay.old) (B.told bay.new) (stores_in closed.items) lost.new.items }
+{
+    let mut stores = back;
+    put_files(closed, &mut stores);
+    give_back(mount, bay, stores, lost);
+}
+
 /// Closes the files that the script was run over, gives their stores back, and writes the report.
 fn end_run<B: Bay, K: Sink>(
     alloc: Global,
@@ -76,29 +100,30 @@ fn end_run<B: Bay, K: Sink>(
     names: Names,
     answers: Answers,
 ) -> Status
-    requires built { IsBuilt given.now.mount.now }
-    requires keys { files.keys.items ≡ stores_of given.now.mount.now }
-    requires stores { AreStores given.now.mount.now files.keys.items }
+    requires mount { IsMount given.now.mount.now }
+    requires stores { AreStores given.now.mount.now (stores_of given.now.mount.now) }
+    requires begun { (olds : List FileSeen) × (begun : List TowerSeen) × AreFiles given.now.mount.now olds × OpensEach given.now.mount.now olds begun × ArePlayed given.now.mount.now given.now.script.now begun files.towers.items names (map (λ v. v.items) answers.said.items) answers.closing.items }
     requires towers { AreOfStack given.now.mount.now files.towers.items }
     requires said { length answers.said.items ≡ length given.now.script.now.clients }
     requires closing { length answers.closing.items ≡ length given.now.mount.now.files }
-    requires closed { IsRoom (length files.keys.items) files.closed }
-    requires trails { IsRoom (length files.keys.items) files.trails }
-    requires lost { IsRoom (length files.keys.items) files.lost }
-    ensures ended { (before : BaySeen) (stores : List StoreSeen) (begun : List TowerSeen) → IsTaken given.now.mount.now before (B.told bay.old) files.keys.items stores → OpensEach given.now.mount.now stores begun
+    requires closed { IsRoom (length given.now.mount.now.files) files.closed }
+    requires trails { IsRoom (length given.now.mount.now.files) files.trails }
+    requires back { IsRoom (length (stores_of given.now.mount.now)) files.back }
+    requires lost { IsRoom (length (stores_of given.now.mount.now)) files.lost }
+    ensures ended { (before : BaySeen) (olds : List FileSeen) (begun : List TowerSeen) → IsTaken given.now.mount.now before (B.told bay.old) (stores_of given.now.mount.now) (stores_in olds) → AreFiles given.now.mount.now olds → OpensEach given.now.mount.now olds begun
         → ArePlayed given.now.mount.now given.now.script.now begun files.towers.items names (map (λ v. v.items) answers.said.items) answers.closing.items
         → Written (SaysRun given.now.mount.now given.now.script.now (traced_by given.now.ops.now given.now.trace) before (B.told bay.new)) (K.told sink.old) (K.told sink.new) result }
 {
     let Files {
-        keys,
         towers,
         mut closed,
         mut trails,
+        back,
         mut lost,
         ..
     } = files;
-    close_towers(&keys, towers, &mut closed, &mut trails);
-    give_back(given.mount, bay, closed, &mut lost);
+    close_towers(towers, &mut closed, &mut trails);
+    give_files(given.mount, bay, closed, back, &mut lost);
     let run = Run {
         mount: given.mount,
         script: given.script,
@@ -121,26 +146,27 @@ fn return_all<B: Bay, K: Sink>(
     files: Files<B::Store>,
     stop: Stop,
 ) -> Status
-    requires stores { AreStores mount.now files.keys.items }
-    requires towers { length files.towers.items ≤ length files.keys.items }
-    requires rest { keys_of files.rest.items ≡ drop (length files.towers.items) files.keys.items }
-    requires closed { IsRoom (length files.keys.items) files.closed }
-    requires trails { IsRoom (length files.keys.items) files.trails }
-    requires lost { IsRoom (length files.keys.items) files.lost }
-    ensures ended { (before : BaySeen) (stores : List StoreSeen) → IsTaken mount.now before (B.told bay.old) files.keys.items stores
-        → Halts mount.now stores files.towers.items files.rest.items stop → Written (Stopped mount.now before (B.told bay.new) files.keys.items) (K.told sink.old) (K.told sink.new) result }
+    requires mount { IsMount mount.now }
+    requires stores { AreStores mount.now (stores_of mount.now) }
+    requires halts { (olds : List FileSeen) × AreFiles mount.now olds × Halts mount.now olds files.towers.items files.rest.items stop }
+    requires closed { IsRoom (length mount.now.files) files.closed }
+    requires trails { IsRoom (length mount.now.files) files.trails }
+    requires back { IsRoom (length (stores_of mount.now)) files.back }
+    requires lost { IsRoom (length (stores_of mount.now)) files.lost }
+    ensures ended { (before : BaySeen) (olds : List FileSeen) → IsTaken mount.now before (B.told bay.old) (stores_of mount.now) (stores_in olds) → AreFiles mount.now olds
+        → Halts mount.now olds files.towers.items files.rest.items stop → Written (Stopped mount.now before (B.told bay.new)) (K.told sink.old) (K.told sink.new) result }
 {
     let Files {
-        keys,
         towers,
         rest,
         mut closed,
         mut trails,
+        back,
         mut lost,
     } = files;
-    close_towers(&keys, towers, &mut closed, &mut trails);
-    put_behind(&mut closed, rest);
-    give_back(mount, bay, closed, &mut lost);
+    close_towers(towers, &mut closed, &mut trails);
+    put_rest(&mut closed, rest);
+    give_files(mount, bay, closed, back, &mut lost);
     stopped(sink, mount, stop, &lost)
 }
 
@@ -156,27 +182,26 @@ fn run_open<R: Threads + Wait + Sync, B: Bay, K: Sink, T: Gate>(
     asked: Asked,
     gate: &T,
 ) -> Status
-    requires built { IsBuilt given.now.mount.now }
+    requires mount { IsMount given.now.mount.now }
     requires script { IsScript given.now.script.now }
     requires calls { AllByRecursion (AreCalls given.now.mount.now) given.now.script.now.phases }
     requires answers { HasAnswerRoom given.now.mount.now given.now.script.now asked }
-    requires keys { files.keys.items ≡ stores_of given.now.mount.now }
-    requires stores { AreStores given.now.mount.now files.keys.items }
-    requires towers { AreOfStack given.now.mount.now files.towers.items }
-    requires unwritten { AllByRecursion IsUnwritten files.towers.items }
+    requires stores { AreStores given.now.mount.now (stores_of given.now.mount.now) }
+    requires opened { (olds : List FileSeen) × AreFiles given.now.mount.now olds × OpensEach given.now.mount.now olds files.towers.items }
     requires rest { files.rest.items ≡ [] }
-    requires closed { IsRoom (length files.keys.items) files.closed }
-    requires trails { IsRoom (length files.keys.items) files.trails }
-    requires lost { IsRoom (length files.keys.items) files.lost }
-    ensures ended { (before : BaySeen) (stores : List StoreSeen) → IsTaken given.now.mount.now before (B.told bay.old) files.keys.items stores
-        → OpensEach given.now.mount.now stores files.towers.items → Written (SaysRun given.now.mount.now given.now.script.now (traced_by given.now.ops.now given.now.trace) before (B.told bay.new)) (K.told sink.old) (K.told sink.new) result }
+    requires closed { IsRoom (length given.now.mount.now.files) files.closed }
+    requires trails { IsRoom (length given.now.mount.now.files) files.trails }
+    requires back { IsRoom (length (stores_of given.now.mount.now)) files.back }
+    requires lost { IsRoom (length (stores_of given.now.mount.now)) files.lost }
+    ensures ended { (before : BaySeen) (olds : List FileSeen) → IsTaken given.now.mount.now before (B.told bay.old) (stores_of given.now.mount.now) (stores_in olds) → AreFiles given.now.mount.now olds
+        → OpensEach given.now.mount.now olds files.towers.items → Written (SaysRun given.now.mount.now given.now.script.now (traced_by given.now.ops.now given.now.trace) before (B.told bay.new)) (K.told sink.old) (K.told sink.new) result }
 {
     let Files {
-        keys,
         towers,
         rest,
         closed,
         trails,
+        back,
         lost,
     } = files;
     match play(
@@ -191,22 +216,22 @@ fn run_open<R: Threads + Wait + Sync, B: Bay, K: Sink, T: Gate>(
     ) {
         Ok((towers, names, answers)) => {
             let files = Files {
-                keys,
                 towers,
                 rest,
                 closed,
                 trails,
+                back,
                 lost,
             };
             end_run(alloc, given, bay, sink, files, names, answers)
         }
         Err(towers) => {
             let files = Files {
-                keys,
                 towers,
                 rest,
                 closed,
                 trails,
+                back,
                 lost,
             };
             return_all(given.mount, bay, sink, files, Stop::Memory)
@@ -221,31 +246,31 @@ fn run_taken<R: Threads + Wait + Sync, B: Bay, K: Sink, T: Gate>(
     given: &Given<'_>,
     bay: &mut B,
     sink: &mut K,
-    shelves: Shelves<B::Store>,
+    parts: Vec<FileStores<B::Store>>,
+    files: Files<B::Store>,
     asked: Asked,
     gate: &T,
 ) -> Status
-    requires built { IsBuilt given.now.mount.now }
+    requires mount { IsMount given.now.mount.now }
     requires script { IsScript given.now.script.now }
     requires calls { AllByRecursion (AreCalls given.now.mount.now) given.now.script.now.phases }
     requires answers { HasAnswerRoom given.now.mount.now given.now.script.now asked }
-    requires keys { shelves.files.keys.items ≡ stores_of given.now.mount.now }
-    requires stores { AreStores given.now.mount.now shelves.files.keys.items }
-    requires taken { keys_of shelves.taken.items ≡ shelves.files.keys.items }
-    requires fit { EachAt (λ at store. IsFit given.now.mount.now store) shelves.taken.items }
-    requires towers { IsRoom (length shelves.files.keys.items) shelves.files.towers }
-    requires rest { IsRoom (length shelves.files.keys.items) shelves.files.rest }
-    requires closed { IsRoom (length shelves.files.keys.items) shelves.files.closed }
-    requires trails { IsRoom (length shelves.files.keys.items) shelves.files.trails }
-    requires lost { IsRoom (length shelves.files.keys.items) shelves.files.lost }
-    ensures ended { (before : BaySeen) → IsTaken given.now.mount.now before (B.told bay.old) shelves.files.keys.items shelves.taken.items → Written (SaysRun given.now.mount.now given.now.script.now (traced_by given.now.ops.now given.now.trace) before (B.told bay.new)) (K.told sink.old) (K.told sink.new) result }
+    requires stores { AreStores given.now.mount.now (stores_of given.now.mount.now) }
+    requires parts { AreFiles given.now.mount.now parts.items }
+    requires towers { IsRoom (length given.now.mount.now.files) files.towers }
+    requires rest { IsRoom (length given.now.mount.now.files) files.rest }
+    requires closed { IsRoom (length given.now.mount.now.files) files.closed }
+    requires trails { IsRoom (length given.now.mount.now.files) files.trails }
+    requires back { IsRoom (length (stores_of given.now.mount.now)) files.back }
+    requires lost { IsRoom (length (stores_of given.now.mount.now)) files.lost }
+    ensures ended { (before : BaySeen) → IsTaken given.now.mount.now before (B.told bay.old) (stores_of given.now.mount.now) (stores_in parts.items) → Written (SaysRun given.now.mount.now given.now.script.now (traced_by given.now.ops.now given.now.trace) before (B.told bay.new)) (K.told sink.old) (K.told sink.new) result }
 {
-    let Shelves { taken, mut files } = shelves;
+    let mut files = files;
     match open_files(
         alloc,
         given.mount,
         given.ops,
-        taken,
+        parts,
         &mut files.towers,
         &mut files.rest,
     ) {
@@ -265,25 +290,36 @@ fn run_all<R: Threads + Wait + Sync, B: Bay, K: Sink, T: Gate>(
     asked: Asked,
     gate: &T,
 ) -> Status
-    requires built { IsBuilt given.now.mount.now }
     requires script { IsScript given.now.script.now }
     requires calls { AllByRecursion (AreCalls given.now.mount.now) given.now.script.now.phases }
     requires answers { HasAnswerRoom given.now.mount.now given.now.script.now asked }
-    requires keys { shelves.files.keys.items ≡ stores_of given.now.mount.now }
-    requires stores { AreStores given.now.mount.now shelves.files.keys.items }
-    requires taken { IsRoom (length shelves.files.keys.items) shelves.taken }
-    requires towers { IsRoom (length shelves.files.keys.items) shelves.files.towers }
-    requires rest { IsRoom (length shelves.files.keys.items) shelves.files.rest }
-    requires closed { IsRoom (length shelves.files.keys.items) shelves.files.closed }
-    requires trails { IsRoom (length shelves.files.keys.items) shelves.files.trails }
-    requires lost { IsRoom (length shelves.files.keys.items) shelves.files.lost }
+    requires keys { shelves.keys.items ≡ stores_of given.now.mount.now }
+    requires stores { AreStores given.now.mount.now shelves.keys.items }
+    requires taken { IsRoom (length shelves.keys.items) shelves.taken }
+    requires rooms { length shelves.rooms.items ≡ length given.now.mount.now.files }
+    requires empty { EachAt (λ at room. IsRoom (length given.now.mount.now.disks) room) shelves.rooms.items }
+    requires parts { IsRoom (length given.now.mount.now.files) shelves.parts }
+    requires towers { IsRoom (length given.now.mount.now.files) shelves.files.towers }
+    requires rest { IsRoom (length given.now.mount.now.files) shelves.files.rest }
+    requires closed { IsRoom (length given.now.mount.now.files) shelves.files.closed }
+    requires trails { IsRoom (length given.now.mount.now.files) shelves.files.trails }
+    requires back { IsRoom (length shelves.keys.items) shelves.files.back }
+    requires lost { IsRoom (length shelves.keys.items) shelves.files.lost }
     ensures { Written (SaysRun given.now.mount.now given.now.script.now (traced_by given.now.ops.now given.now.trace) (B.told bay.old) (B.told bay.new)) (K.told sink.old) (K.told sink.new) result }
 {
-    let mut shelves = shelves;
-    match take_stores(given.mount, bay, &shelves.files.keys, &mut shelves.taken) {
-        Ok(()) => run_taken(rt, alloc, given, bay, sink, shelves, asked, gate),
+    let Shelves {
+        keys,
+        mut taken,
+        rooms,
+        mut parts,
+        files,
+    } = shelves;
+    match take_stores(given.mount, bay, &keys, &mut taken) {
+        Ok(()) => {
+            by_file(given.mount, taken, rooms, &mut parts);
+            run_taken(rt, alloc, given, bay, sink, parts, files, asked, gate)
+        }
         Err(stop) => {
-            let Shelves { taken, files } = shelves;
             let mut lost = files.lost;
             give_back(given.mount, bay, taken, &mut lost);
             stopped(sink, given.mount, stop, &lost)
@@ -306,7 +342,6 @@ pub fn run_files<R: Threads + Wait + Sync, B: Bay, K: Sink, T: Gate>(
     sink: &mut K,
     gate: &T,
 ) -> Status
-    requires built { IsBuilt mount.now }
     requires script { IsScript script.now }
     requires calls { AllByRecursion (AreCalls mount.now) script.now.phases }
     ensures says { Written (SaysRun mount.now script.now (traced_by ops.now trace) (B.told bay.old) (B.told bay.new)) (K.told sink.old) (K.told sink.new) result }

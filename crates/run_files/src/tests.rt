@@ -3,7 +3,6 @@
 ghost use Rattle.std.specs.Prelude.{◌≤◌, IfOk, IsTrue, length};
 ghost use Rattle.std.specs.List.{AllByRecursion};
 ghost use Rattle.script_text.specs.Grammar.{IsScript};
-ghost use Rattle.run_defs.specs.Stack.{IsBuilt};
 ghost use Rattle.spr_client.specs.Lines.{AreCalls, IsCallOf};
 
 use super::*;
@@ -12,7 +11,7 @@ use script_text::{Call, CallLine, Script, parse_script};
 use seen_values::Items;
 use spr_io::{MemBay, MemSink, MemStore, OpenGate, Store};
 use spr_report::Status;
-use stack_accept::{GroundPlan, Mounted, accept};
+use stack_accept::{Mounted, accept};
 use stack_text::{StackText, parse_stack};
 use std::alloc::{AllocError, Global};
 use std::sync::Wait;
@@ -63,19 +62,9 @@ fn stack_of(alloc: Global) -> Result<StackText, Fail>
     }
 }
 
-/// Whether the ground of a stack is its one disk.
-fn is_built(mount: &Mounted) -> bool
-    ensures { IsTrue result → IsBuilt mount.now }
-{
-    mount.disks().len() == 1 && matches!(mount.ground(), GroundPlan::Disk { disk: 0 })
-}
-
-fn mounted(alloc: Global) -> Result<Mounted, Fail>
-    ensures { IfOk result IsBuilt }
-{
+fn mounted(alloc: Global) -> Result<Mounted, Fail> {
     match accept(alloc, &stack_of(alloc)?) {
-        Ok(mount) if is_built(&mount) => Ok(mount),
-        Ok(_) => Err(Fail::from("another stack")),
+        Ok(mount) => Ok(mount),
         Err(_) => Err(Fail::from("the stack")),
     }
 }
@@ -299,9 +288,7 @@ fn runs_as<R: Threads + Wait + Sync>(
     alloc: Global,
     mount: &Mounted,
     row: &Row,
-) -> Result<bool, Fail>
-    requires { IsBuilt mount.now }
-{
+) -> Result<bool, Fail> {
     let script = script_of(alloc, mount, row.script)?;
     let mut bay = bay_of(alloc, row)?;
     let mut sink = MemSink::new(alloc, 4_096, &[])?;

@@ -6,8 +6,8 @@ use Rattle.run_files.proofs.held.close_towers.Given as goal
 -- the towers so far were closed
 abbrev pub invariant-loop-tower : goal.invariant-loop-tower
 invariant-loop-tower g l = record {
-  shut : AreShut l.keys l.yielded l.stores.items;
+  shut : AreShut 0 l.yielded l.files.items;
   told : map (λ t. t.log) l.trails.items ≡ logs l.yielded;
-  stores_room : vec_capacity l.stores ≡ vec_capacity l.fn.stores;
+  files_room : vec_capacity l.files ≡ vec_capacity l.fn.files;
   trails_room : vec_capacity l.trails ≡ vec_capacity l.fn.trails;
 }

@@ -1,0 +1,161 @@
+-- A file's image from its opening to its closing.
+use Rattle.std.proofs.Common.{◌≡◌, ◌≢◌, ℕ, suc, ◌<◌, ◌≤◌, List, [], ◌∷◌, length, map, Option, Some, None, IfSome, inl, refl, sym, ap, subst, ◌∙◌, arith}
+use Rattle.std.specs.Prelude.{Contains, is_some, slice_get, IsSome}
+use Rattle.std.proofs.lemmas.Option.{slice_get_within}
+use Rattle.script_text.specs.declared.script.Reply.{Reply}
+use Rattle.script_text.specs.declared.script.Reply.TheVariants.{Done}
+use Rattle.stack_engine.specs.Engine.{EngineSeen, log_in}
+use Rattle.stack_accept.specs.Mount.{Mount}
+use Rattle.spr_io.specs.Content.{Content}
+use Rattle.disk_format.specs.declared.shape.ImageShape.{ImageShape}
+use Rattle.disk_format.specs.Image.{image, pages_of}
+use Rattle.disk_layer.specs.Disk.{Disk, HasImage}
+use Rattle.disk_layer.specs.Calls as disks
+use Rattle.disk_layer.specs.Seen.{Seen, live_in}
+use Rattle.mirror_rules.specs.Claims.{Every, every_more}
+use Rattle.mirror_layer.specs.View.{Beside}
+use Rattle.mirror_layer.specs.Ground.{Ground, Differ, seen_of}
+use Rattle.mirror_layer.proofs.CloseSteps.{told-kept}
+use Rattle.tower_log.specs.declared.logged.Logged.{Logged}
+use Rattle.shared_tower.specs.Later.{AreLater}
+use Rattle.run_defs.specs.declared.store.StoreKey.{StoreKey}
+use Rattle.file_stores.specs.Keys.{image_shape, stores_of_file}
+use Rattle.file_stores.specs.State.{StoreState}
+use Rattle.file_stores.specs.Held.{StoreSeen, keys_of}
+use Rattle.file_stores.specs.Files.{ArePairs, FileSeen, IsFile, Lasts}
+use Rattle.file_stores.specs.Stops.{HoldsImage}
+use Rattle.file_stores.proofs.Lists.{to-map}
+use Rattle.file_stores.proofs.FileLaws.{file-number, in-disks}
+use Rattle.file_ground.specs.Under.{IsSound, Many, One, Under, seen_under}
+use Rattle.file_ground.specs.Opening.{IsLeft, IsOpened, under}
+use Rattle.file_ground.specs.WholeDisk.{seen_whole}
+use Rattle.file_ground.proofs.StoreLaws.{AllLast, in-pairs, lasts-one, same-keys}
+use Rattle.file_ground.proofs.WholeLaws.{kept-under, faults-under, whole-content, whole-count}
+use Rattle.file_ground.proofs.SpotLaws.{numbers-seen}
+use Rattle.run_files.specs.Held.{Closes, closes_one, closes_many}
+use Rattle.run_files.specs.Play.{KeepsNow}
+use Rattle.run_files.specs.Run.{LeavesFile, leaves_one, leaves_many}
+use Rattle.run_files.proofs.DiskLaws.{leaves-of as disk-leaves}
+use Rattle.run_files.proofs.EngineLaws.{EngineRun}
+use Rattle.run_files.proofs.MirrorLaws.{Turn, few, lasts, mirrors-left}
+use Rattle.run_files.proofs.WholeLaws.{on-disk, same-number-under}
+
+-- the only store of a file, or its stores on disks in mirrors
+pub data UnderTurn (mount : Mount) (more : List Logged) (f g : FileSeen) : Under → Under → Type 0 where
+  turn_one : {d0 d1 : Disk} {old new : StoreSeen} → f.stores ≡ old ∷ [] → disks.Opened (under mount old) d0 → AreLater more (seen_whole d0) (seen_whole d1) → g.stores ≡ new ∷ [] → new.state ≡ record { content = d1.content; faults = d1.faults }
+      → UnderTurn mount more f g (One d0) (One d1)
+  turn_many : {a z : Ground} → 1 < length f.stores → Turn mount more f g a z → UnderTurn mount more f g (Many a) (Many z)
+
+-- no disks in mirrors have one number
+apart : (bs : List Beside) (d : ℕ) → Differ bs → map (λ b. b.disk) bs ≡ d ∷ d ∷ d ∷ [] → ⊥
+apart [] d differ e = cc
+apart (b ∷ []) d differ e = cc
+apart (b ∷ c ∷ bs) d differ e = by differ.0 (ap first e) (ap second e)
+  where
+    first : List ℕ → ℕ
+    first [] = 0
+    first (n ∷ ns) = n
+
+    second : List ℕ → ℕ
+    second [] = 0
+    second (n ∷ ns) = first ns
+
+    by : Every (λ x. x.disk ≢ b.disk) (c ∷ bs) → b.disk ≡ d → c.disk ≡ d → ⊥
+    by (every_more p q) one two = p (two ∙ sym one)
+
+pub turn-of : (mount : Mount) (more : List Logged) (f g : FileSeen) (u0 u1 : Under) → IsFile mount f → IsOpened mount f u0 → IsSound u0 → AreLater more (seen_under u0) (seen_under u1) → IsLeft u1 g → IsSound u1 → UnderTurn mount more f g u0 u1
+turn-of mount more f g (One d0) (One d1) is over sound later left still = turn_one over.1 over.2 later left.1 left.2
+turn-of mount more f g (Many a) (Many z) is over sound later back still = turn_many over.0 (record { is = is; over = over.1; sound = sound; later = later; back = back; still = still })
+turn-of mount more f g (One d0) (Many z) is over sound later back still = absurd (apart z.beside d0.disk still.0.differ (sym (numbers-seen still.0.counts) ∙ later.disks))
+turn-of mount more f g (Many a) (One d1) is over sound later left still = absurd (apart a.beside d1.disk sound.0.differ (sym (numbers-seen sound.0.counts) ∙ sym later.disks))
+
+still-told : (x y : Option Content) → is_some y ≡ is_some x → IfSome x (λ _. IsSome y)
+still-told None y e = tt
+still-told (Some c) y e = e
+
+-- no count falls, and what tells goes on telling
+pub turn-lasts : (mount : Mount) (more : List Logged) (f g : FileSeen) (u0 u1 : Under) → UnderTurn mount more f g u0 u1 → AllLast f.stores g.stores
+turn-lasts mount more f g _ _ (turn_one {d0} {d1} {old} {new} was over later left state) =
+    let same : d0.disk ≡ d1.disk = same-number-under d0 d1 later.disks in
+    let up = later.faults d0.disk in
+    let first = faults-under d0 d0.disk refl in
+    let last = faults-under d1 d0.disk same in
+    let calm = over.calm in
+    let count = ap (λ (s : StoreState). s.faults) state in
+    let told : is_some new.state.content ≡ is_some old.state.content =
+    ap (λ (s : StoreState). is_some s.content) state
+    ∙ (sym (told-kept d1) ∙ (ap (λ o. is_some o) (sym (kept-under d1 d0.disk same)) ∙ (later.told d0.disk ∙ (ap (λ o. is_some o) (kept-under d0 d0.disk refl) ∙ (told-kept d0 ∙ ap (λ (o : Option Content). is_some o) over.content))))) in
+    lasts-one old new f.stores g.stores was left (omega (arith, up, first, last, calm, count), still-told old.state.content new.state.content told)
+turn-lasts mount more f g _ _ (turn_many {a} {z} some turn) = lasts mount more f g a z turn
+
+-- nothing was asked
+pub later-same : (a b : Seen) → b ≡ a → AreLater [] a b
+later-same a b same = subst (AreLater [] a) (sym same) (record {
+  disks = refl;
+  told = λ disk. refl;
+  live = λ disk live. live;
+  some = λ some. some;
+  lost = λ disk live. inl live;
+  faults = λ disk. omega arith;
+  opened = λ disk. refl;
+  notes = tt;
+})
+
+-- a disk that was opened holds an image
+holds-image : (d : Disk) (shape : ImageShape) (content : Option Content) → d.shape ≡ shape → d.content ≡ content → HasImage d → HoldsImage shape content
+holds-image d shape content s c has = subst (λ (o : Option Content). HoldsImage shape o) c (subst (λ (x : ImageShape). HoldsImage x d.content) s (by d.content has))
+  where
+    by : (o : Option Content) → IfSome o (λ k. image d.shape k.blocks ≡ Some (record { generation = d.generation; pages = pages_of d.shape.page_size k.blocks d.entries })) → HoldsImage d.shape o
+    by None h = tt
+    by (Some k) h = subst (λ o. IsSome o) (sym h) refl
+
+same-state : (a b : StoreState) → a.content ≡ b.content → a.faults ≡ b.faults → a ≡ b
+same-state a b c f = λ i. record { content = c i; faults = f i }
+
+-- a file that was opened, and closed again as it was
+pub turn-closes : (mount : Mount) (more : List Logged) (f g : FileSeen) (u0 u1 : Under) → seen_under u1 ≡ seen_under u0 → UnderTurn mount more f g u0 u1 → Closes mount f g
+turn-closes mount more f g _ _ same (turn_one {d0} {d1} {old} {new} was over later left state) =
+    closes_one was left (holds-image d0 (image_shape mount old.key) old.state.content over.shape over.content over.image)
+    (same-state new.state old.state (ap (λ (s : StoreState). s.content) state ∙ (whole-content d1 d0 same ∙ over.content)) (ap (λ (s : StoreState). s.faults) state ∙ (whole-count d1 d0 same ∙ over.calm)))
+turn-closes mount more f g _ _ same (turn_many {a} {z} some turn) = closes_many a z some turn.over same turn.back
+
+-- THE STORES OF A FILE BEFORE AND AFTER, in pairs
+pub turn-pairs : (mount : Mount) (more : List Logged) (f g : FileSeen) (u0 u1 : Under) → IsFile mount f → g.file ≡ f.file → keys_of g.stores ≡ stores_of_file (length g.stores) g.file → UnderTurn mount more f g u0 u1 → ArePairs Lasts f.stores g.stores
+turn-pairs mount more f g u0 u1 is file keys turn =
+    let all = turn-lasts mount more f g u0 u1 turn in
+    in-pairs f.stores g.stores (same-keys mount f g is (keys ∙ ap (λ n. stores_of_file (length g.stores) n) file) all.many) all
+
+-- the key of a file's only store
+file-key : (mount : Mount) (f : FileSeen) → IsFile mount f → (old : StoreSeen) → f.stores ≡ old ∷ [] → old.key ≡ record { file = f.file; disk = 0 }
+file-key mount f is old was =
+    (in-disks (length mount.disks) f.file 0 old.key
+    (ap (λ (ks : List StoreKey). slice_get ks 0) (sym is.keys) ∙ to-map (λ (s : StoreSeen). s.key) f.stores 0 old (ap (λ (ss : List StoreSeen). slice_get ss 0) was))).0
+
+-- WHAT BECAME OF THE STORES
+pub leaves-of : (mount : Mount) (f g : FileSeen) (closing : List Reply) (u0 u1 : Under) (e0 e1 : EngineSeen) → IsFile mount f → EngineRun mount f.file (seen_under u0) (seen_under u1) e0 e1 → UnderTurn mount (log_in e1) f g u0 u1
+    → (slice_get closing f.file ≡ Some Done → KeepsNow e1) → LeavesFile mount closing (log_in e1) f g
+leaves-of mount f g closing _ _ e0 e1 is run (turn_one {d0} {d1} {old} {new} was over later left state) whole =
+    let at : slice_get f.stores 0 ≡ Some old = ap (λ (ss : List StoreSeen). slice_get ss 0) was in
+    let key : old.key.file ≡ f.file = ap (λ (k : StoreKey). k.file) (file-key mount f is old was) in
+    let own : EngineRun mount old.key.file (seen_whole d0) (seen_whole d1) e0 e1 = subst (λ n. EngineRun mount n (seen_whole d0) (seen_whole d1) e0 e1) (sym key) run in
+    leaves_one was left
+    (disk-leaves mount old d0 d1 e0 e1 closing over own (λ done. whole (ap (λ n. slice_get closing n) (sym key) ∙ done)) new.state (ap (λ (s : StoreState). s.content) state) (ap (λ (s : StoreState). s.faults) state) (is.fits 0 old at))
+leaves-of mount f g closing _ _ e0 e1 is run (turn_many {a} {z} some turn) whole = leaves_many some (mirrors-left mount f g a z e0 e1 closing run turn whole)
+
+-- the live disks have numbers of the file's stores
+pub few-disks : (mount : Mount) (more : List Logged) (f g : FileSeen) (u0 u1 : Under) → IsFile mount f → UnderTurn mount more f g u0 u1 → (disk : ℕ) → Contains (live_in (seen_under u0).disks) disk → disk < length f.stores
+few-disks mount more f g _ _ is (turn_one {d0} {d1} {old} {new} was over later left state) disk live =
+    let one = (on-disk d0).alone disk live in
+    let number = over.disk in
+    let first = ap (λ (k : StoreKey). k.disk) (file-key mount f is old was) in
+    let many = ap (λ (ss : List StoreSeen). length ss) was in
+    omega (arith, one, number, first, many)
+few-disks mount more f g _ _ is (turn_many {a} {z} some turn) disk live = few mount more f g a z turn disk live
+
+-- a file's image that was closed as soon as it was opened
+pub shut-at-once : (mount : Mount) (f g : FileSeen) (u0 u1 : Under) (file : ℕ) → IsFile mount f → IsOpened mount f u0 → IsSound u0 → u1 ≡ u0 → file ≡ f.file → g.file ≡ file → keys_of g.stores ≡ stores_of_file (length g.stores) file → IsLeft u1 g
+    → Closes mount f g × ArePairs Lasts f.stores g.stores
+shut-at-once mount f g u0 u1 file is over sound same own named keys left =
+    let back : IsLeft u0 g = subst (λ (u : Under). IsLeft u g) same left in
+    let turn : UnderTurn mount [] f g u0 u0 = turn-of mount [] f g u0 u0 is over sound (later-same (seen_under u0) (seen_under u0) refl) back sound in
+    (turn-closes mount [] f g u0 u0 refl turn, turn-pairs mount [] f g u0 u0 is (named ∙ own) (keys ∙ ap (λ n. stores_of_file (length g.stores) n) (sym named)) turn)

@@ -1,0 +1,29 @@
+use Rattle.std.proofs.Common.{inl, inr, refl, sym, ap, ◌∙◌}
+use Rattle.run_defs.specs.Stack.{pages_of}
+use Rattle.file_stores.specs.Files.{FileSeen}
+use Rattle.file_ground.proofs.OpenLaws.{opened-number}
+use Rattle.file_ground.proofs.StoreLaws.{unopened-lasts}
+use Rattle.run_files.proofs.TurnLaws.{shut-at-once}
+use Rattle.run_files.proofs.held.open_one.Goals as goal
+
+pub returns-in-Err-clause-pairs : goal.returns-in-Err-clause-pairs
+returns-in-Err-clause-pairs g c = unopened-lasts c.args.mount.now c.args.stores c.in-Err.unopened.stores c.in-Err.unopened.stop c.requires.file c.in-Err.ensures.keys c.in-Err.ensures.refused
+
+pub returns-in-Err-clause-cause : goal.returns-in-Err-clause-cause
+returns-in-Err-clause-cause g c = inl c.in-Err.ensures.refused
+
+pub open_tower-requires-clause-number : goal.open_tower-requires-clause-number
+open_tower-requires-clause-number g c κs within = opened-number c.args.mount.now c.args.stores c.in-Ok.ground c.requires.file c.in-Ok.ensures.opened ∙ ap (λ (f : FileSeen). pages_of c.args.mount.now f.file) (sym c.stores.view_is)
+
+pub returns-in-Err-open_tower-clause-pairs : goal.returns-in-Err-open_tower-clause-pairs
+returns-in-Err-open_tower-clause-pairs g c =
+    (shut-at-once c.args.mount.now c.args.stores c.close_file.result c.in-Ok.ground c.in-Err-open_tower.ground c.stores.inside.file c.requires.file c.in-Ok.ensures.opened c.open_tower.ensures.sound c.in-Err-open_tower.ensures.back
+    (ap (λ (f : FileSeen). f.file) c.stores.view_is) c.close_file.ensures.file c.close_file.ensures.keys c.close_file.ensures.left).1
+
+pub returns-in-Err-open_tower-clause-cause : goal.returns-in-Err-open_tower-clause-cause
+returns-in-Err-open_tower-clause-cause g c =
+    inr (
+      (shut-at-once c.args.mount.now c.args.stores c.close_file.result c.in-Ok.ground c.in-Err-open_tower.ground c.stores.inside.file c.requires.file c.in-Ok.ensures.opened c.open_tower.ensures.sound c.in-Err-open_tower.ensures.back
+          (ap (λ (f : FileSeen). f.file) c.stores.view_is) c.close_file.ensures.file c.close_file.ensures.keys c.close_file.ensures.left).0,
+      refl,
+    )
