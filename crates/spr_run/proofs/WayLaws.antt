@@ -24,7 +24,7 @@ pub ends-formats : (stack : List ℕ) (o : Outside) (mount : Mount) (before afte
 ends-formats stack o mount before after result is calm w = written-as before after result (λ text status said. formats mount is calm said) w
 
 pub ends-dumps : (stack name : List ℕ) (o : Outside) (mount : Mount) (file : ℕ) (before after : SinkSeen) (result : Status) → HasFile o.shelf stack name mount file → o.shelf_after.faults ≡ o.shelf.faults
-    → Written (SaysDump mount o.bay o.bay_after (record { file = file; disk = 0 })) before after result → Written (SaysDumped stack name o) before after result
+    → Written (SaysDump mount o.bay o.bay_after file) before after result → Written (SaysDumped stack name o) before after result
 ends-dumps stack name o mount file before after result has calm w = written-as before after result (λ text status said. dumps mount file has calm said) w
 
 pub ends-runs : (names : Names) (trace : Bool) (o : Outside) (mount : Mount) (script : Script) (ops : Ops) (before after : SinkSeen) (result : Status) → IsPrepared o.shelf names mount script ops → o.shelf_after.faults ≡ o.shelf.faults

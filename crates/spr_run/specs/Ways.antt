@@ -66,11 +66,11 @@ pub data SaysFormatted (stack : List ℕ) (o : Outside) (text : List ℕ) (statu
       → SaysFormat mount o.bay o.bay_after (stores_of mount) text status → SaysFormatted stack o text status
   unformatted : IsIdle o → Refuses (IsStackCause o.shelf o.shelf_after stack) (only_stack stack) text status → SaysFormatted stack o text status
 
--- `dump`: the pages of the stack's file of the name, on its disk, were printed, or could not be; or the stack is refused, or has
+-- `dump`: the pages of the stack's file of the name were printed, or could not be; or the stack is refused, or has
 -- no such file
 pub data SaysDumped (stack name : List ℕ) (o : Outside) (text : List ℕ) (status : Status) : Type 0 where
   dumps : (mount : Mount) (file : ℕ) → HasFile o.shelf stack name mount file → o.shelf_after.faults ≡ o.shelf.faults
-      → SaysDump mount o.bay o.bay_after (record { file = file; disk = 0 }) text status → SaysDumped stack name o text status
+      → SaysDump mount o.bay o.bay_after file text status → SaysDumped stack name o text status
   undumped : IsIdle o → Refuses (IsFileCause o.shelf o.shelf_after stack name) (only_stack stack) text status → SaysDumped stack name o text status
 
 -- `run`: the interfaces have each operation, and the script was run over the files of the stack, or they could not be opened; or

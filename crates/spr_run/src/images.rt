@@ -1,14 +1,13 @@
 //! The commands `format` and `dump`: fresh images on the stores of a stack's files, and the pages of one of its files.
 
 ghost use Rattle.std.specs.Prelude.{◌≡◌, ◌<◌, IfOk, IfErr, OnOk, length};
-ghost use Rattle.run_defs.specs.Stack.{IsBuilt};
 ghost use Rattle.file_stores.specs.Written.{Written};
 ghost use Rattle.run_texts.specs.Refusal.{HasFile, IsFileCause};
 ghost use Rattle.spr_run.specs.Ways.{outside, SaysFormatted, SaysDumped};
 
 use crate::check::only_stack;
 use image_commands::{dump_file, format_files};
-use run_defs::{StoreKey, file_named};
+use run_defs::file_named;
 use run_texts::{Refusal, read_runnable, read_stack, refuse};
 use seen_values::Text;
 use spr_io::{Bay, Shelf, Sink};
@@ -41,7 +40,6 @@ fn read_file<H: Shelf>(
     name: &Text,
 ) -> Result<(Mounted, u32), Refusal>
     ensures ok { IfOk result (λ found. HasFile (H.told shelf.old) stack.now name.now found.0 found.1) }
-    ensures built { IfOk result (λ found. IsBuilt found.0) }
     ensures within { IfOk result (λ found. found.1 < length found.0.files) }
     ensures err { IfErr result (IsFileCause (H.told shelf.old) (H.told shelf.new) stack.now name.now) }
     ensures calm { OnOk result ((H.told shelf.new).faults ≡ (H.told shelf.old).faults) }
@@ -53,7 +51,7 @@ fn read_file<H: Shelf>(
     }
 }
 
-/// Prints the pages of a file of a name, of the stack of another. A stack that a run builds has one disk.
+/// Prints the pages of a file of a name, of the stack of another.
 pub(crate) fn dump_named<H: Shelf, B: Bay, K: Sink>(
     alloc: Global,
     stack: &Text,
@@ -65,7 +63,7 @@ pub(crate) fn dump_named<H: Shelf, B: Bay, K: Sink>(
     ensures ends { Written (SaysDumped stack.now name.now (outside (H.told shelf.old) (H.told shelf.new) (B.told bay.old) (B.told bay.new))) (K.told sink.old) (K.told sink.new) result }
 {
     match read_file(alloc, shelf, stack, name) {
-        Ok((mount, file)) => dump_file(alloc, &mount, StoreKey { file, disk: 0 }, bay, sink),
+        Ok((mount, file)) => dump_file(alloc, &mount, file, bay, sink),
         Err(refusal) => refuse(sink, &only_stack(stack), refusal),
     }
 }

@@ -874,7 +874,7 @@ fn images_on_two_disks(rt: HostRuntime) -> Result<(), Fail> {
         (FORMAT, MIRRORED, Status::Good, "status 0\n"),
         (DUMP, STACK, Status::Good, fresh),
         (DUMP, ON_E, Status::Good, fresh),
-        (DUMP, MIRRORED, Status::Refused, "stack 5 later\nstatus 3\n"),
+        (DUMP, MIRRORED, Status::Good, fresh),
         (FORMAT, SPREAD, Status::Good, "status 0\n"),
     ];
     let mut bay = MemBay::new(alloc, &[2], &[])?;
@@ -883,6 +883,389 @@ fn images_on_two_disks(rt: HostRuntime) -> Result<(), Fail> {
         assert_eq!(rt; got, status, "at {text}");
         assert_eq!(rt; sink.bytes(), text.as_bytes(), "at {text}");
     }
+    Ok(())
+}
+
+/// A page is synced, and another written.
+const TWO_PAGES: &[u8] =
+    b"client a m\nphase\na open x c/f\na write x 0 0 61\na sync x\na write x 1 0 62\n";
+
+const TWO_PAGES_REPORT: &str =
+    "client a\n3 life 0\n4 done\n5 done\n6 done\nfile f\n0 a 0 c 0 open life 0\n2 a 1 c 0 write 0 0 61 done\n4 a 2 c synced 3 done\n6 a 3 c 0 write 1 0 62 done\n8 mount 0 c synced 7 done\nnames\n0 a 0 resolve c/f done\nstatus 0\n";
+
+/// A page is written and synced.
+const ONE_PAGE: &[u8] = b"client a m\nphase\na open x c/f\na write x 0 0 61\na sync x\n";
+
+const ONE_PAGE_REPORT: &str =
+    "client a\n3 life 0\n4 done\n5 done\nfile f\n0 a 0 c 0 open life 0\n2 a 1 c 0 write 0 0 61 done\n4 a 2 c synced 3 done\n5 mount 0 c synced 5 done\nnames\n0 a 0 resolve c/f done\nstatus 0\n";
+
+/// Both disks refuse the page of the sync, and take that of the closing one.
+const BOTH_REFUSED: &str =
+    "client a\n3 life 0\n4 done\n5 store e 1\nfile f\n0 a 0 c 0 open life 0\n2 a 1 c 0 write 0 0 61 done\n4 mount 0 c synced 3 done\nnames\n0 a 0 resolve c/f done\nstatus 1\n";
+
+/// The second page is read.
+const SECOND_PAGE: &[u8] = b"client a m\nphase\na open x c/f\na read x 1 0 1\n";
+
+const SECOND_PAGE_REPORT: &str =
+    "client a\n3 life 0\n4 62\nfile f\n0 a 0 c 0 open life 0\n2 a 1 c 0 read 1 0 1 62\n3 mount 0 c synced 3 done\nnames\n0 a 0 resolve c/f done\nstatus 0\n";
+
+/// What the first of two pages holds that begins with these digits, and the second.
+const PAGES_61: &str =
+    "page 0 61000000000000000000000000000000000000000000000000000000000000000000000000000000000000000000000000000000000000000000000000000000\npage 1 zeros\nstatus 0\n";
+
+const PAGES_61_62: &str =
+    "page 0 61000000000000000000000000000000000000000000000000000000000000000000000000000000000000000000000000000000000000000000000000000000\npage 1 62000000000000000000000000000000000000000000000000000000000000000000000000000000000000000000000000000000000000000000000000000000\nstatus 0\n";
+
+/// A command over a stack, with its script, its status and its text.
+type Step = (
+    &'static [&'static str],
+    &'static [u8],
+    &'static [u8],
+    Status,
+    &'static str,
+);
+
+/// Puts a blank store of two pages on a disk, which refuses these calls.
+fn put_store(
+    alloc: Global,
+    bay: &mut MemBay,
+    disk: &str,
+    refused: &Outside<'_>,
+) -> Result<(), Fail> {
+    let store = MemStore::new(alloc, 64, 4, refused.reads, refused.writes, refused.flushes)?;
+    match bay.put(alloc, disk, "f", store) {
+        Ok(()) => Ok(()),
+        Err(_) => Err(Fail::from("the store")),
+    }
+}
+
+/// A bay with such a store on each of two disks.
+fn two_stores(alloc: Global, d: &Outside<'_>, e: &Outside<'_>) -> Result<MemBay, Fail> {
+    let mut bay = MemBay::new(alloc, &[], &[])?;
+    put_store(alloc, &mut bay, "d", d)?;
+    put_store(alloc, &mut bay, "e", e)?;
+    Ok(bay)
+}
+
+/// Whether commands go one after another over a bay as is said.
+fn goes_as<R: Threads + Wait + Sync>(
+    rt: &R,
+    alloc: Global,
+    bay: &mut MemBay,
+    steps: &[Step],
+) -> Result<bool, Fail> {
+    for (words, stack, script, status, text) in steps {
+        let (got, sink) = command_at(rt, alloc, words, stack, script, &SOUND, bay)?;
+        if got != *status || sink.bytes() != text.as_bytes() {
+            return Ok(false);
+        }
+    }
+    Ok(true)
+}
+
+const FORMATTED: Step = (FORMAT, MIRRORED, b"", Status::Good, "status 0\n");
+
+/// The first disk refuses its third write of the run, the second page: the run goes on, and at the next one that disk gets the
+/// page.
+const ONE_LEFT_OUT: [Step; 7] = [
+    FORMATTED,
+    (RUN, MIRRORED, TWO_PAGES, Status::Good, TWO_PAGES_REPORT),
+    (DUMP, STACK, b"", Status::Good, PAGES_61),
+    (DUMP, ON_E, b"", Status::Good, PAGES_61_62),
+    (RUN, MIRRORED, SECOND_PAGE, Status::Good, SECOND_PAGE_REPORT),
+    (DUMP, STACK, b"", Status::Good, PAGES_61_62),
+    (DUMP, ON_E, b"", Status::Good, PAGES_61_62),
+];
+
+/// Both disks refuse their first write of the run.
+const BOTH_FAIL: [Step; 4] = [
+    FORMATTED,
+    (RUN, MIRRORED, ONE_PAGE, Status::Faulted, BOTH_REFUSED),
+    (DUMP, STACK, b"", Status::Good, PAGES_61),
+    (DUMP, ON_E, b"", Status::Good, PAGES_61),
+];
+
+/// The first disk was replaced by a blank one, and the second does not give the page that is to be copied; the next opening
+/// copies it.
+const REPLACED: [Step; 6] = [
+    (FORMAT, ON_E, b"", Status::Good, "status 0\n"),
+    (RUN, ON_E, ONE_PAGE, Status::Good, ONE_PAGE_REPORT),
+    (
+        RUN,
+        MIRRORED,
+        ONE_PAGE,
+        Status::Faulted,
+        "store e 1\nstatus 1\n",
+    ),
+    (DUMP, MIRRORED, b"", Status::Good, PAGES_61),
+    (DUMP, STACK, b"", Status::Good, PAGES_61),
+    (DUMP, ON_E, b"", Status::Good, PAGES_61),
+];
+
+/// Two blank disks hold no image: the first one is named.
+const TWO_BLANK: [Step; 2] = [
+    (
+        RUN,
+        MIRRORED,
+        ONE_PAGE,
+        Status::BadImage,
+        "image d f 0 magic\nstatus 6\n",
+    ),
+    (
+        DUMP,
+        MIRRORED,
+        b"",
+        Status::BadImage,
+        "image d f 0 magic\nstatus 6\n",
+    ),
+];
+
+/// A page is written, and the closing sync is to keep it.
+const UNKEPT: &[u8] = b"client a m\nphase\na open x c/f\na write x 0 0 61\n";
+
+/// The second disk refuses the page, and the first the raise that is owed for it.
+const UNKEPT_REPORT: &str =
+    "client a\n3 life 0\n4 done\nfile f\n0 a 0 c 0 open life 0\n2 a 1 c 0 write 0 0 61 done\nnames\n0 a 0 resolve c/f done\nclosing f store d 1\nstatus 1\n";
+
+/// Another page is written and synced.
+const LATER: &[u8] = b"client a m\nphase\na open x c/f\na write x 0 0 62\na sync x\n";
+
+const LATER_REPORT: &str =
+    "client a\n3 life 0\n4 done\n5 done\nfile f\n0 a 0 c 0 open life 0\n2 a 1 c 0 write 0 0 62 done\n4 a 2 c synced 3 done\n5 mount 0 c synced 5 done\nnames\n0 a 0 resolve c/f done\nstatus 0\n";
+
+const PAGES_62: &str =
+    "page 0 62000000000000000000000000000000000000000000000000000000000000000000000000000000000000000000000000000000000000000000000000000000\npage 1 zeros\nstatus 0\n";
+
+/// A dump while the second disk refuses the page that it is to get raises nothing. So what is synced next, with the first disk
+/// down, is not lost to it.
+const RAISED_BY_A_LOOK: [Step; 7] = [
+    FORMATTED,
+    (RUN, MIRRORED, UNKEPT, Status::Faulted, UNKEPT_REPORT),
+    (DUMP, MIRRORED, b"", Status::Good, PAGES_61),
+    (RUN, MIRRORED, LATER, Status::Good, LATER_REPORT),
+    (DUMP, MIRRORED, b"", Status::Good, PAGES_62),
+    (DUMP, STACK, b"", Status::Good, PAGES_62),
+    (DUMP, ON_E, b"", Status::Good, PAGES_62),
+];
+
+/// Runs over two disks in a mirror, by what each disk refuses.
+#[test]
+fn mirrors(rt: HostRuntime) -> Result<(), Fail> {
+    let alloc = rt.alloc();
+    let fifth = refusing(Call::Write, &[5]);
+    let third = refusing(Call::Write, &[3]);
+    let unread = refusing(Call::Read, &[5]);
+    let mut looked = refusing(Call::Read, &[7]);
+    looked.writes = &[5];
+    let behind = refusing(Call::Write, &[3, 4]);
+    let rows: [(Outside<'_>, Outside<'_>, &[Step]); 5] = [
+        (fifth, SOUND, &ONE_LEFT_OUT),
+        (looked, behind, &RAISED_BY_A_LOOK),
+        (third, third, &BOTH_FAIL),
+        (SOUND, unread, &REPLACED),
+        (SOUND, SOUND, &TWO_BLANK),
+    ];
+    for (number, (d, e, steps)) in rows.iter().enumerate() {
+        let mut bay = two_stores(alloc, d, e)?;
+        assert!(rt; goes_as(&rt, alloc, &mut bay, steps)?, "row {number}");
+    }
+    Ok(())
+}
+
+/// After each run both disks hold what was synced.
+const MASKED: [Step; 5] = [
+    FORMATTED,
+    (RUN, MIRRORED, SCRIPT, Status::Good, REPORT),
+    (RUN, MIRRORED, READ_AGAIN, Status::Good, READ_AGAIN_REPORT),
+    (DUMP, STACK, b"", Status::Good, FIRST_PAGE),
+    (DUMP, ON_E, b"", Status::Good, FIRST_PAGE),
+];
+
+/// Each call to a disk of a mirror is refused in turn: no line of the run says so, and after the next run both disks hold what
+/// was synced. The calls before those made the image.
+#[test]
+fn a_fault_is_masked(rt: HostRuntime) -> Result<(), Fail> {
+    let alloc = rt.alloc();
+    for (call, before) in [(Call::Read, 0), (Call::Write, 2), (Call::Flush, 1)] {
+        for nth in 1..5 {
+            let fails = [before + nth];
+            let refused = refusing(call, &fails);
+            let mut first = two_stores(alloc, &refused, &SOUND)?;
+            assert!(rt;
+                goes_as(&rt, alloc, &mut first, &MASKED)?,
+                "d at {call:?} {nth}"
+            );
+            let mut second = two_stores(alloc, &SOUND, &refused)?;
+            assert!(rt;
+                goes_as(&rt, alloc, &mut second, &MASKED)?,
+                "e at {call:?} {nth}"
+            );
+        }
+    }
+    Ok(())
+}
+
+/// Three disks in two mirrors, one upon the other.
+const THREE: &[u8] =
+    b"page 64\nfile f 2\ndisk d m\ndisk e m\ndisk g m\nmirror y m d e\nmirror x m y g\ncoherency c m x\n";
+
+/// Four disks in two mirrors beside each other, under a third.
+const FOUR: &[u8] =
+    b"page 64\nfile f 2\ndisk d m\ndisk e m\ndisk g m\ndisk h m\nmirror y m d e\nmirror z m g h\nmirror x m y z\ncoherency c m x\n";
+
+/// The third and the fourth disk alone.
+const ON_G: &[u8] = b"page 64\nfile f 2\ndisk g m\ncoherency c m g\n";
+
+const ON_H: &[u8] = b"page 64\nfile f 2\ndisk h m\ncoherency c m h\n";
+
+/// Reads the first page.
+const FIRST_BYTE: &[u8] = b"client a m\nphase\na open x c/f\na read x 0 0 1\n";
+
+const FIRST_BYTE_REPORT: &str =
+    "client a\n3 life 0\n4 61\nfile f\n0 a 0 c 0 open life 0\n2 a 1 c 0 read 0 0 1 61\n3 mount 0 c synced 3 done\nnames\n0 a 0 resolve c/f done\nstatus 0\n";
+
+/// One disk refuses the page and another the raise: what the third has was synced, and is on all of them after the next run.
+const NESTED: [Step; 6] = [
+    (FORMAT, THREE, b"", Status::Good, "status 0\n"),
+    (RUN, THREE, ONE_PAGE, Status::Good, ONE_PAGE_REPORT),
+    (RUN, THREE, FIRST_BYTE, Status::Good, FIRST_BYTE_REPORT),
+    (DUMP, STACK, b"", Status::Good, PAGES_61),
+    (DUMP, ON_E, b"", Status::Good, PAGES_61),
+    (DUMP, ON_G, b"", Status::Good, PAGES_61),
+];
+
+/// One disk refuses the page, and its partner is down at the next run: the flush raised the others too.
+const IN_PAIRS: [Step; 8] = [
+    (FORMAT, FOUR, b"", Status::Good, "status 0\n"),
+    (RUN, FOUR, ONE_PAGE, Status::Good, ONE_PAGE_REPORT),
+    (RUN, FOUR, FIRST_BYTE, Status::Good, FIRST_BYTE_REPORT),
+    (DUMP, FOUR, b"", Status::Good, PAGES_61),
+    (DUMP, STACK, b"", Status::Good, PAGES_61),
+    (DUMP, ON_E, b"", Status::Good, PAGES_61),
+    (DUMP, ON_G, b"", Status::Good, PAGES_61),
+    (DUMP, ON_H, b"", Status::Good, PAGES_61),
+];
+
+/// Histories of three and of four disks that lose a synced page if each mirror has rules of its own.
+#[test]
+fn nested_mirrors(rt: HostRuntime) -> Result<(), Fail> {
+    let alloc = rt.alloc();
+    let data = refusing(Call::Write, &[3]);
+    let raise = refusing(Call::Write, &[5]);
+    let down = refusing(Call::Read, &[3]);
+    let rows: [(Outside<'_>, Outside<'_>, &[Step]); 2] = [
+        (data, raise, &NESTED),
+        (down, data, &IN_PAIRS),
+    ];
+    for (number, (d, e, steps)) in rows.iter().enumerate() {
+        let mut bay = two_stores(alloc, d, e)?;
+        assert!(rt; goes_as(&rt, alloc, &mut bay, steps)?, "row {number}");
+    }
+    Ok(())
+}
+
+/// Three disks: the first alone beside a mirror of the others.
+const APART: &[u8] =
+    b"page 64\nfile f 2\ndisk d m\ndisk e m\ndisk g m\nmirror y m e g\nmirror x m d y\ncoherency c m x\n";
+
+/// The last disk refuses a page that is synced.
+const BEHIND: [Step; 2] = [
+    (FORMAT, APART, b"", Status::Good, "status 0\n"),
+    (RUN, APART, ONE_PAGE, Status::Good, ONE_PAGE_REPORT),
+];
+
+/// Each disk has that page after the next run.
+const LEVEL: [Step; 4] = [
+    (RUN, APART, FIRST_BYTE, Status::Good, FIRST_BYTE_REPORT),
+    (DUMP, STACK, b"", Status::Good, PAGES_61),
+    (DUMP, ON_E, b"", Status::Good, PAGES_61),
+    (DUMP, ON_G, b"", Status::Good, PAGES_61),
+];
+
+/// Two disks refuse to keep a page, so the first one is ahead, with the same pages; then one of them refuses its new header.
+const AHEAD: [Step; 3] = [
+    (FORMAT, APART, b"", Status::Good, "status 0\n"),
+    (RUN, APART, ONE_PAGE, Status::Good, ONE_PAGE_REPORT),
+    (RUN, APART, FIRST_BYTE, Status::Good, FIRST_BYTE_REPORT),
+];
+
+/// Four disks, each mirror a side of the next.
+const STAIRS: &[u8] =
+    b"page 64\nfile f 2\ndisk d m\ndisk e m\ndisk g m\ndisk h m\nmirror y m e g\nmirror z m y h\nmirror x m d z\ncoherency c m x\n";
+
+const FIRST_62_REPORT: &str =
+    "client a\n3 life 0\n4 62\nfile f\n0 a 0 c 0 open life 0\n2 a 1 c 0 read 0 0 1 62\n3 mount 0 c synced 3 done\nnames\n0 a 0 resolve c/f done\nstatus 0\n";
+
+/// The first disk is ahead, two others refuse to join it, and what is synced then is found without it.
+const LEFT_BELOW: [Step; 9] = [
+    (FORMAT, STAIRS, b"", Status::Good, "status 0\n"),
+    (RUN, STAIRS, ONE_PAGE, Status::Good, ONE_PAGE_REPORT),
+    (RUN, STAIRS, LATER, Status::Good, LATER_REPORT),
+    (RUN, STAIRS, FIRST_BYTE, Status::Good, FIRST_62_REPORT),
+    (DUMP, STAIRS, b"", Status::Good, PAGES_62),
+    (DUMP, STACK, b"", Status::Good, PAGES_62),
+    (DUMP, ON_E, b"", Status::Good, PAGES_62),
+    (DUMP, ON_G, b"", Status::Good, PAGES_62),
+    (DUMP, ON_H, b"", Status::Good, PAGES_62),
+];
+
+/// More of these histories: a disk is replaced by a blank one whose partner is behind; and disks that are level in their pages
+/// but not in their generations.
+#[test]
+fn mirrors_out_of_step(rt: HostRuntime) -> Result<(), Fail> {
+    let alloc = rt.alloc();
+    let mut bay = MemBay::new(alloc, &[], &[])?;
+    put_store(alloc, &mut bay, "g", &refusing(Call::Write, &[3]))?;
+    assert!(rt; goes_as(&rt, alloc, &mut bay, &BEHIND)?);
+    put_store(alloc, &mut bay, "e", &SOUND)?;
+    assert!(rt; goes_as(&rt, alloc, &mut bay, &LEVEL)?);
+
+    let unkept = refusing(Call::Flush, &[2]);
+    let mut headless = unkept;
+    headless.writes = &[5];
+    let mut bay = MemBay::new(alloc, &[], &[])?;
+    put_store(alloc, &mut bay, "e", &unkept)?;
+    put_store(alloc, &mut bay, "g", &headless)?;
+    assert!(rt; goes_as(&rt, alloc, &mut bay, &AHEAD)?);
+    assert!(rt; goes_as(&rt, alloc, &mut bay, &LEVEL)?);
+
+    let mut bay = two_stores(alloc, &refusing(Call::Read, &[9]), &unkept)?;
+    put_store(alloc, &mut bay, "g", &refusing(Call::Flush, &[2, 3]))?;
+    put_store(alloc, &mut bay, "h", &refusing(Call::Flush, &[2, 3]))?;
+    assert!(rt; goes_as(&rt, alloc, &mut bay, &LEFT_BELOW)?);
+    Ok(())
+}
+
+/// A side of the mirror is a coherency layer.
+const LAYERED: &[u8] =
+    b"page 64\nfile f 1\ndisk d m\ndisk e m\ncoherency s m d\nmirror x m s e\ncoherency c m x\n";
+
+/// The disks of this stack alone.
+const ONE_ON_D: &[u8] = b"page 64\nfile f 1\ndisk d m\ncoherency c m d\n";
+
+const ONE_ON_E: &[u8] = b"page 64\nfile f 1\ndisk e m\ncoherency c m e\n";
+
+const ONE_FIRST_PAGE: &str =
+    "page 0 61626364000000000000000000000000000000000000000000000000000000000000000000000000000000000000000000000000000000000000000000000000\nstatus 0\n";
+
+/// The layer under the mirror writes through.
+#[test]
+fn layer_under_a_mirror(rt: HostRuntime) -> Result<(), Fail> {
+    let steps: [Step; 5] = [
+        (
+            CHECK,
+            LAYERED,
+            b"",
+            Status::Good,
+            "0 x mirror m\n1 c coherency m 0\nstatus 0\n",
+        ),
+        (FORMAT, LAYERED, b"", Status::Good, "status 0\n"),
+        (RUN, LAYERED, SCRIPT, Status::Good, REPORT),
+        (DUMP, ONE_ON_D, b"", Status::Good, ONE_FIRST_PAGE),
+        (DUMP, ONE_ON_E, b"", Status::Good, ONE_FIRST_PAGE),
+    ];
+    let mut bay = MemBay::new(rt.alloc(), &[], &[])?;
+    assert!(rt; goes_as(&rt, rt.alloc(), &mut bay, &steps)?);
     Ok(())
 }
 

@@ -57,8 +57,8 @@ fn run_named<R: Threads + Wait + Sync, H: Shelf, B: Bay, K: Sink, G: Gate>(
 /// Headline: for every accepted stack and interleaving, each access within one page, by file call, mapping or any stacked
 /// view, unless a store failed in it or memory lacked, answers what one plain file answers at its place in the file's one
 /// history, which begins with all its caller had seen and holds its calls once each; after a successful sync every live store
-/// holds that history's bytes. So far a run builds stacks of coherency layers and virtual memory managers over one disk. What is
-/// said of bytes is said where a store tells what it holds; a file of the host does not.
+/// holds that history's bytes. So far a run builds stacks of coherency layers and virtual memory managers over a disk or over disks
+/// in mirrors. What is said of bytes is said where a store tells what it holds; a file of the host does not.
 pub fn spring<R: Threads + Wait + Sync, H: Shelf, B: Bay, K: Sink, G: Gate>(
     rt: &R,
     alloc: Global,
