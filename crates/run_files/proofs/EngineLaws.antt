@@ -19,7 +19,9 @@ use Rattle.tower_log.specs.declared.logged.Logged.TheVariants.{Entered, Noted}
 use Rattle.tower_log.specs.Log.{trail_of}
 use Rattle.tower_log.specs.Notes.{Rises, counts_of}
 use Rattle.tower_shows.specs.Began.{ArePagesOf}
-use Rattle.stack_engine.specs.Engine.{EngineSeen, IsSound, events_in, file_in, log_in, tree_in}
+use Rattle.tower_shows.specs.Since.{AreSince}
+use Rattle.tower_shows.proofs.Stays.{told_stays}
+use Rattle.stack_engine.specs.Engine.{EngineSeen, IsSound, events_in, file_in, log_in, sides_in, tree_in}
 use Rattle.stack_engine.specs.Opened.{AreAnswers, IsOf, KeepsSince, last_from}
 use Rattle.stack_engine.specs.Start as engines
 use Rattle.shared_tower.specs.Later.{AreLater, IsLater, IsNoteOf, IsOnDisk, KeepsFirst}
@@ -113,6 +115,14 @@ module _ (mount : Mount) (file : ℕ) (before after : Seen) (e0 e1 : EngineSeen)
         legal = at-mount (λ t f. IsLegal t f.page_size f.pages opening (events_in e1)) now.began.legal;
         answers = at-mount (λ t f. AreAnswers t f.page_size opening (log_in e1)) now.answers;
       }
+
+  -- behind a completed sync the ground's pages are those of the file from it on
+  pub shows-of : (opening : List ℕ) (from : ℕ) → IsOf opening e0 → last_from (events_in e1) ≡ Some from → IfSome after.pages (Holds mount opening (log_in e1) from)
+  shows-of opening from of last =
+      let now : IsOf opening e1 = run.later.of opening of in
+      subst (λ (g : Seen). IfSome g.pages (Holds mount opening (log_in e1) from)) (sym run.ground)
+      (at-mount (λ t f. IfSome e1.ground.pages (AreSince t f.page_size opening (events_in e1) from))
+      (told_stays (tree_in e1) (file_in e1).page_size (file_in e1).pages opening (events_in e1) (sides_in e1) e1.ground.pages from run.sound.true_to now.began (now.synced from last).ground))
 
   -- what a live disk keeps of a file that began with these bytes
   pub kept-of : (key : StoreKey) (closing : List Reply) (opening : List ℕ) (disk : ℕ) (first : Option (List (List ℕ))) (kept : List (List ℕ)) → key.file ≡ file → IsOf opening e0 → Contains (live_in after.disks) disk

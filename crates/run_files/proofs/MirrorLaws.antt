@@ -43,7 +43,7 @@ use Rattle.file_ground.proofs.SpotLaws.{After, Before, after-at, before-at, live
 use Rattle.file_ground.proofs.UnderLaws.{counts-under}
 use Rattle.run_files.specs.Play.{KeepsNow}
 use Rattle.run_files.specs.Run.{AreTold, LeavesMirrors, Store, live_of}
-use Rattle.run_files.proofs.EngineLaws.{EngineRun, along-of, kept-of, rises-of, same-number, same-size}
+use Rattle.run_files.proofs.EngineLaws.{EngineRun, along-of, kept-of, rises-of, same-number, same-size, shows-of}
 use Rattle.run_files.proofs.GivenLaws.{given-paged, lies-told, row-tree}
 use Rattle.run_files.proofs.PageLaws.{ArePaged, joined-are, length-of}
 
@@ -197,6 +197,7 @@ module _ (mount : Mount) (f g : FileSeen) (a z : Ground) (e0 e1 : EngineSeen) (c
           shown = paged-pages.1;
           began = joined-are shape F are;
           along = along-of mount f.file (seen_of a) (seen_of z) e0 e1 run opening of;
+          shows = λ from last. shows-of mount f.file (seen_of a) (seen_of z) e0 e1 run opening from of last;
           kept = λ k old new at live.
               let own : old.key.file ≡ f.file = ap (λ (x : StoreKey). x.file) (key-at k old at.0) in
               let c = content-some new.state.content (lasts-told k old new at) in
@@ -234,6 +235,7 @@ module _ (mount : Mount) (f g : FileSeen) (a z : Ground) (e0 e1 : EngineSeen) (c
     opened = a;
     over = turn.over;
     closed = z;
+    sound = turn.still.0;
     back = turn.back;
     some = some mount (log_in e1) f g a z turn;
     live = turn.later.live;

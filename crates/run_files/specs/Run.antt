@@ -32,7 +32,7 @@ use Rattle.spr_report.specs.declared.status.Status.TheVariants as statuses
 use Rattle.spr_report.specs.Report.{report}
 use Rattle.disk_layer.specs.Seen.{kept_in, live_in}
 use Rattle.disk_layer.specs.Seen.{pages_in as told_in}
-use Rattle.mirror_layer.specs.Ground.{Ground, seen_of}
+use Rattle.mirror_layer.specs.Ground.{Ground, IsGround, seen_of}
 use Rattle.mirror_layer.specs.Bringing.{OpenedOver}
 use Rattle.mirror_layer.specs.Stores.{GivesBack}
 use Rattle.file_stores.specs.Keys.{EachAt, stores_of, image_shape}
@@ -135,6 +135,8 @@ pub record AreTold (mount : Mount) (closing : List Reply) (log : List Logged) (f
   pub shown : (seen_of opened).pages ≡ Some pages
   pub began : ArePagesOf mount.page_size (pages_of mount f.file) opening pages
   pub along : IsAlong mount f.file opening log
+  -- behind a completed sync the pages of the ground are, page by page, the file as it was at some place from that sync on
+  pub shows : (from : ℕ) → last_from (trail_of log) ≡ Some from → IfSome (seen_of closed).pages (Holds mount opening log from)
   pub kept : (disk : ℕ) (old new : StoreSeen) → Store f g disk old new → Contains (live_of closed) disk
       → (c : Content) × (new.state.content ≡ Some c) × IsKept mount closing log old.key opening (unwrap_or (told_in (kept_in (seen_of opened).disks disk)) None) c.kept
 
@@ -144,6 +146,7 @@ pub record LeavesMirrors (mount : Mount) (closing : List Reply) (log : List Logg
   pub opened : Ground
   pub over : OpenedOver content_of faults_of (shape_of_file mount f.file) f.stores mount.ground opened
   pub closed : Ground
+  pub sound : IsGround closed
   pub back : GivesBack content_of faults_of closed.beside closed.row g.stores
   -- at the end some disk is live, which was so at the opening; each other one's store failed since it was taken
   pub some : 0 < length (live_of closed)
