@@ -1209,27 +1209,39 @@ const LEFT_BELOW: [Step; 9] = [
     (DUMP, ON_H, b"", Status::Good, PAGES_62),
 ];
 
-/// More of these histories: a disk is replaced by a blank one whose partner is behind; and disks that are level in their pages
-/// but not in their generations.
+/// A disk is replaced by a blank one whose partner is behind.
 #[test]
-fn mirrors_out_of_step(rt: HostRuntime) -> Result<(), Fail> {
+fn partner_behind(rt: HostRuntime) -> Result<(), Fail> {
     let alloc = rt.alloc();
     let mut bay = MemBay::new(alloc, &[], &[])?;
     put_store(alloc, &mut bay, "g", &refusing(Call::Write, &[3]))?;
     assert!(rt; goes_as(&rt, alloc, &mut bay, &BEHIND)?);
     put_store(alloc, &mut bay, "e", &SOUND)?;
     assert!(rt; goes_as(&rt, alloc, &mut bay, &LEVEL)?);
+    Ok(())
+}
 
-    let unkept = refusing(Call::Flush, &[2]);
-    let mut headless = unkept;
+/// Disks that are level in their pages and not in their generations, of which one refuses its new header.
+#[test]
+fn level_in_pages(rt: HostRuntime) -> Result<(), Fail> {
+    let alloc = rt.alloc();
+    let mut headless = refusing(Call::Flush, &[2]);
     headless.writes = &[5];
     let mut bay = MemBay::new(alloc, &[], &[])?;
-    put_store(alloc, &mut bay, "e", &unkept)?;
+    put_store(alloc, &mut bay, "e", &refusing(Call::Flush, &[2]))?;
     put_store(alloc, &mut bay, "g", &headless)?;
     assert!(rt; goes_as(&rt, alloc, &mut bay, &AHEAD)?);
     assert!(rt; goes_as(&rt, alloc, &mut bay, &LEVEL)?);
+    Ok(())
+}
 
-    let mut bay = two_stores(alloc, &refusing(Call::Read, &[9]), &unkept)?;
+/// Disks that refuse to join, and what is synced without them.
+#[test]
+fn left_below(rt: HostRuntime) -> Result<(), Fail> {
+    let alloc = rt.alloc();
+    let mut bay = MemBay::new(alloc, &[], &[])?;
+    put_store(alloc, &mut bay, "d", &refusing(Call::Read, &[9]))?;
+    put_store(alloc, &mut bay, "e", &refusing(Call::Flush, &[2]))?;
     put_store(alloc, &mut bay, "g", &refusing(Call::Flush, &[2, 3]))?;
     put_store(alloc, &mut bay, "h", &refusing(Call::Flush, &[2, 3]))?;
     assert!(rt; goes_as(&rt, alloc, &mut bay, &LEFT_BELOW)?);
