@@ -35,6 +35,10 @@ abbrev pub HasImage : Disk → Type 0
 HasImage d =
     IfSome d.content (λ c. image d.shape c.blocks ≡ Some (record { generation = d.generation; pages = pages_of d.shape.page_size c.blocks d.entries }))
 
+-- the image that it has
+abbrev pub held_on : Disk → Option Imaged
+held_on d = option_map {T = List (List ℕ)} (λ ps. let image : Imaged = record { generation = d.generation; pages = ps } in image) (pages_on d)
+
 -- what the kept blocks stand for
 abbrev pub kept_on : Disk → Option (Option Imaged)
 kept_on d = option_map {T = Content} (λ c. image d.shape c.kept) d.content
@@ -45,7 +49,7 @@ seen_of d = record {
   page_size = d.shape.page_size;
   number = d.shape.pages;
   pages = pages_on d;
-  disks = record { disk = d.disk; live = true; kept = kept_on d; faults = d.faults; opened = d.opened } ∷ [];
+  disks = record { disk = d.disk; live = true; up = true; holds = held_on d; kept = kept_on d; faults = d.faults; opened = d.opened } ∷ [];
 }
 
 -- another count of faults, and nothing else

@@ -1,14 +1,16 @@
 -- What lies under a file tells contracts, and what each call of it keeps.
-use Rattle.std.specs.Prelude.{◌≡◌, ◌⊎◌, ℕ, ◌<◌, ◌≤◌, ◌==◌, if◌then◌else◌, Bool, List, [], ◌∷◌, length, map, slice_get, slice_set, is_some, Option, Some, None, IfSome, Contains}
+use Rattle.std.specs.Prelude.{◌≡◌, ◌⊎◌, ℕ, ◌+◌, ◌^◌, ◌<◌, ◌≤◌, ◌==◌, if◌then◌else◌, Bool, true, false, List, [], ◌∷◌, length, map, slice_get, slice_set, is_some, Option, Some, None, IfSome, Contains}
 use Rattle.std.specs.Option.{option_map}
 use Rattle.disk_format.specs.Image.{Imaged}
 use Rattle.disk_layer.specs.declared.fault.StoreFault.{StoreFault}
 
--- one disk: its number, whether it is live, what the blocks that it kept stand for, if they are told, and the count
--- of faults of its store, now and when the disk was opened
+-- one disk: its number, whether it is live, whether it was opened, the image that it has, if it is told, what the blocks that it kept stand
+-- for, if they are told, and the count of faults of its store, now and when the disk was opened
 pub record DiskSeen : Type 0 where
   pub disk : ℕ
   pub live : Bool
+  pub up : Bool
+  pub holds : Option Imaged
   pub kept : Option (Option Imaged)
   pub faults : ℕ
   pub opened : ℕ
@@ -26,6 +28,16 @@ pub record Seen : Type 0 where
 abbrev pub kept_in : List DiskSeen → ℕ → Option (Option Imaged)
 kept_in [] n = None
 kept_in (d ∷ ds) n = if n == d.disk then d.kept else kept_in ds n
+
+-- whether disk `n` was opened
+abbrev pub is_up_in : List DiskSeen → ℕ → Bool
+is_up_in [] n = false
+is_up_in (d ∷ ds) n = if n == d.disk then d.up else is_up_in ds n
+
+-- the image that disk `n` has, if it is told
+abbrev pub held_in : List DiskSeen → ℕ → Option Imaged
+held_in [] n = None
+held_in (d ∷ ds) n = if n == d.disk then d.holds else held_in ds n
 
 -- how many faults disk `n` has had, and how many it had when it was opened
 abbrev pub faults_in : List DiskSeen → ℕ → ℕ
@@ -61,9 +73,28 @@ pages_in kept = option_map {T = Option Imaged} (λ i. option_map {T = Imaged} (�
 abbrev pub KeptAt : Option (Option Imaged) → Option (List (List ℕ)) → Type 0
 KeptAt kept pages = IfSome kept (λ i. IfSome pages (λ ps. option_map {T = Imaged} (λ v. v.pages) i ≡ Some ps))
 
--- each live disk kept these pages
-abbrev pub AllKept : Seen → Option (List (List ℕ)) → Type 0
-AllKept seen pages = (d : ℕ) → Contains (live_in seen.disks) d → KeptAt (kept_in seen.disks d) pages
+-- these are the pages, if they are told
+abbrev pub Are : Option (List (List ℕ)) → List (List ℕ) → Type 0
+Are pages ps = IfSome pages (λ told. ps ≡ told)
+
+-- an opened disk that has not such pages has a lower generation than each live one, but where that has the last generation
+abbrev pub AreBehind : (List (List ℕ) → Type 0) → Seen → Type 0
+AreBehind P seen = (disk other : ℕ) (i j : Imaged) → Contains (live_in seen.disks) disk → is_up_in seen.disks other ≡ true → held_in seen.disks disk ≡ Some i → held_in seen.disks other ≡ Some j
+    → P j.pages ⊎ (j.generation < i.generation) ⊎ (2 ^ 63 ≤ i.generation + 1)
+
+-- each live disk kept these pages, and what has others is behind
+pub record AllKept (seen : Seen) (pages : Option (List (List ℕ))) : Type 0 where
+  pub kept : (d : ℕ) → Contains (live_in seen.disks) d → KeptAt (kept_in seen.disks d) pages
+  pub behind : AreBehind (Are pages) seen
+
+-- an image becomes one of no lower generation, with the ground's pages as they are at the call's start or at its end
+pub record Turns (before after : Option (List (List ℕ))) (held holds : Option Imaged) : Type 0 where
+  pub old : Imaged
+  pub new : Imaged
+  pub was : held ≡ Some old
+  pub is : holds ≡ Some new
+  pub later : old.generation ≤ new.generation
+  pub pages : Are before new.pages ⊎ Are after new.pages
 
 -- What every call keeps, also a refused one.
 pub record Keeps (before after : Seen) : Type 0 where
@@ -75,6 +106,9 @@ pub record Keeps (before after : Seen) : Type 0 where
   pub same_told : (d : ℕ) → is_some (kept_in after.disks d) ≡ is_some (kept_in before.disks d)
   -- a live disk has kept what it had kept before, or the pages from the call's start
   pub kept : (d : ℕ) → Contains (live_in after.disks) d → (pages_in (kept_in after.disks d) ≡ pages_in (kept_in before.disks d)) ⊎ KeptAt (kept_in after.disks d) before.pages
+  -- the opened disks are the same ones; a disk has the image that it had, or one with the ground's pages
+  pub same_up : (d : ℕ) → is_up_in after.disks d ≡ is_up_in before.disks d
+  pub turned : (d : ℕ) → (held_in after.disks d ≡ held_in before.disks d) ⊎ Turns before.pages after.pages (held_in before.disks d) (held_in after.disks d)
   -- no disk gets live, some disk is live, and a disk that is so no more has failed in the call
   pub live : (d : ℕ) → Contains (live_in after.disks) d → Contains (live_in before.disks) d
   pub some : 0 < length (live_in after.disks)

@@ -10,3 +10,6 @@ pub mod ManyLaws
 pub mod ReadLaws
 pub mod SpotLaws
 pub mod Crossing
+pub mod GuardLaws
+pub mod ImageLaws
+pub mod HeldLaws

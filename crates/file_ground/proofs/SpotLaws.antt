@@ -54,7 +54,7 @@ live-rest a ds n h = by a.live
     by true = (suc h.0, omega (arith, h.1), h.2)
     by false = h
 
-seen-disk : (b : Beside) (x : Seat) → Counted b x → (disk_seen b x).disk ≡ b.disk
+pub seen-disk : (b : Beside) (x : Seat) → Counted b x → (disk_seen b x).disk ≡ b.disk
 seen-disk b (In live c) (counted e l) = e
 seen-disk b (Out bad s) (counted e l) = e
 
@@ -153,7 +153,7 @@ after-rest shape k new a ds ne h = record {
     by None e = tt
     by (Some c) e = kept-rest a ds k ne ∙ e
 
-imaged-twice : (o : Option Imaged) → option_map {T = Image} as_imaged (option_map {T = Imaged} as_image o) ≡ o
+pub imaged-twice : (o : Option Imaged) → option_map {T = Image} as_imaged (option_map {T = Imaged} as_image o) ≡ o
 imaged-twice None = refl
 imaged-twice (Some i) = refl
 

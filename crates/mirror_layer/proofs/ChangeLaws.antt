@@ -3,7 +3,7 @@ use Rattle.std.proofs.Common.{◌≡◌, ◌≢◌, ◌⊎◌, inl, inr, ℕ, ze
 use Rattle.std.specs.Prelude.{slice_get, is_some}
 use Rattle.std.specs.Option.{option_map}
 use Rattle.disk_format.specs.Image.{Imaged}
-use Rattle.disk_layer.specs.Seen.{DiskSeen, KeptAt}
+use Rattle.disk_layer.specs.Seen.{Are, DiskSeen, KeptAt, Turns}
 use Rattle.disk_layer.specs.Seen as seen
 use Rattle.mirror_rules.specs.Tree.{Image, Cell, Store, Seat, In, Out, Tree, seats}
 use Rattle.mirror_rules.specs.Claims.{Pairs, pairs_none, pairs_more, Every, every_none, every_more, Has, has_here, has_later, IsLive, HasPages, pages_live, pages_left, pages_out, Keeps, keeps_out, keeps_left, keeps_live, keeps_lost, Rose, rose_live, rose_left, rose_out}
@@ -12,47 +12,62 @@ use Rattle.mirror_rules.specs.Fates.{disk_of}
 use Rattle.mirror_rules.specs.Steps.{Act, Write, Says, Done, Fault, is_done, Takes, write_taken, raise_taken, flush_taken, refused, Asked, asked_out, asked_stale, asked_took, asked_lost, asked_none, Looked, looked_out, looked_stale, looked_same, looked_refused, Named, named_here, named_later, Reads, read_taken, read_refused, read_below, read_left, read_right, read_left_only, read_right_only, Round, Raised, raised_whole, raised_again, raised_none, Pays, pays_none, pays_raise, Flushes, flush_whole, flush_lost, flush_none, flush_unraised}
 use Rattle.mirror_rules.proofs.RoundLaws.{pairs-map, reads-each}
 use Rattle.mirror_rules.proofs.PageLaws.{pairs-then, pairs-both}
+use Rattle.mirror_rules.proofs.GuardLaws.{Rises, rises_out, rises_left, rises_live}
 use Rattle.mirror_layer.specs.View.{Beside}
-use Rattle.mirror_layer.specs.Ground.{as_imaged, kept_told, disk_seen, disks_seen, live_pages, pages_told, Differ, Counted, counted}
-use Rattle.mirror_layer.proofs.SeenLaws.{Step, Apart, Somewhere, some_here, some_later, Calm, Rises, Blamed}
+use Rattle.mirror_layer.specs.Ground.{as_imaged, image_told, kept_told, disk_seen, disks_seen, live_pages, pages_told, Differ, Counted, counted}
+use Rattle.mirror_layer.proofs.SeenLaws.{Step, Apart, Somewhere, some_here, some_later, Calm, Blamed}
+use Rattle.mirror_layer.proofs.SeenLaws as laws
 
--- a disk in a call: T, whether all is told; F, the ground's pages at its start
-pub data Change (T : Bool) (F : List (List ℕ)) : Seat → Seat → Type 0 where
-  change_out : {b : Bool} {s : Store} → Change T F (Out b s) (Out b s)
-  change_left : {c : Cell} → Change T F (In false c) (In false c)
-  change_live : {c d : Cell} → d.disk ≡ c.disk → c.faults ≤ d.faults → (T ≡ true → (claims.pages_in d.kept ≡ claims.pages_in c.kept) ⊎ (claims.pages_in d.kept ≡ Some F)) → Change T F (In true c) (In true d)
-  change_lost : {c d : Cell} → d.disk ≡ c.disk → c.faults < d.faults → Change T F (In true c) (In false d)
+-- the image of a disk: as it was, or with the ground's pages, F at the call's start and G at its end
+pub data Turning (T : Bool) (F G : List (List ℕ)) (c d : Cell) : Type 0 where
+  turning_same : d.now ≡ c.now → Turning T F G c d
+  turning_to : c.now.generation ≤ d.now.generation → (T ≡ true → (d.now.pages ≡ F) ⊎ (d.now.pages ≡ G)) → Turning T F G c d
 
-pub look-change : {T : Bool} {F : List (List ℕ)} {s : Says} {xs ys : List Seat} → Pairs (Looked s) xs ys → Pairs (Change T F) xs ys
+-- a disk in a call: T, whether all is told; F and G, the ground's pages at its start and at its end
+pub data Change (T : Bool) (F G : List (List ℕ)) : Seat → Seat → Type 0 where
+  change_out : {b : Bool} {s : Store} → Change T F G (Out b s) (Out b s)
+  change_left : {c : Cell} → Change T F G (In false c) (In false c)
+  change_live : {c d : Cell} → d.disk ≡ c.disk → c.faults ≤ d.faults → (T ≡ true → (claims.pages_in d.kept ≡ claims.pages_in c.kept) ⊎ (claims.pages_in d.kept ≡ Some F)) → Turning T F G c d → Change T F G (In true c) (In true d)
+  change_lost : {c d : Cell} → d.disk ≡ c.disk → c.faults < d.faults → Turning T F G c d → Change T F G (In true c) (In false d)
+
+live-pages : {F : List (List ℕ)} {c : Cell} → HasPages F (In true c) → c.now.pages ≡ F
+live-pages (pages_live e) = e
+
+first-has : {F : List (List ℕ)} {y : Seat} {ys : List Seat} → Every (HasPages F) (y ∷ ys) → HasPages F y
+first-has (every_more k i) = k
+
+rest-have : {F : List (List ℕ)} {y : Seat} {ys : List Seat} → Every (HasPages F) (y ∷ ys) → Every (HasPages F) ys
+rest-have (every_more k i) = i
+
+pub look-change : {T : Bool} {F G : List (List ℕ)} {s : Says} {xs ys : List Seat} → Pairs (Looked s) xs ys → Pairs (Change T F G) xs ys
 look-change h = pairs-map (λ x y. one) h where
-  one : {T : Bool} {F : List (List ℕ)} {s : Says} {x y : Seat} → Looked s x y → Change T F x y
+  one : {T : Bool} {F G : List (List ℕ)} {s : Says} {x y : Seat} → Looked s x y → Change T F G x y
   one looked_out = change_out
   one looked_stale = change_left
-  one (looked_same e) = change_live refl (omega arith) (λ t. inl refl)
-  one (looked_refused l) = change_live refl (omega arith) (λ t. inl refl)
+  one (looked_same e) = change_live refl (omega arith) (λ t. inl refl) (turning_same refl)
+  one (looked_refused l) = change_live refl (omega arith) (λ t. inl refl) (turning_same refl)
 
-pub put-change : {T : Bool} {F : List (List ℕ)} {p : ℕ} {x : List ℕ} {s : Says} {xs ys : List Seat} → Pairs (Asked (Write p x) s) xs ys → Pairs (Change T F) xs ys
-put-change h = pairs-map (λ x y. one) h where
-  one : {T : Bool} {F : List (List ℕ)} {p : ℕ} {v : List ℕ} {s : Says} {x y : Seat} → Asked (Write p v) s x y → Change T F x y
-  one asked_out = change_out
-  one asked_stale = change_left
-  one (asked_took write_taken) = change_live refl (omega arith) (λ t. inl refl)
-  one (asked_lost (refused l)) = change_lost refl l
-  one (asked_none (refused l)) = change_live refl (omega arith) (λ t. inl refl)
+put-one : {T : Bool} {F G : List (List ℕ)} {p : ℕ} {v : List ℕ} {s : Says} {x y : Seat} → Asked (Write p v) s x y → (T ≡ true → HasPages G y) → Change T F G x y
+put-one asked_out q = change_out
+put-one asked_stale q = change_left
+put-one (asked_took write_taken) q = change_live refl (omega arith) (λ t. inl refl) (turning_to (omega arith) (λ t. inr (live-pages (q t))))
+put-one (asked_lost (refused l)) q = change_lost refl l (turning_same refl)
+put-one (asked_none (refused l)) q = change_live refl (omega arith) (λ t. inl refl) (turning_same refl)
 
-pub flush-change : (T : Bool) {F : List (List ℕ)} {f r : Bool} {xs ys : List Seat} → Pairs (Keeps f r) xs ys → (T ≡ true → Every (HasPages F) xs) → Pairs (Change T F) xs ys
-flush-change false h p = pairs-map (λ x y. one) h where
-  one : {F : List (List ℕ)} {f r : Bool} {x y : Seat} → Keeps f r x y → Change false F x y
-  one keeps_out = change_out
-  one keeps_left = change_left
-  one (keeps_live {c = c} {d = d} h a b) = change_live {c = c} {d = d} h.disk h.later (λ e. cc)
-  one (keeps_lost h a) = change_lost h.disk a
-flush-change true h p = pairs-both (λ x y. one) h (p refl) where
-  one : {F : List (List ℕ)} {f r : Bool} {x y : Seat} → Keeps f r x y → HasPages F x → Change true F x y
-  one keeps_out q = change_out
-  one keeps_left q = change_left
-  one (keeps_live {c = c} {d = d} h a b) (pages_live e) = change_live {c = c} {d = d} h.disk h.later (λ t. elim h.kept [ inl q ↦ inl q | inr q ↦ inr (q ∙ ap (λ (v : List (List ℕ)). Some v) e) ])
-  one (keeps_lost h a) q = change_lost h.disk a
+pub put-change : {T : Bool} {F G : List (List ℕ)} {p : ℕ} {v : List ℕ} {s : Says} {xs ys : List Seat} → Pairs (Asked (Write p v) s) xs ys → (T ≡ true → Every (HasPages G) ys) → Pairs (Change T F G) xs ys
+put-change pairs_none h = pairs_none
+put-change (pairs_more k i) h = pairs_more (put-one k (λ t. first-has (h t))) (put-change i (λ t. rest-have (h t)))
+
+flush-one : {T : Bool} {F G : List (List ℕ)} {f r : Bool} {x y : Seat} → Keeps f r x y → Rises x y → (T ≡ true → HasPages F x) → Change T F G x y
+flush-one keeps_out q p = change_out
+flush-one keeps_left q p = change_left
+flush-one (keeps_live {c = c} {d = d} h a b) (rises_live s) p =
+    change_live {c = c} {d = d} h.disk h.later (λ t. elim h.kept [ inl q ↦ inl q | inr q ↦ inr (q ∙ ap (λ (v : List (List ℕ)). Some v) (live-pages (p t))) ]) (turning_to s.later (λ t. inl (s.pages ∙ live-pages (p t))))
+flush-one (keeps_lost {c = c} {d = d} h a) (rises_live s) p = change_lost {c = c} {d = d} h.disk a (turning_to s.later (λ t. inl (s.pages ∙ live-pages (p t))))
+
+pub flush-change : {T : Bool} {F G : List (List ℕ)} {f r : Bool} {xs ys : List Seat} → Pairs (Keeps f r) xs ys → Pairs Rises xs ys → (T ≡ true → Every (HasPages F) xs) → Pairs (Change T F G) xs ys
+flush-change pairs_none pairs_none p = pairs_none
+flush-change (pairs_more k h) (pairs_more r i) p = pairs_more (flush-one k r (λ t. first-has (p t))) (flush-change h i (λ t. rest-have (p t)))
 
 -- what a disk kept, as it is told
 imaged-pages : (k : Option Image) → option_map {T = Imaged} (λ v. v.pages) (option_map {T = Image} as_imaged k) ≡ claims.pages_in k
@@ -71,23 +86,35 @@ told-step : (t : Bool) (k j : Option Image) → is_some (kept_told t j) ≡ is_s
 told-step true k j = refl
 told-step false k j = refl
 
-change-step : (T : Bool) (F : List (List ℕ)) (b : Beside) {x y : Seat} → Counted b x → Change T F x y → Step (pages_told T F) (disk_seen b x) (disk_seen b y)
-change-step T F b (counted e l) change_out = record { disk = refl; opened = refl; told = refl; later = omega arith; since = l; live = λ q. cc; lost = λ q. cc; kept = λ q. cc }
-change-step T F b (counted e l) change_left = record { disk = refl; opened = refl; told = refl; later = omega arith; since = l; live = λ q. cc; lost = λ q. cc; kept = λ q. cc }
-change-step T F b (counted e l) (change_live {c = c} {d = d} i k f) = record { disk = i; opened = refl; told = told-step b.told c.kept d.kept; later = k; since = l; live = λ q. refl; lost = λ q. inl refl; kept = λ q. kept-step T b.told F c.kept d.kept f }
-change-step T F b (counted e l) (change_lost {c = c} {d = d} i k) = record { disk = i; opened = refl; told = told-step b.told c.kept d.kept; later = omega arith; since = l; live = λ q. cc; lost = λ q. inr k; kept = λ q. cc }
+-- the image of a disk, as it is told
+are-told : (T : Bool) (F G ps : List (List ℕ)) → (T ≡ true → (ps ≡ F) ⊎ (ps ≡ G)) → Are (pages_told T F) ps ⊎ Are (pages_told T G) ps
+are-told false F G ps f = inl tt
+are-told true F G ps f = f refl
 
-pub steps : {T : Bool} {F : List (List ℕ)} {bs : List Beside} {xs ys : List Seat} → Pairs Counted bs xs → Pairs (Change T F) xs ys → Pairs (Step (pages_told T F)) (disks_seen bs xs) (disks_seen bs ys)
+turn-step : (T t : Bool) (F G : List (List ℕ)) {c d : Cell} → Turning T F G c d → (image_told t (Some d.now) ≡ image_told t (Some c.now)) ⊎ Turns (pages_told T F) (pages_told T G) (image_told t (Some c.now)) (image_told t (Some d.now))
+turn-step T false F G h = inl refl
+turn-step T true F G (turning_same e) = inl (ap (λ (v : Image). image_told true (Some v)) e)
+turn-step T true F G {c} {d} (turning_to l f) = inr (record { old = as_imaged c.now; new = as_imaged d.now; was = refl; is = refl; later = l; pages = are-told T F G d.now.pages f })
+
+change-step : (T : Bool) (F G : List (List ℕ)) (b : Beside) {x y : Seat} → Counted b x → Change T F G x y → Step (pages_told T F) (pages_told T G) (disk_seen b x) (disk_seen b y)
+change-step T F G b (counted e l) change_out = record { disk = refl; opened = refl; told = refl; later = omega arith; since = l; live = λ q. cc; lost = λ q. cc; kept = λ q. cc; up = refl; turned = inl refl }
+change-step T F G b (counted e l) change_left = record { disk = refl; opened = refl; told = refl; later = omega arith; since = l; live = λ q. cc; lost = λ q. cc; kept = λ q. cc; up = refl; turned = inl refl }
+change-step T F G b (counted e l) (change_live {c = c} {d = d} i k f m) =
+    record { disk = i; opened = refl; told = told-step b.told c.kept d.kept; later = k; since = l; live = λ q. refl; lost = λ q. inl refl; kept = λ q. kept-step T b.told F c.kept d.kept f; up = refl; turned = turn-step T b.told F G m }
+change-step T F G b (counted e l) (change_lost {c = c} {d = d} i k m) =
+    record { disk = i; opened = refl; told = told-step b.told c.kept d.kept; later = omega arith; since = l; live = λ q. cc; lost = λ q. inr k; kept = λ q. cc; up = refl; turned = turn-step T b.told F G m }
+
+pub steps : {T : Bool} {F G : List (List ℕ)} {bs : List Beside} {xs ys : List Seat} → Pairs Counted bs xs → Pairs (Change T F G) xs ys → Pairs (Step (pages_told T F) (pages_told T G)) (disks_seen bs xs) (disks_seen bs ys)
 steps pairs_none pairs_none = pairs_none
-steps {T} {F} (pairs_more {x = b} c h) (pairs_more k i) = pairs_more (change-step T F b c k) (steps h i)
+steps {T} {F} {G} (pairs_more {x = b} c h) (pairs_more k i) = pairs_more (change-step T F G b c k) (steps h i)
 
-pub counts-after : {T : Bool} {F : List (List ℕ)} {bs : List Beside} {xs ys : List Seat} → Pairs Counted bs xs → Pairs (Change T F) xs ys → Pairs Counted bs ys
+pub counts-after : {T : Bool} {F G : List (List ℕ)} {bs : List Beside} {xs ys : List Seat} → Pairs Counted bs xs → Pairs (Change T F G) xs ys → Pairs Counted bs ys
 counts-after h i = pairs-then (λ b x y. one) h i where
-  one : {T : Bool} {F : List (List ℕ)} {b : Beside} {x y : Seat} → Counted b x → Change T F x y → Counted b y
+  one : {T : Bool} {F G : List (List ℕ)} {b : Beside} {x y : Seat} → Counted b x → Change T F G x y → Counted b y
   one k change_out = k
   one k change_left = k
-  one (counted e l) (change_live i m f) = counted (i ∙ e) (omega arith)
-  one (counted e l) (change_lost i m) = counted (i ∙ e) (omega arith)
+  one (counted e l) (change_live i m f q) = counted (i ∙ e) (omega arith)
+  one (counted e l) (change_lost i m q) = counted (i ∙ e) (omega arith)
 
 -- numbers that differ
 seen-disk : (b : Beside) (x : Seat) → (disk_seen b x).disk ≡ disk_of x
@@ -214,7 +241,7 @@ answers-where (pairs_more c h) (answers_later k) = some_later (answers-where h k
 answers-where pairs_none h = elim h [ ]
 
 -- a refused call
-pub rises : {bs : List Beside} {xs ys : List Seat} → Pairs Counted bs xs → Pairs Rose xs ys → Pairs Rises (disks_seen bs xs) (disks_seen bs ys)
+pub rises : {bs : List Beside} {xs ys : List Seat} → Pairs Counted bs xs → Pairs Rose xs ys → Pairs laws.Rises (disks_seen bs xs) (disks_seen bs ys)
 rises pairs_none pairs_none = pairs_none
 rises (pairs_more c h) (pairs_more (rose_live {b = true} l) i) = pairs_more (λ e. l) (rises h i)
 rises (pairs_more c h) (pairs_more (rose_live {b = false} l) i) = pairs_more (λ e. l) (rises h i)

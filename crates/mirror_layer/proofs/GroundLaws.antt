@@ -1,26 +1,28 @@
 -- What a ground tells after each of its calls.
-use Rattle.std.proofs.Common.{◌≡◌, ℕ, ◌<◌, ◌≤◌, Bool, true, false, List, [], ◌∷◌, ◌++◌, set, length, Option, Some, None, IfSome, refl, sym, ap, ◌∙◌, subst, length-set}
+use Rattle.std.proofs.Common.{◌≡◌, ◌⊎◌, inl, inr, ℕ, min, ◌+◌, ◌^◌, ◌<◌, ◌≤◌, nat_lt, arith, Bool, true, false, List, [], ◌∷◌, ◌++◌, set, length, Option, Some, None, IfSome, refl, sym, ap, ◌∙◌, subst, length-set}
+use Rattle.std.proofs.lemmas.Bool.Decides.{nat_tests}
+use Rattle.disk_format.specs.Image.{Imaged}
 use Rattle.std.specs.Prelude.{slice_get, OnOk, OnErr, IfErr, Result, Ok, Err}
 use Rattle.disk_format.specs.declared.shape.ImageShape.{ImageShape}
 use Rattle.disk_layer.specs.declared.fault.StoreFault.{StoreFault}
-use Rattle.disk_layer.specs.Seen.{DiskSeen, Keeps, IsCalm, IsFault, ReadsPage, AllKept, KeptAt, with_page}
+use Rattle.disk_layer.specs.Seen.{Are, DiskSeen, Keeps, IsCalm, IsFault, ReadsPage, AllKept, KeptAt, with_page}
 use Rattle.mirror_rules.specs.Tree.{Image, Cell, Seat, In, Out, Tree, seats, top, limit}
-use Rattle.mirror_rules.specs.Claims.{Pairs, pairs_none, pairs_more, Every, every_none, every_more, Has, IsLive, HasPages, KeepsPages, keeping_live, keeping_left, keeping_out, Even}
+use Rattle.mirror_rules.specs.Claims.{Pairs, pairs_none, pairs_more, Every, every_none, every_more, Has, IsLive, HasPages, pages_live, KeepsPages, keeping_live, keeping_left, keeping_out, HasLevel, level_live, level_left, Even}
 use Rattle.mirror_rules.specs.Claims as claims
 use Rattle.mirror_rules.specs.Steps.{Write, Says, Done, Fault, Round, Reads, Look, Flushes, Puts, put_whole, put_lost, put_refused}
 use Rattle.mirror_rules.specs.Guards.{Within, Guarding, live_at, Lower}
 use Rattle.mirror_rules.specs.History.{Since_then}
-use Rattle.mirror_rules.proofs.GuardLaws.{guards-flush, guards-found}
+use Rattle.mirror_rules.proofs.GuardLaws.{flushes-rise, guards-flush, guards-found}
 use Rattle.mirror_rules.proofs.RoundLaws.{reads-look}
 use Rattle.mirror_rules.proofs.PageLaws.{flush_keeps, keeps-holds, flush-done, flush-rose, flush-names, write-rose, write-names, read-rose, write-holds, refused-holds, read-holds, read-gives, write_round}
-use Rattle.mirror_rules.proofs.GenLaws.{puts-even, look-even, flush-even, flush-bounded, write-bounded, look-bounded}
+use Rattle.mirror_rules.proofs.GenLaws.{flush-levels, puts-even, look-even, flush-even, flush-bounded, write-bounded, look-bounded}
 use Rattle.mirror_layer.specs.declared.node.Node.{Node, Opened, Shut, Coherency', Mirror'}
 use Rattle.mirror_layer.specs.View.{Beside, beside_in}
 use Rattle.mirror_layer.specs.Calls.{all_told, answered}
 use Rattle.mirror_layer.specs.Calls as calls
-use Rattle.mirror_layer.specs.Ground.{Ground, IsGround, Counted, outcome, kept_told, disk_seen, disks_seen, live_pages, pages_told, seen_of}
+use Rattle.mirror_layer.specs.Ground.{Ground, IsGround, Counted, outcome, as_imaged, image_told, kept_told, disk_seen, disks_seen, live_pages, pages_told, seen_of}
 use Rattle.mirror_layer.proofs.ReadSteps.{Taken, Refused}
-use Rattle.mirror_layer.proofs.SeenLaws.{keeps-by, calm-by, fault-by, kept-each}
+use Rattle.mirror_layer.proofs.SeenLaws.{keeps-by, calm-by, fault-by, kept-each, live-each, up-each}
 use Rattle.mirror_layer.proofs.ChangeLaws.{Change, look-change, put-change, flush-change, steps, counts-after, apart, live-some, pages-are, got-back, round-calm, flush-calm, calm-where, reads-answer, answers-where, rises, blamed, look-live, round-live, flush-stay}
 
 every-left : {A : Type 0} {P : A → Type 0} (xs ys : List A) → Every P (xs ++ ys) → Every P xs
@@ -65,7 +67,7 @@ pub record After (g h : Ground) : Type 0 where
   pub keeps : Keeps (seen_of g) (seen_of h)
 
 abbrev Changes : Ground → List Seat → Type 0
-Changes g u = Pairs (Change (all_told g.beside) (live_pages g.row)) g.row u
+Changes g u = Pairs (Change (all_told g.beside) (live_pages g.row) (live_pages u)) g.row u
 
 next-ground : (g : Ground) (q : Bool) (u : List Seat) → IsGround g → Changes g u → Has IsLive u → (all_told g.beside ≡ true → (F : List (List ℕ)) × Every (HasPages F) u × (length F ≡ g.shape.pages)) → Even q u → top u ≤ limit
     → After g (ground g.shape q u g.beside)
@@ -106,15 +108,18 @@ puts-each (put_whole h) = h
 puts-each (put_lost h) = h
 puts-each (put_refused h) = h
 
-put-changes : (g : Ground) (q : Bool) (u : List Seat) {p : ℕ} {x : List ℕ} {s : Says} → Puts p x g.owed g.row s q u → Changes g u
-put-changes g q u h = put-change (puts-each h).each
-
 put-pages : (s : Says) (g : Ground) (q : Bool) (u : List Seat) {p : ℕ} {x : List ℕ} → IsGround g → Puts p x g.owed g.row s q u → all_told g.beside ≡ true → (F : List (List ℕ)) × Every (HasPages F) u × (length F ≡ g.shape.pages)
 put-pages (Done w) g q u {p} {x} i h t = let r = i.pages t in (set r.0 p x, write-holds (write_round (puts-each h)) r.1, length-set r.0 p x ∙ r.2)
 put-pages (Fault d n) g q u i h t = let r = i.pages t in (r.0, refused-holds (write_round (puts-each h)) r.1, r.2)
 
+put-live : (g : Ground) (q : Bool) (u : List Seat) {p : ℕ} {x : List ℕ} {s : Says} → IsGround g → Puts p x g.owed g.row s q u → all_told g.beside ≡ true → Every (HasPages (live_pages u)) u
+put-live g q u {s = s} i h t = let r = put-pages s g q u i h t in subst (λ F. Every (HasPages F) u) (sym (pages-are r.1 (round-live (puts-each h) i.live))) r.1
+
+put-changes : (g : Ground) (q : Bool) (u : List Seat) {p : ℕ} {x : List ℕ} {s : Says} → IsGround g → Puts p x g.owed g.row s q u → Changes g u
+put-changes g q u i h = put-change (puts-each h).each (put-live g q u i h)
+
 pub after-write : (g : Ground) (q : Bool) (u : List Seat) {p : ℕ} {x : List ℕ} {s : Says} → IsGround g → Puts p x g.owed g.row s q u → After g (ground g.shape q u g.beside)
-after-write g q u {s = s} i h = next-ground g q u i (put-changes g q u h) (round-live (puts-each h) i.live) (put-pages s g q u i h) (puts-even h i.even) (subst (λ v. v ≤ limit) (sym (write-bounded h)) i.within)
+after-write g q u {s = s} i h = next-ground g q u i (put-changes g q u i h) (round-live (puts-each h) i.live) (put-pages s g q u i h) (puts-even h i.even) (subst (λ v. v ≤ limit) (sym (write-bounded h)) i.within)
 
 pub write-pages : (g : Ground) (q : Bool) (u : List Seat) (p : ℕ) (x : List ℕ) {w : Bool} → IsGround g → Puts p x g.owed g.row (Done w) q u → (seen_of (ground g.shape q u g.beside)).pages ≡ with_page p x (seen_of g).pages
 write-pages g q u p x i h = told-set (all_told g.beside) (live_pages g.row) (live_pages u) p x (λ t. pages-are (write-holds (write_round (puts-each h)) (pages-of g i t)) (round-live (puts-each h) i.live))
@@ -123,14 +128,14 @@ pub write-same : (g : Ground) (q : Bool) (u : List Seat) {p : ℕ} {x : List ℕ
 write-same g q u i h = told-same (all_told g.beside) (live_pages g.row) (live_pages u) (λ t. pages-are (refused-holds (write_round (puts-each h)) (pages-of g i t)) (round-live (puts-each h) i.live))
 
 pub write-calm : (g : Ground) (q : Bool) (u : List Seat) {p : ℕ} {x : List ℕ} {w : Bool} → IsGround g → Puts p x g.owed g.row (Done w) q u → IsCalm (seen_of g) (seen_of (ground g.shape q u g.beside))
-write-calm g q u i h = calm-by (seen_of g) (seen_of (ground g.shape q u g.beside)) (steps i.counts (put-changes g q u h)) (apart i.counts i.differ) (calm-where i.counts (round-calm (puts-each h).each) (puts-each h).answer.0)
+write-calm g q u i h = calm-by (seen_of g) (seen_of (ground g.shape q u g.beside)) (steps i.counts (put-changes g q u i h)) (apart i.counts i.differ) (calm-where i.counts (round-calm (puts-each h).each) (puts-each h).answer.0)
 
 pub write-fault : (g : Ground) (q : Bool) (u : List Seat) (f : StoreFault) {p : ℕ} {x : List ℕ} → IsGround g → Puts p x g.owed g.row (Fault f.disk f.count) q u → IsFault (seen_of g) (seen_of (ground g.shape q u g.beside)) f
-write-fault g q u f i h = fault-by (seen_of g) (seen_of (ground g.shape q u g.beside)) f (steps i.counts (put-changes g q u h)) (apart i.counts i.differ) (rises i.counts (write-rose h)) (blamed i.counts (write-names h))
+write-fault g q u f i h = fault-by (seen_of g) (seen_of (ground g.shape q u g.beside)) f (steps i.counts (put-changes g q u i h)) (apart i.counts i.differ) (rises i.counts (write-rose h)) (blamed i.counts (write-names h))
 
 -- a flush
 flush-changes : (g : Ground) (q : Bool) (u : List Seat) {s : Says} → IsGround g → Flushes g.owed g.row s q u → Changes g u
-flush-changes g q u i h = flush-change (all_told g.beside) (flush_keeps h) (pages-of g i)
+flush-changes g q u i h = flush-change (flush_keeps h) (flushes-rise h i.within) (pages-of g i)
 
 pub after-flush : (g : Ground) (q : Bool) (u : List Seat) {s : Says} → IsGround g → Flushes g.owed g.row s q u → After g (ground g.shape q u g.beside)
 after-flush g q u i h = next-ground g q u i (flush-changes g q u i h) (flush-stay h i.live) (λ t. let r = i.pages t in (r.0, keeps-holds (flush_keeps h) r.1, r.2)) (flush-even h i.within i.even) (flush-bounded h i.within)
@@ -169,12 +174,66 @@ keeping : (T : Bool) (F : List (List ℕ)) {bs : List Beside} {ys : List Seat} �
 keeping T F pairs_none f = every_none
 keeping T F (pairs_more {x = b} {y = y} c h) f = every_more (keeps-one T F b y (λ t. first (f t))) (keeping T F h (λ t. rest (f t)))
 
+-- and each opened disk has the pages, or is behind
+held-is : (t : Bool) (now : Image) (i : Imaged) → image_told t (Some now) ≡ Some i → i ≡ as_imaged now
+held-is true now i e = cc
+held-is false now i e = cc
+
+level-one : (g : ℕ) (b : Beside) (y : Seat) → HasLevel g y → (disk_seen b y).live ≡ true → (i : Imaged) → (disk_seen b y).holds ≡ Some i → i.generation ≡ g
+level-one g b (In true c) (level_live e) l i is = ap (λ (v : Imaged). v.generation) (held-is b.told c.now i is) ∙ e
+level-one g b (In false c) h l i is = cc
+level-one g b (Out q s) h l i is = cc
+
+abbrev Behind : Option (List (List ℕ)) → ℕ → Imaged → Type 0
+Behind pages g j = Are pages j.pages ⊎ (j.generation < g) ⊎ (2 ^ 63 ≤ g + 1)
+
+are-pages : (T : Bool) (F ps : List (List ℕ)) → (T ≡ true → ps ≡ F) → Are (pages_told T F) ps
+are-pages true F ps f = f refl
+are-pages false F ps f = tt
+
+live-has : {F : List (List ℕ)} {c : Cell} → HasPages F (In true c) → c.now.pages ≡ F
+live-has (pages_live e) = e
+
+left-level : (g generation : ℕ) → min (generation + 1) limit ≤ g → (generation < g) ⊎ (2 ^ 63 ≤ g + 1)
+left-level g generation l = by (nat_lt generation g) refl
+  where
+    by : (t : Bool) → nat_lt generation g ≡ t → (generation < g) ⊎ (2 ^ 63 ≤ g + 1)
+    by true e = inl (grind (arith, nat_tests))
+    by false e = inr (let not_below : g ≤ generation = grind (arith, nat_tests) in omega (arith, not_below, l))
+
+behind-one : (T : Bool) (F : List (List ℕ)) (g : ℕ) (b : Beside) (y : Seat) → HasLevel g y → (T ≡ true → HasPages F y) → (disk_seen b y).up ≡ true → (j : Imaged) → (disk_seen b y).holds ≡ Some j → Behind (pages_told T F) g j
+behind-one T F g b (In true c) h p up j is = inl (are-pages T F j.pages (λ t. ap (λ (v : Imaged). v.pages) (held-is b.told c.now j is) ∙ live-has (p t)))
+behind-one T F g b (In false c) (level_left l) p up j is = inr (left-level g j.generation (subst (λ (v : Imaged). min (v.generation + 1) limit ≤ g) (sym (held-is b.told c.now j is)) l))
+behind-one T F g b (Out q s) h p up j is = cc
+
+first-has : {F : List (List ℕ)} {y : Seat} {ys : List Seat} → Every (HasPages F) (y ∷ ys) → HasPages F y
+first-has (every_more k i) = k
+
+rest-have : {F : List (List ℕ)} {y : Seat} {ys : List Seat} → Every (HasPages F) (y ∷ ys) → Every (HasPages F) ys
+rest-have (every_more k i) = i
+
+levels : (g : ℕ) {bs : List Beside} {ys : List Seat} → Pairs Counted bs ys → Every (HasLevel g) ys → Every (λ (d : DiskSeen). d.live ≡ true → (i : Imaged) → d.holds ≡ Some i → i.generation ≡ g) (disks_seen bs ys)
+levels g pairs_none every_none = every_none
+levels g (pairs_more {x = b} {y = y} c h) (every_more k i) = every_more (level-one g b y k) (levels g h i)
+
+behinds : (T : Bool) (F : List (List ℕ)) (g : ℕ) {bs : List Beside} {ys : List Seat} → Pairs Counted bs ys → Every (HasLevel g) ys → (T ≡ true → Every (HasPages F) ys) → Every (λ (d : DiskSeen). d.up ≡ true → (j : Imaged) → d.holds ≡ Some j → Behind (pages_told T F) g j) (disks_seen bs ys)
+behinds T F g pairs_none every_none p = every_none
+behinds T F g (pairs_more {x = b} {y = y} c h) (every_more k i) p = every_more (behind-one T F g b y k (λ t. first-has (p t))) (behinds T F g h i (λ t. rest-have (p t)))
+
 pub flush-kept : (g : Ground) (q : Bool) (u : List Seat) {w : Bool} → IsGround g → Flushes g.owed g.row (Done w) q u → AllKept (seen_of (ground g.shape q u g.beside)) (seen_of (ground g.shape q u g.beside)).pages
 flush-kept g q u i h =
     let a = (after-flush g q u i h).whole in
     let same : all_told g.beside ≡ true → live_pages u ≡ live_pages g.row = λ t. pages-are (keeps-holds (flush_keeps h) (pages-of g i t)) (flush-stay h i.live) in
-    kept-each (pages_told (all_told g.beside) (live_pages u)) (disks_seen g.beside u) (apart a.counts a.differ)
-    (keeping (all_told g.beside) (live_pages u) a.counts (λ t. subst (λ F. Every (KeepsPages F) u) (sym (same t)) (flush-done h (pages-of g i t))))
+    let at : Every (HasLevel (top u)) u = flush-levels h i.within i.even in
+    record {
+      kept = kept-each (pages_told (all_told g.beside) (live_pages u)) (disks_seen g.beside u) (apart a.counts a.differ)
+          (keeping (all_told g.beside) (live_pages u) a.counts (λ t. subst (λ F. Every (KeepsPages F) u) (sym (same t)) (flush-done h (pages-of g i t))));
+      behind = λ disk other i j live up is holds.
+          let level : i.generation ≡ top u = live-each (λ (v : Imaged). v.generation ≡ top u) (disks_seen g.beside u) (apart a.counts a.differ) (levels (top u) a.counts at) disk i live is in
+          subst (λ n. Behind (pages_told (all_told g.beside) (live_pages u)) n j) (sym level)
+          (up-each (Behind (pages_told (all_told g.beside) (live_pages u)) (top u)) (disks_seen g.beside u)
+          (behinds (all_told g.beside) (live_pages u) (top u) a.counts at (pages-of (ground g.shape q u g.beside) a)) other j up holds);
+    }
 
 -- each disk has the ground's pages
 pub has-pages : {D H : Type 0} (shape : ImageShape) (page size : ℕ) (n : Node D H) → Every (λ (b : Beside). b.shape ≡ shape) (beside_in n) → page < shape.pages → size ≡ shape.page_size → calls.HasPages page size n

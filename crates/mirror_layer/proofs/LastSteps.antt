@@ -13,13 +13,13 @@ use Rattle.mirror_layer.specs.Lasting.{Lasting, Given, Blames}
 
 pub lasting : {size n : ℕ} {o : Outcome} {ss : List Store} {row us : List Seat} → Opens true size n row o us → Pairs Meets ss row → Every (Sized n) ss → Lasting ss row us
 lasting h m z = record {
-  up = λ F ws L K d b c guarded l nth sub high. guards-open-bad K h m z l nth guarded sub high;
-  astray = λ F ws L guarded none away. guards-astray h m z none away guarded;
+  up = λ Vs L K d b c guarded l nth sub high. guards-open-bad K h m z l nth guarded sub high;
+  astray = λ Vs L guarded none away. guards-astray h m z none away guarded;
 }
 
 pub given : {size n : ℕ} {ss : List Store} {row us : List Seat} {owed : Bool} → Opens true size n row (Good owed) us → Pairs Meets ss row → Every (Sized n) ss → Given ss row us
 given {size} {n} {ss} {row} {us} {owed} h m z = record {
-  lasting = λ F ws L d b c guarded l nth. opens-within h m z l nth guarded;
+  lasting = λ Vs L d b c guarded l nth. opens-within h m z l nth guarded;
   gives = λ t e. opens-gives t (subst (λ v. Opens true size n v (Good owed) us) (sym e) h) (subst (λ v. Pairs Meets ss v) (sym e) m) z;
 }
 

@@ -27,9 +27,14 @@ abbrev pub kept_told : Bool → Option Image → Option (Option Imaged)
 kept_told true kept = Some (option_map {T = Image} as_imaged kept)
 kept_told false kept = None
 
+-- the image that a disk has, if it is told
+abbrev pub image_told : Bool → Option Image → Option Imaged
+image_told true has = option_map {T = Image} as_imaged has
+image_told false has = None
+
 abbrev pub disk_seen : Beside → Seat → DiskSeen
-disk_seen b (In live c) = record { disk = c.disk; live = live; kept = kept_told b.told c.kept; faults = c.faults; opened = b.opened }
-disk_seen b (Out bad s) = record { disk = s.disk; live = false; kept = kept_told b.told s.kept; faults = s.faults; opened = b.opened }
+disk_seen b (In live c) = record { disk = c.disk; live = live; up = true; holds = image_told b.told (Some c.now); kept = kept_told b.told c.kept; faults = c.faults; opened = b.opened }
+disk_seen b (Out bad s) = record { disk = s.disk; live = false; up = false; holds = image_told b.told s.image; kept = kept_told b.told s.kept; faults = s.faults; opened = b.opened }
 
 abbrev pub disks_seen : List Beside → List Seat → List DiskSeen
 disks_seen [] xs = []

@@ -128,7 +128,7 @@ pub record Risen (c d : Cell) : Type 0 where
   pub pages : d.now.pages ≡ c.now.pages
   pub later : c.now.generation ≤ d.now.generation
 
-data Rises : Seat → Seat → Type 0 where
+pub data Rises : Seat → Seat → Type 0 where
   rises_out : {b : Bool} {s : Store} → Rises (Out b s) (Out b s)
   rises_left : {c : Cell} → Rises (In false c) (In false c)
   rises_live : {b : Bool} {c d : Cell} → Risen c d → Rises (In true c) (In b d)
@@ -190,7 +190,7 @@ pays-rises : {o : Bool} {s : Says} {xs ys : List Seat} → Pays o xs s ys → to
 pays-rises (pays_none {xs = xs}) l = rise-same xs
 pays-rises (pays_raise h) l = raised-rises h l
 
-flushes-rise : {o q : Bool} {s : Says} {xs ys : List Seat} → Flushes o xs s q ys → top xs ≤ limit → Pairs Rises xs ys
+pub flushes-rise : {o q : Bool} {s : Says} {xs ys : List Seat} → Flushes o xs s q ys → top xs ≤ limit → Pairs Rises xs ys
 flushes-rise (flush_whole h i) l = rise-all (pays-rises h l) (flush-rise i.each)
 flushes-rise (flush_lost h i k) l = rise-all (rise-all (pays-rises h l) (flush-rise i.each)) (flushes-rise k (omega (arith, pays-bounded h l, round-bounded i.each)))
 flushes-rise (flush_none h i) l = rise-all (pays-rises h l) (flush-rise i.each)

@@ -14,6 +14,10 @@ Within A F = (p : ℕ) → p < length F → A p (get_or F p [])
 abbrev pub Or : Admissible → ℕ → List ℕ → Admissible
 Or A p x q y = A q y ⊎ ((q ≡ p) × (y ≡ x))
 
+-- a version of page p in one of these histories: V k p is its k-th in the history V
+pub data Among (Vs : List (ℕ → ℕ → List ℕ)) (p : ℕ) (x : List ℕ) : Type 0 where
+  among : {r : ℕ} {V : ℕ → ℕ → List ℕ} → Nth r Vs V → (k : ℕ) → x ≡ V k p → Among Vs p x
+
 -- exactly these pages
 abbrev pub Now : List (List ℕ) → Admissible
 Now F p x = x ≡ get_or F p []

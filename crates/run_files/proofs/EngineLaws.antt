@@ -1,5 +1,5 @@
 -- What the engine of a file left of the file, and of the disks under it.
-use Rattle.std.proofs.Common.{◌≡◌, inl, inr, ⊎_elim, ℕ, ◌*◌, ◌<◌, ◌≤◌, List, [], ◌∷◌, ◌++◌, length, Option, Some, None, IfSome, IsSome, refl, sym, ap, subst, ◌∙◌, arith}
+use Rattle.std.proofs.Common.{◌≡◌, ◌⊎◌, inl, inr, ⊎_elim, ℕ, ◌*◌, ◌<◌, ◌≤◌, List, [], ◌∷◌, ◌++◌, length, Option, Some, None, IfSome, IsSome, refl, sym, ap, subst, ◌∙◌, arith}
 use Rattle.std.specs.Prelude.{Contains, slice_get}
 use Rattle.std.specs.List.{AllByRecursion}
 use Rattle.std.specs.Option.{option_map}
@@ -8,7 +8,7 @@ use Rattle.script_text.specs.declared.script.Reply.TheVariants.{Done}
 use Rattle.stack_accept.specs.Mount.{Mount}
 use Rattle.disk_format.specs.declared.shape.ImageShape.{ImageShape}
 use Rattle.disk_format.specs.Image.{Imaged, image}
-use Rattle.disk_layer.specs.Seen.{Seen, faults_in, live_in, opened_in, pages_in as told_in}
+use Rattle.disk_layer.specs.Seen.{AreBehind, Seen, held_in, faults_in, live_in, opened_in, pages_in as told_in}
 use Rattle.disk_layer.specs.Seen.{kept_in as kept_by}
 use Rattle.tower_core.specs.Legal.{FitsFile, IsLegal, file_after}
 use Rattle.tower_core.specs.Trail.{IsRun, start}
@@ -24,7 +24,7 @@ use Rattle.tower_shows.proofs.Stays.{told_stays}
 use Rattle.stack_engine.specs.Engine.{EngineSeen, IsSound, events_in, file_in, log_in, sides_in, tree_in}
 use Rattle.stack_engine.specs.Opened.{AreAnswers, IsOf, KeepsSince, last_from}
 use Rattle.stack_engine.specs.Start as engines
-use Rattle.shared_tower.specs.Later.{AreLater, IsLater, IsNoteOf, IsOnDisk, KeepsFirst}
+use Rattle.shared_tower.specs.Later.{AreLater, IsLater, IsNoteOf, IsOnDisk, KeepsFirst, TurnsFirst}
 use Rattle.run_defs.specs.declared.store.StoreKey.{StoreKey}
 use Rattle.run_defs.specs.Stack.{pages_of}
 use Rattle.file_stores.specs.Keys.{image_shape}
@@ -38,6 +38,15 @@ use Rattle.run_files.proofs.PageLaws.{image-many}
 abbrev pub Began : Mount → ℕ → Seen → EngineSeen → Type 0
 Began mount file ground e = (opening : List ℕ) (told : List (List ℕ)) → ground.pages ≡ Some told
     → length opening ≡ pages_of mount file * mount.page_size → ArePagesOf mount.page_size (pages_of mount file) opening told → IsOf opening e
+
+-- an image became one of no lower generation, with pages that the file had at some place
+pub record IsTurnedIn (mount : Mount) (opening : List ℕ) (log : List Logged) (then now : Option Imaged) : Type 0 where
+  pub old : Imaged
+  pub new : Imaged
+  pub was : then ≡ Some old
+  pub is : now ≡ Some new
+  pub later : old.generation ≤ new.generation
+  pub since : Holds mount opening log 0 new.pages
 
 -- an engine that was opened over a ground, and closed later on
 pub record EngineRun (mount : Mount) (file : ℕ) (before after : Seen) (e0 e1 : EngineSeen) : Type 0 where
@@ -123,6 +132,30 @@ module _ (mount : Mount) (file : ℕ) (before after : Seen) (e0 e1 : EngineSeen)
       subst (λ (g : Seen). IfSome g.pages (Holds mount opening (log_in e1) from)) (sym run.ground)
       (at-mount (λ t f. IfSome e1.ground.pages (AreSince t f.page_size opening (events_in e1) from))
       (told_stays (tree_in e1) (file_in e1).page_size (file_in e1).pages opening (events_in e1) (sides_in e1) e1.ground.pages from run.sound.true_to now.began (now.synced from last).ground))
+
+  -- and what has other pages is behind
+  pub reached-of : (opening : List ℕ) (from : ℕ) → IsOf opening e0 → last_from (events_in e1) ≡ Some from → from ≤ length (events_in e1)
+  reached-of opening from of last = ((run.later.of opening of).synced from last).reached
+
+  pub behind-of : (opening : List ℕ) (from : ℕ) → IsOf opening e0 → last_from (events_in e1) ≡ Some from → AreBehind (Holds mount opening (log_in e1) from) after
+  behind-of opening from of last =
+      subst (λ (g : Seen). AreBehind (Holds mount opening (log_in e1) from) g) (sym run.ground)
+      (at-mount (λ t f. AreBehind (AreSince t f.page_size opening (events_in e1) from) e1.ground) ((run.later.of opening of).synced from last).behind)
+
+  -- the image of a disk, live or not
+  pub turned-of : (opening : List ℕ) (disk : ℕ) → IsOf opening e0 → (held_in after.disks disk ≡ held_in before.disks disk) ⊎ IsTurnedIn mount opening (log_in e1) (held_in before.disks disk) (held_in after.disks disk)
+  turned-of opening disk of = by (run.later.turned opening (held_in e0.ground.disks disk) disk of (inl refl))
+    where
+      by : TurnsFirst opening (held_in e0.ground.disks disk) e1 disk → (held_in after.disks disk ≡ held_in before.disks disk) ⊎ IsTurnedIn mount opening (log_in e1) (held_in before.disks disk) (held_in after.disks disk)
+      by (inl same) = inl (ap (λ (g : Seen). held_in g.disks disk) run.ground ∙ (same ∙ ap (λ (g : Seen). held_in g.disks disk) run.opens.ground_is))
+      by (inr t) = inr (record {
+        old = t.old;
+        new = t.new;
+        was = ap (λ (g : Seen). held_in g.disks disk) (sym run.opens.ground_is) ∙ t.was;
+        is = ap (λ (g : Seen). held_in g.disks disk) run.ground ∙ t.is;
+        later = t.later;
+        since = at-mount (λ v f. AreSince v f.page_size opening (events_in e1) 0 t.new.pages) t.since;
+      })
 
   -- what a live disk keeps of a file that began with these bytes
   pub kept-of : (key : StoreKey) (closing : List Reply) (opening : List ℕ) (disk : ℕ) (first : Option (List (List ℕ))) (kept : List (List ℕ)) → key.file ≡ file → IsOf opening e0 → Contains (live_in after.disks) disk

@@ -3,6 +3,7 @@ pub mod PageLaws
 pub mod GivenLaws
 pub mod EngineLaws
 pub mod DiskLaws
+pub mod PromiseLaws
 pub mod MirrorLaws
 pub mod TurnLaws
 pub mod EndedLaws

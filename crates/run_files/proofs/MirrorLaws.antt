@@ -14,7 +14,7 @@ use Rattle.disk_format.specs.declared.shape.ImageShape.{ImageShape}
 use Rattle.disk_format.specs.Image.{Imaged, image}
 use Rattle.disk_layer.specs.Seen.{faults_in, live_in, numbers_in, opened_in, pages_in as told_in}
 use Rattle.disk_layer.specs.Seen.{kept_in as kept_by}
-use Rattle.mirror_rules.specs.Claims.{Every, every_none, every_more, Has, IsLive}
+use Rattle.mirror_rules.specs.Claims.{Every, every_none, every_more, Has, HasPages, IsLive}
 use Rattle.mirror_layer.specs.View.{Beside}
 use Rattle.mirror_layer.specs.Calls.{all_told}
 use Rattle.mirror_layer.specs.Ground.{Ground, IsGround, live_pages, pages_told, seen_of}
@@ -36,14 +36,18 @@ use Rattle.file_stores.specs.Files.{FileSeen, IsFile}
 use Rattle.file_stores.proofs.Lists.{to-map}
 use Rattle.file_stores.proofs.FileLaws.{file-number, in-disks}
 use Rattle.file_ground.specs.Under.{Many}
+use Rattle.file_ground.specs.Guards.{AreAmong, AreGuarded, HoldImages, IsUp}
 use Rattle.file_ground.specs.Opening.{content_of, faults_of, shape_of_file}
+use Rattle.file_ground.proofs.GuardLaws.{guarded-pages}
+use Rattle.file_ground.proofs.HeldLaws.{AreHeld, held-guards}
 use Rattle.file_ground.proofs.Lists.{get-within}
 use Rattle.file_ground.proofs.StoreLaws.{AllLast}
 use Rattle.file_ground.proofs.SpotLaws.{After, Before, after-at, before-at, live-few, live-some, numbers-seen}
 use Rattle.file_ground.proofs.UnderLaws.{counts-under}
 use Rattle.run_files.specs.Play.{KeepsNow}
-use Rattle.run_files.specs.Run.{AreTold, LeavesMirrors, Store, live_of}
-use Rattle.run_files.proofs.EngineLaws.{EngineRun, along-of, kept-of, rises-of, same-number, same-size, shows-of}
+use Rattle.run_files.specs.Run.{AreTold, LeavesMirrors, Store, live_of, versions}
+use Rattle.run_files.proofs.EngineLaws.{EngineRun, along-of, behind-of, kept-of, reached-of, rises-of, same-number, same-size, shows-of, turned-of}
+use Rattle.run_files.proofs.PromiseLaws.{TellsAt, guards-closed, guards-held, held-on}
 use Rattle.run_files.proofs.GivenLaws.{given-paged, lies-told, row-tree}
 use Rattle.run_files.proofs.PageLaws.{ArePaged, joined-are, length-of}
 
@@ -56,6 +60,11 @@ length-same (x ∷ xs) (y ∷ ys) e = ap suc (length-same xs ys (ap rest e))
     rest : List ℕ → List ℕ
     rest [] = []
     rest (n ∷ ns) = ns
+
+there-within : (xs : List StoreSeen) (k : ℕ) → k < length xs → (x : StoreSeen) × (slice_get xs k ≡ Some x)
+there-within [] k lt = absurd (omega arith)
+there-within (x ∷ xs) zero lt = (x, refl)
+there-within (x ∷ xs) (suc k) lt = there-within xs k (omega arith)
 
 -- A GROUND THAT WAS OPENED over a file's stores, as it is known later on, and closed then
 pub record Turn (mount : Mount) (more : List Logged) (f g : FileSeen) (a z : Ground) : Type 0 where
@@ -185,6 +194,32 @@ module _ (mount : Mount) (f g : FileSeen) (a z : Ground) (e0 e1 : EngineSeen) (c
         let shown : (seen_of a).pages ≡ Some F = pages-shown (all_told a.beside) (live_pages a.row) F all (pages-are given.3 turn.sound.0.live) in
         (F, shown, given-paged mount shape shaped tells seen.brought seen.meets tree.1 given.2 given.4.1)
 
+    content-some : (o : Option Content) → IsSome o → (c : Content) × (o ≡ Some c)
+    content-some None h = absurd cc
+    content-some (Some c) h = (c, refl)
+
+    lasts-told : (k : ℕ) (old new : StoreSeen) → Store f g k old new → IsSome new.state.content
+    lasts-told k old new at = still old.state.content new.state.content (tells k old at.0) ((lasts mount (log_in e1) f g a z turn).each k old new at.0 at.1).1
+      where
+        still : (x y : Option Content) → IsSome x → IfSome x (λ _. IsSome y) → IsSome y
+        still None y h t = absurd cc
+        still (Some c) y h t = t
+
+    last-shape-is : z.shape ≡ shape
+    last-shape-is =
+        let size : z.shape.page_size ≡ mount.page_size = same-size mount f.file (seen_of a) (seen_of z) e0 e1 run in
+        let number : z.shape.pages ≡ pages_of mount f.file = same-number mount f.file (seen_of a) (seen_of z) e0 e1 run in
+        λ i. record { page_size = size i; pages = number i }
+
+    -- the store of each disk tells what it holds
+    told-store : (k : ℕ) → k < length f.stores → TellsAt g.stores k
+    told-store k inside =
+        let old = there-within f.stores k inside in
+        let len = many mount (log_in e1) f g a z turn in
+        let new = there-within g.stores k (omega (arith, inside, len)) in
+        let c = content-some new.0.state.content (lasts-told k old.0 new.0 (old.1, new.1)) in
+        record { store = new.0; content = c.0; there = new.1; tells = c.1 }
+
     pub told-of : AreTold mount closing (log_in e1) f g a z
     told-of =
         let F : List (List ℕ) = paged-pages.0 in
@@ -198,6 +233,10 @@ module _ (mount : Mount) (f g : FileSeen) (a z : Ground) (e0 e1 : EngineSeen) (c
           began = joined-are shape F are;
           along = along-of mount f.file (seen_of a) (seen_of z) e0 e1 run opening of;
           shows = λ from last. shows-of mount f.file (seen_of a) (seen_of z) e0 e1 run opening from of last;
+          reached = λ from last. reached-of mount f.file (seen_of a) (seen_of z) e0 e1 run opening from of last;
+          guards = λ from last low.
+              guards-closed mount opening (log_in e1) from shape g.stores z turn.back turn.still last-shape-is low (behind-of mount f.file (seen_of a) (seen_of z) e0 e1 run opening from of last)
+              (λ k live. told-store k (few mount (log_in e1) f g a z turn k (turn.later.live k live)));
           kept = λ k old new at live.
               let own : old.key.file ≡ f.file = ap (λ (x : StoreKey). x.file) (key-at k old at.0) in
               let c = content-some new.state.content (lasts-told k old new at) in
@@ -209,17 +248,6 @@ module _ (mount : Mount) (f g : FileSeen) (a z : Ground) (e0 e1 : EngineSeen) (c
               (c.0, c.1, kept-of mount f.file (seen_of a) (seen_of z) e0 e1 run old.key closing opening k first (c.0).kept own of live was is (λ done. whole (ap (λ n. slice_get closing n) (sym own) ∙ done)));
         }
       where
-        content-some : (o : Option Content) → IsSome o → (c : Content) × (o ≡ Some c)
-        content-some None h = absurd cc
-        content-some (Some c) h = (c, refl)
-
-        lasts-told : (k : ℕ) (old new : StoreSeen) → Store f g k old new → IsSome new.state.content
-        lasts-told k old new at = still old.state.content new.state.content (tells k old at.0) ((lasts mount (log_in e1) f g a z turn).each k old new at.0 at.1).1
-          where
-            still : (x y : Option Content) → IsSome x → IfSome x (λ _. IsSome y) → IsSome y
-            still None y h t = absurd cc
-            still (Some c) y h t = t
-
         first-told : (o : Option (Option Imaged)) → is_some o ≡ true → told_in o ≡ Some (unwrap_or (told_in o) None)
         first-told None h = absurd cc
         first-told (Some i) h = refl
@@ -229,6 +257,25 @@ module _ (mount : Mount) (f g : FileSeen) (a z : Ground) (e0 e1 : EngineSeen) (c
             let size : z.shape.page_size ≡ mount.page_size = same-size mount f.file (seen_of a) (seen_of z) e0 e1 run in
             let number : z.shape.pages ≡ pages_of mount old.key.file = same-number mount f.file (seen_of a) (seen_of z) e0 e1 run ∙ ap (λ n. pages_of mount n) (sym own) in
             λ i. record { page_size = size i; pages = number i }
+
+  -- pages that are guarded are those of the ground
+  given-among : (tells : EachAt (λ at s. IsSome s.state.content) f.stores) (Vs : List (ℕ → ℕ → List ℕ)) → ((G : List (List ℕ)) × Every (HasPages G) a.row × AreAmong Vs G) → IfSome (seen_of a).pages (AreAmong Vs)
+  given-among tells Vs given = subst (λ (o : Option (List (List ℕ))). IfSome o (AreAmong Vs)) (sym (pages-shown (all_told a.beside) (live_pages a.row) given.0 (all tells) (pages-are given.1 turn.sound.0.live))) given.2
+
+  -- what the disks guarded they guard through the run
+  gone-on : (tells : EachAt (λ at s. IsSome s.state.content) f.stores) → HoldImages (shape_of_file mount f.file) f.stores → (Vs : List (ℕ → ℕ → List ℕ)) (disks : List ℕ) (disk : ℕ) → AreGuarded (shape_of_file mount f.file) Vs disks f.stores
+      → Contains disks disk → IsUp mount.ground turn.over.seen.row disk → AreGuarded (shape_of_file mount f.file) (versions mount (told-of tells).opening (log_in e1) 0 ∷ Vs) disks g.stores
+  unfolding told-of
+  gone-on tells images Vs disks disk guards found up =
+      let seen = turn.over.seen in
+      let opening : List ℕ = (told-of tells).opening in
+      let of : IsOf opening e0 = run.began opening (paged-pages tells).0 (paged-pages tells).1 (length-of (shape_of_file mount f.file) (paged-pages tells).0 (paged-pages tells).2) (joined-are (shape_of_file mount f.file) (paged-pages tells).0 (paged-pages tells).2) in
+      let held : AreHeld Vs disks (seen_of a).disks =
+      held-guards (shape_of_file mount f.file) f.stores mount.ground seen.stores_seen a.beside seen.row a.row Vs disks tells seen.brought seen.lies turn.sound.0.counts turn.sound.0.differ guards images
+      (λ n inside. numbers-each (disks_in mount.ground) (length f.stores) (plan mount (log_in e1) f g a z turn) n inside) (turn.over.lasting (all tells)) disk found up in
+      guards-held (shape_of_file mount f.file) g.stores z turn.back turn.still (last-shape-is tells) (versions mount opening (log_in e1) 0 ∷ Vs) disks
+      (held-on mount opening (log_in e1) Vs disks (seen_of a).disks (seen_of z).disks (λ n. turned-of mount f.file (seen_of a) (seen_of z) e0 e1 run opening n of) held)
+      (λ k on. let has = (guards.there k on).1 in told-store tells k (get-within f.stores k has.store has.there))
 
   pub mirrors-left : LeavesMirrors mount closing (log_in e1) f g
   mirrors-left = record {
@@ -242,4 +289,6 @@ module _ (mount : Mount) (f g : FileSeen) (a z : Ground) (e0 e1 : EngineSeen) (c
     fell = fell mount (log_in e1) f g a z turn;
     rises = rises;
     told = λ tells. told-of tells;
+    goes_on = λ tells images Vs disks disk guards found up. gone-on tells images Vs disks disk guards found up;
+    gives = λ tells Vs disks disk guards found up. given-among tells Vs (guarded-pages (shape_of_file mount f.file) f.stores mount.ground turn.over.seen.stores_seen Vs disks tells turn.over.seen.brought guards turn.over.seen.row a.row disk (turn.over.given (all tells)) found up);
   }

@@ -92,6 +92,7 @@ turn-lasts mount more f g _ _ (turn_many {a} {z} some turn) = lasts mount more f
 pub later-same : (a b : Seen) → b ≡ a → AreLater [] a b
 later-same a b same = subst (AreLater [] a) (sym same) (record {
   disks = refl;
+  up = λ disk. refl;
   told = λ disk. refl;
   live = λ disk live. live;
   some = λ some. some;

@@ -4,3 +4,4 @@ pub mod Play
 pub mod Room
 pub mod Run
 pub mod Told
+pub mod Promise

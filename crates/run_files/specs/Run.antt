@@ -1,5 +1,5 @@
 -- What a run does to the files of a stack and their stores, and what it writes.
-use Rattle.std.specs.Prelude.{◌≡◌, ◌⊎◌, ℕ, ◌*◌, ◌<◌, ◌≤◌, List, [], ◌∷◌, map, length, slice_get, unwrap_or, Option, Some, None, IfSome, IsSome, Contains, Bool, if◌then◌else◌}
+use Rattle.std.specs.Prelude.{◌≡◌, ◌⊎◌, ℕ, min, ◌+◌, ◌*◌, ◌^◌, ◌<◌, ◌≤◌, List, [], ◌∷◌, map, length, slice_get, unwrap_or, Option, Some, None, IfSome, IsSome, Contains, Bool, false, if◌then◌else◌}
 use Rattle.std.specs.List.{AllByRecursion}
 use Rattle.std.specs.Option.{option_map}
 use Rattle.hist_plain.specs.declared.TheConstants.{MAX_EVENTS}
@@ -15,6 +15,7 @@ use Rattle.tower_log.specs.declared.logged.Logged.{Logged}
 use Rattle.tower_log.specs.declared.logged.Logged.TheVariants.{Entered, Noted}
 use Rattle.tower_log.specs.Log.{place_of, trail_of}
 use Rattle.tower_log.specs.Notes.{Rises, counts_of}
+use Rattle.tower_pages.specs.Shown.{page_shown}
 use Rattle.tower_shows.specs.Began.{ArePagesOf}
 use Rattle.tower_shows.specs.Since.{AreSince}
 use Rattle.stack_engine.specs.Opened.{AreAnswers, last_from}
@@ -30,7 +31,7 @@ use Rattle.disk_format.specs.Image.{Imaged, image}
 use Rattle.spr_report.specs.declared.status.Status.{Status}
 use Rattle.spr_report.specs.declared.status.Status.TheVariants as statuses
 use Rattle.spr_report.specs.Report.{report}
-use Rattle.disk_layer.specs.Seen.{kept_in, live_in}
+use Rattle.disk_layer.specs.Seen.{is_up_in, kept_in, live_in}
 use Rattle.disk_layer.specs.Seen.{pages_in as told_in}
 use Rattle.mirror_layer.specs.Ground.{Ground, IsGround, seen_of}
 use Rattle.mirror_layer.specs.Bringing.{OpenedOver}
@@ -39,6 +40,7 @@ use Rattle.file_stores.specs.Keys.{EachAt, stores_of, image_shape}
 use Rattle.file_stores.specs.State.{StoreState, Returned}
 use Rattle.file_stores.specs.Held.{StoreSeen}
 use Rattle.file_stores.specs.Files.{FileSeen, StandsAt, stores_in}
+use Rattle.file_ground.specs.Guards.{AreAmong, AreGuarded, HasImage, HoldImages, IsUp}
 use Rattle.file_ground.specs.Opening.{content_of, faults_of, shape_of_file}
 use Rattle.run_files.specs.Held.{AreFiles, Closes, IsUnheld}
 use Rattle.file_stores.specs.declared.stop.Stop.{Stop}
@@ -119,6 +121,10 @@ pub record Leaves (mount : Mount) (closing : List Reply) (log : List Logged) (ke
   pub calm : counts_of key.disk log ≡ [] → new.faults ≡ old.faults
   pub told : IfSome old.content (λ content. IsTold mount closing log key content new.content)
 
+-- THE HISTORY OF A FILE from a place of its log on: version k of a page is the page k places later, or at the end
+abbrev pub versions : Mount → List ℕ → List Logged → ℕ → ℕ → ℕ → List ℕ
+versions mount opening log from k page = page_shown mount.tree mount.page_size opening (trail_of log) page (min (from + k) (length (trail_of log)))
+
 -- the disks of a ground that are live
 abbrev pub live_of : Ground → List ℕ
 live_of g = live_in (seen_of g).disks
@@ -126,6 +132,11 @@ live_of g = live_in (seen_of g).disks
 -- the store of this number before and after
 abbrev pub Store : FileSeen → FileSeen → ℕ → StoreSeen → StoreSeen → Type 0
 Store f g disk old new = (slice_get f.stores disk ≡ Some old) × (slice_get g.stores disk ≡ Some new)
+
+-- no live disk has the last generation, and a disk that was not opened has a lower one than each live disk
+pub record AreLower (shape : ImageShape) (closed : Ground) (stores : List StoreSeen) : Type 0 where
+  pub limit : (disk : ℕ) (i : Imaged) → Contains (live_of closed) disk → HasImage shape stores disk i → i.generation + 1 < 2 ^ 63
+  pub lower : (disk other : ℕ) (i j : Imaged) → Contains (live_of closed) disk → is_up_in (seen_of closed).disks other ≡ false → HasImage shape stores disk i → HasImage shape stores other j → j.generation < i.generation
 
 -- the stores of disks in mirrors told their content: the pages of the ground as it was opened began the file, and each disk that is live at
 -- the end keeps what it is to keep
@@ -137,6 +148,10 @@ pub record AreTold (mount : Mount) (closing : List Reply) (log : List Logged) (f
   pub along : IsAlong mount f.file opening log
   -- behind a completed sync the pages of the ground are, page by page, the file as it was at some place from that sync on
   pub shows : (from : ℕ) → last_from (trail_of log) ≡ Some from → IfSome (seen_of closed).pages (Holds mount opening log from)
+  -- and then the disks that are live at the end guard the pages as they were from that sync on
+  pub reached : (from : ℕ) → last_from (trail_of log) ≡ Some from → from ≤ length (trail_of log)
+  pub guards : (from : ℕ) → last_from (trail_of log) ≡ Some from → AreLower (shape_of_file mount f.file) closed g.stores
+      → AreGuarded (shape_of_file mount f.file) (versions mount opening log from ∷ []) (live_of closed) g.stores
   pub kept : (disk : ℕ) (old new : StoreSeen) → Store f g disk old new → Contains (live_of closed) disk
       → (c : Content) × (new.state.content ≡ Some c) × IsKept mount closing log old.key opening (unwrap_or (told_in (kept_in (seen_of opened).disks disk)) None) c.kept
 
@@ -155,6 +170,12 @@ pub record LeavesMirrors (mount : Mount) (closing : List Reply) (log : List Logg
   -- the counts of a disk's notes are among those of its store's faults in this run
   pub rises : (disk : ℕ) (old new : StoreSeen) → Store f g disk old new → Rises old.state.faults new.state.faults (counts_of disk log)
   pub told : EachAt (λ at s. IsSome s.state.content) f.stores → AreTold mount closing log f g opened closed
+  -- if some disks guarded histories before, and one of them was up, the ground that was opened has pages of them
+  pub gives : EachAt (λ at s. IsSome s.state.content) f.stores → (Vs : List (ℕ → ℕ → List ℕ)) (disks : List ℕ) (disk : ℕ) → AreGuarded (shape_of_file mount f.file) Vs disks f.stores
+      → Contains disks disk → IsUp mount.ground over.seen.row disk → IfSome (seen_of opened).pages (AreAmong Vs)
+  -- and if each store held an image, those disks guard the same histories at the end, and that of this run
+  pub goes_on : (tells : EachAt (λ at s. IsSome s.state.content) f.stores) → HoldImages (shape_of_file mount f.file) f.stores → (Vs : List (ℕ → ℕ → List ℕ)) (disks : List ℕ) (disk : ℕ) → AreGuarded (shape_of_file mount f.file) Vs disks f.stores
+      → Contains disks disk → IsUp mount.ground over.seen.row disk → AreGuarded (shape_of_file mount f.file) (versions mount (told tells).opening log 0 ∷ Vs) disks g.stores
 
 -- WHAT BECAME OF A FILE'S STORES, by its log and the answer of its closing sync
 pub data LeavesFile (mount : Mount) (closing : List Reply) (log : List Logged) (f g : FileSeen) : Type 0 where

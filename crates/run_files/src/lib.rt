@@ -6,9 +6,11 @@ mod ended;
 mod held;
 mod layers;
 mod play;
+mod promise;
 mod room;
 mod run;
 
+pub use promise::synced_pages_last;
 pub use run::run_files;
 
 #[cfg(test)]

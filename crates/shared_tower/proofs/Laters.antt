@@ -8,7 +8,7 @@ use Rattle.std.proofs.lemmas.Bool.Decides.{nat_tests}
 use Rattle.hist_plain.specs.declared.event.Event.{Event}
 use Rattle.hist_plain.specs.declared.event.Event.TheVariants as events
 use Rattle.disk_format.specs.Image.{Imaged}
-use Rattle.disk_layer.specs.Seen.{KeptAt, Seen, faults_in, live_in, opened_in, pages_in}
+use Rattle.disk_layer.specs.Seen.{Are, KeptAt, Seen, Turns, faults_in, held_in, live_in, opened_in, pages_in}
 use Rattle.disk_layer.specs.Seen.{kept_in as kept_on}
 use Rattle.tower_core.specs.TreeShape.{TreeShape}
 use Rattle.page_messages.specs.declared.paged.PagedFile.{PagedFile}
@@ -26,9 +26,9 @@ use Rattle.stack_engine.specs.declared.refusal.StepErr.TheVariants.{StoreFault, 
 use Rattle.stack_engine.specs.Engine.{EngineSeen, IsSound, events_in, file_in, log_in, sides_in, tree_in}
 use Rattle.stack_engine.specs.Moves.{Enters, Goes, IsRefused}
 use Rattle.stack_engine.specs.Opened.{IsOf, KeepsSince, from_after, last_from}
-use Rattle.stack_engine.proofs.Entering.{at_same}
+use Rattle.stack_engine.proofs.Entering.{at_same, if_some_on, some_image, such_pages}
 use Rattle.stack_engine.proofs.Logs.{counts_of-append}
-use Rattle.shared_tower.specs.Later.{AreLater, IsLater, IsNoteOf, IsOnDisk, KeepsFirst}
+use Rattle.shared_tower.specs.Later.{AreLater, IsLater, IsNoteOf, IsOnDisk, IsTurned, KeepsFirst, TurnsFirst}
 
 -- LISTS
 
@@ -60,6 +60,7 @@ notes_of_more some all (Noted note ∷ log) to h = (to note.disk h.0, notes_of_m
 later_once : (more : List Logged) (before after : Seen) → IsOneCall before after → AllByRecursion (IsNoteOf (live_in before.disks)) more → AreLater more before after
 later_once more before after (inl same) notes = subst (AreLater more before) (sym same) (record {
   disks = refl;
+  up = λ disk. refl;
   told = λ disk. refl;
   live = λ disk live. live;
   some = λ some. some;
@@ -70,6 +71,7 @@ later_once more before after (inl same) notes = subst (AreLater more before) (sy
 })
 later_once more before after (inr keeps) notes = record {
   disks = keeps.same_disks;
+  up = keeps.same_up;
   told = keeps.same_told;
   live = keeps.live;
   some = λ _. keeps.some;
@@ -130,7 +132,7 @@ pub record IsTry (more : List Logged) (old new : EngineSeen) : Type 0 where
 since_start : (shape : TreeShape) (size pages : ℕ) (opening : List ℕ) (trail : List Event) → GroundIsSince shape size pages opening trail 0
 since_start shape size pages opening trail page place inside le upto = record { place = place; not_before = omega arith; not_after = upto; is = refl }
 
-module _ (more : List Logged) (old new : EngineSeen) (sound : IsSound old) (move : IsTry more old new) where
+module _ (more : List Logged) (old new : EngineSeen) (sound : IsSound old) (sound_new : IsSound new) (move : IsTry more old new) where
   pub tried_events : events_in new ≡ events_in old ++ trail_of more
   tried_events = ap trail_of move.log ∙ trail_of-append (log_in old) more
 
@@ -167,6 +169,46 @@ module _ (more : List Logged) (old new : EngineSeen) (sound : IsSound old) (move
         (subst (λ (es : List Event). (pages_in (kept_on new.ground.disks disk) ≡ pages_in first) ⊎ KeepsSince (tree_in old) (file_in old).page_size opening es 0 (kept_on new.ground.disks disk)) (sym tried_events)
         (kept_now (was (last-none (events_in old) (trail_of more) (sym (ap last_from tried_events) ∙ none)))))
 
+  -- the image of a disk
+  module _ (opening : List ℕ) (first : Option Imaged) (disk : ℕ) (of : IsOf opening old) where
+    abbrev Now : List (List ℕ) → Type 0
+    Now ps = AreSince (tree_in new) (file_in new).page_size opening (events_in new) 0 ps
+
+    now_since : (ps : List (List ℕ)) → AreSince (tree_in old) (file_in old).page_size opening (events_in old) 0 ps → Now ps
+    now_since ps since = at_same (λ (t : TreeShape) (f : PagedFile). AreSince t f.page_size opening (events_in new) 0 ps) old.tables new.tables move.goes.file
+        (subst (λ (es : List Event). AreSince (tree_in old) (file_in old).page_size opening es 0 ps) (sym tried_events)
+        (told_later (tree_in old) (file_in old).page_size opening (events_in old) (trail_of more) 0 ps since))
+
+    old_ground : IfSome old.ground.pages Now
+    old_ground = if_some_on (AreSince (tree_in old) (file_in old).page_size opening (events_in old) 0) Now old.ground.pages now_since
+        (told_stays (tree_in old) (file_in old).page_size (file_in old).pages opening (events_in old) (sides_in old) old.ground.pages 0 sound.true_to of.began
+        (since_start (tree_in old) (file_in old).page_size (file_in old).pages opening (events_in old)))
+
+    new_ground : IfSome new.ground.pages Now
+    new_ground = told_stays (tree_in new) (file_in new).page_size (file_in new).pages opening (events_in new) (sides_in new) new.ground.pages 0 sound_new.true_to (move.goes.of opening of).began
+        (since_start (tree_in new) (file_in new).page_size (file_in new).pages opening (events_in new))
+
+    of_either : (ps : List (List ℕ)) → Are old.ground.pages ps ⊎ Are new.ground.pages ps → Now ps
+    of_either ps (inl at) = such_pages Now old.ground.pages ps of.began.is_told old_ground at
+    of_either ps (inr at) = such_pages Now new.ground.pages ps (move.goes.of opening of).began.is_told new_ground at
+
+    step_of : IsOneCall old.ground new.ground → (held_in new.ground.disks disk ≡ held_in old.ground.disks disk) ⊎ Turns old.ground.pages new.ground.pages (held_in old.ground.disks disk) (held_in new.ground.disks disk)
+    step_of (inl same) = inl (ap (λ (s : Seen). held_in s.disks disk) same)
+    step_of (inr keeps) = keeps.turned disk
+
+    turns_on : (then now : Option Imaged) → (now ≡ then) ⊎ Turns old.ground.pages new.ground.pages then now → (then ≡ first) ⊎ IsTurned opening first then old → (now ≡ first) ⊎ IsTurned opening first now new
+    turns_on then now (inl same) (inl was) = inl (same ∙ was)
+    turns_on then now (inl same) (inr t) = inr (record { old = t.old; new = t.new; was = t.was; is = same ∙ t.is; later = t.later; since = now_since t.new.pages t.since })
+    turns_on then now (inr m) (inl was) = inr (record { old = m.old; new = m.new; was = sym was ∙ m.was; is = m.is; later = m.later; since = of_either m.new.pages m.pages })
+    turns_on then now (inr m) (inr t) =
+        let same : t.new ≡ m.old = some_image t.new m.old (sym t.is ∙ m.was) in
+        let first_level : t.old.generation ≤ m.old.generation = subst (λ (v : Imaged). t.old.generation ≤ v.generation) same t.later in
+        let next_level : m.old.generation ≤ m.new.generation = m.later in
+        inr (record { old = t.old; new = m.new; was = t.was; is = m.is; later = omega (arith, first_level, next_level); since = of_either m.new.pages m.pages })
+
+    turns_first : TurnsFirst opening first old disk → TurnsFirst opening first new disk
+    turns_first was = turns_on (held_in old.ground.disks disk) (held_in new.ground.disks disk) (step_of move.goes.call) was
+
   pub later_try : IsLater old new
   later_try = record {
     file = move.goes.file;
@@ -176,6 +218,7 @@ module _ (more : List Logged) (old new : EngineSeen) (sound : IsSound old) (move
     disks = later_once more old.ground new.ground move.goes.call move.notes;
     calm = move.calm;
     kept = λ opening first disk of live. keeps_first opening first disk of live;
+    turned = λ opening first disk of. turns_first opening first disk of;
   }
 
 -- an event was entered without a fault
@@ -240,11 +283,13 @@ later_refl e = record {
   disks = later_once [] e.ground e.ground (inl refl) tt;
   calm = λ disk on none. refl;
   kept = λ opening first disk of live was. was;
+  turned = λ opening first disk of was. was;
 }
 
 disks_on : (xs ys : List Logged) (a b c : Seen) → AreLater xs a b → AreLater ys b c → AreLater (xs ++ ys) a c
 disks_on xs ys a b c p q = record {
   disks = q.disks ∙ p.disks;
+  up = λ disk. q.up disk ∙ p.up disk;
   told = λ disk. q.told disk ∙ p.told disk;
   live = λ disk live. p.live disk (q.live disk live);
   some = λ some. q.some (p.some some);
@@ -271,4 +316,5 @@ later_trans a b c p q = record {
       let both = none-append (counts_of disk p.more) (counts_of disk q.more) (sym (counts_of-append disk p.more q.more) ∙ none) in
       q.calm disk (on_later disk p.more a.ground b.ground p.disks on) both.1 ∙ p.calm disk on both.0;
   kept = λ opening first disk of live was. q.kept opening first disk (p.of opening of) live (p.kept opening first disk of (q.disks.live disk live) was);
+  turned = λ opening first disk of was. q.turned opening first disk (p.of opening of) (p.turned opening first disk of was);
 }

@@ -96,5 +96,5 @@ module _ (caller : ℕ) (event : List Event → Event) (old new : EngineSeen) (o
   pub tries : Tries caller event (log_in old) (log_in new) out r
   tries = record { last = tried.last; log = tried.is_try.log; moves = tried.moves }
 
-  pub later_tried : (began : EngineSeen) → IsSound old → IsLater began old → IsLater began new
-  later_tried began sound later = later_trans began old new later (later_try tried.last old new sound tried.is_try)
+  pub later_tried : (began : EngineSeen) → IsSound old → IsSound new → IsLater began old → IsLater began new
+  later_tried began sound sound_new later = later_trans began old new later (later_try tried.last old new sound sound_new tried.is_try)

@@ -127,6 +127,7 @@ impl<G: Ground> SharedTower<G> {
         let number = self.tower.number(caller);
         self.tower.sound();
         let result = self.tower.advance(caller, number, node, life, op, out);
+        self.tower.sound();
         self.logged = self.tower.log_len();
         result
     }
@@ -151,6 +152,7 @@ impl<G: Ground> SharedTower<G> {
         let number = self.tower.number(caller);
         self.tower.sound();
         let result = self.tower.advance_sync(caller, number, node, from, keep);
+        self.tower.sound();
         self.logged = self.tower.log_len();
         result
     }

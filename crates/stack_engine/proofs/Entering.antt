@@ -9,7 +9,7 @@ use Rattle.hist_plain.specs.Event.{caller_of, number_of}
 use Rattle.hist_plain.specs.Plain.{Told, reply}
 use Rattle.hist_plain.specs.History.{IsNumbered, mine, page_in}
 use Rattle.disk_format.specs.Image.{Imaged}
-use Rattle.disk_layer.specs.Seen.{AllKept, IsFault, KeptAt, Seen, faults_in, live_in, opened_in, pages_in}
+use Rattle.disk_layer.specs.Seen.{AllKept, Are, AreBehind, IsFault, KeptAt, Seen, Turns, faults_in, held_in, live_in, opened_in, pages_in}
 use Rattle.disk_layer.specs.Seen.{kept_in as kept_on}
 use Rattle.tower_core.specs.declared.sheet.Sheet.{Sheet}
 use Rattle.tower_core.specs.Legal.{file_after, plain_shape}
@@ -65,6 +65,40 @@ kept_once P before after disk (inr keeps) live was is = elim (keeps.kept disk li
   | inl e ↦ subst P (sym e) (was (keeps.live disk live))
   | inr at ↦ is at
 ]
+
+-- what is behind stays so
+pub some_image : (x y : Imaged) → ◌≡◌ {A = Option Imaged} (Some x) (Some y) → x ≡ y
+some_image x y e = cc
+
+held_before : (before after : Option (List (List ℕ))) (x y : Option Imaged) (i : Imaged) → (y ≡ x) ⊎ Turns before after x y → y ≡ Some i → (k : Imaged) × (x ≡ Some k) × (k.generation ≤ i.generation)
+held_before before after x y i (inl same) is = (i, sym same ∙ is, omega arith)
+held_before before after x y i (inr t) is = (t.old, t.was, subst (λ (v : Imaged). t.old.generation ≤ v.generation) (some_image t.new i (sym t.is ∙ is)) t.later)
+
+same_or_turned : (before after : Option (List (List ℕ))) (x y : Option Imaged) (j : Imaged) → (y ≡ x) ⊎ Turns before after x y → y ≡ Some j → (x ≡ Some j) ⊎ (Are before j.pages ⊎ Are after j.pages)
+same_or_turned before after x y j (inl same) is = inl (sym same ∙ is)
+same_or_turned before after x y j (inr t) is = inr (subst (λ (v : Imaged). Are before v.pages ⊎ Are after v.pages) (some_image t.new j (sym t.is ∙ is)) t.pages)
+
+pub such_pages : (Q : List (List ℕ) → Type 0) (pages : Option (List (List ℕ))) (ps : List (List ℕ)) → IsSome pages → IfSome pages Q → Are pages ps → Q ps
+such_pages Q None ps told q at = absurd (let both : false ≡ true = told in cc)
+such_pages Q (Some told_pages) ps told q at = subst Q (sym at) q
+
+pub if_some_on : (P Q : List (List ℕ) → Type 0) (pages : Option (List (List ℕ))) → ((ps : List (List ℕ)) → P ps → Q ps) → IfSome pages P → IfSome pages Q
+if_some_on P Q None on h = tt
+if_some_on P Q (Some ps) on h = on ps h
+
+behind_once : (P Q : List (List ℕ) → Type 0) (before after : Seen) → IsOneCall before after → ((ps : List (List ℕ)) → P ps → Q ps)
+    → IsSome before.pages → IfSome before.pages Q → IsSome after.pages → IfSome after.pages Q → AreBehind P before → AreBehind Q after
+behind_once P Q before after (inl same) on told q told' q' was = λ disk other i j live up is holds.
+    elim (subst (AreBehind P) (sym same) was disk other i j live up is holds) [ inl p ↦ inl (on j.pages p) | inr r ↦ inr r ]
+behind_once P Q before after (inr keeps) on told q told' q' was = λ disk other i j live up is holds.
+    let k = held_before before.pages after.pages (held_in before.disks disk) (held_in after.disks disk) i (keeps.turned disk) is in
+    elim (same_or_turned before.pages after.pages (held_in before.disks other) (held_in after.disks other) j (keeps.turned other) holds) [
+      | inl still ↦ elim (was disk other k.0 j (keeps.live disk live) (sym (keeps.same_up other) ∙ up) k.1 still) [
+        | inl p ↦ inl (on j.pages p)
+        | inr r ↦ inr (elim r [ inl low ↦ inl (omega (arith, low, k.2)) | inr last ↦ inr (omega (arith, last, k.2)) ])
+      ]
+      | inr at ↦ inl (elim at [ inl a ↦ such_pages Q before.pages j.pages told q a | inr a ↦ such_pages Q after.pages j.pages told' q' a ])
+    ]
 
 -- THE NOTES
 
@@ -211,6 +245,7 @@ module _ (old new : EngineSeen) (entry : Entry) (sound : IsSound old) (file : Is
       pub reached : from ≤ length (events_in old) + 1
       pub ground : GroundIsSince (tree_in old) (file_in old).page_size (file_in old).pages opening (events_in old ++ entry.event ∷ []) from
       pub disks : (disk : ℕ) → Contains (live_in new.ground.disks) disk → KeepsSince (tree_in old) (file_in old).page_size opening (events_in old ++ entry.event ∷ []) from (kept_on new.ground.disks disk)
+      pub behind : AreBehind (AreSince (tree_in old) (file_in old).page_size opening (events_in old ++ entry.event ∷ []) from) new.ground
 
     pub of_with : ((from : ℕ) → last_from (events_in old ++ entry.event ∷ []) ≡ Some from → SyncedLater from) → IsOf opening new
     of_with synced = record {
@@ -228,6 +263,8 @@ module _ (old new : EngineSeen) (entry : Entry) (sound : IsSound old) (file : Is
                 (subst (λ (es : List Event). GroundIsSince (tree_in old) (file_in old).page_size (file_in old).pages opening es from) (sym events_are) s.ground);
             disks = λ disk live. at_same (λ (t : TreeShape) (f : PagedFile). KeepsSince t f.page_size opening (events_in new) from (kept_on new.ground.disks disk)) old.tables new.tables file
                 (subst (λ (es : List Event). KeepsSince (tree_in old) (file_in old).page_size opening es from (kept_on new.ground.disks disk)) (sym events_are) (s.disks disk live));
+            behind = at_same (λ (t : TreeShape) (f : PagedFile). AreBehind (AreSince t f.page_size opening (events_in new) from) new.ground) old.tables new.tables file
+                (subst (λ (es : List Event). AreBehind (AreSince (tree_in old) (file_in old).page_size opening es from) new.ground) (sym events_are) s.behind);
           };
     }
 
@@ -235,10 +272,20 @@ module _ (old new : EngineSeen) (entry : Entry) (sound : IsSound old) (file : Is
     pub of_entered : from_after (last_from (events_in old)) entry.event ≡ last_from (events_in old) → IsOf opening new
     of_entered quiet = of_with (λ from last.
         let s : IsSynced opening old from = of.synced from (sym quiet ∙ sym (last_from-entered (events_in old) entry.event) ∙ last) in
+        let ground : GroundIsSince (tree_in old) (file_in old).page_size (file_in old).pages opening (events_in old ++ entry.event ∷ []) from =
+        ground_stays (tree_in old) (file_in old).page_size (file_in old).pages opening (events_in old) (sides_in old) entry.event from sound.true_to next s.reached s.ground in
         record {
           reached = let r = s.reached in omega (arith, r);
-          ground = ground_stays (tree_in old) (file_in old).page_size (file_in old).pages opening (events_in old) (sides_in old) entry.event from sound.true_to next s.reached s.ground;
+          ground = ground;
           disks = λ disk live. disk_since from disk s.ground live (s.disks disk);
+          behind = behind_once (AreSince (tree_in old) (file_in old).page_size opening (events_in old) from) (AreSince (tree_in old) (file_in old).page_size opening (events_in old ++ entry.event ∷ []) from) old.ground new.ground call
+              (λ ps was. told_later (tree_in old) (file_in old).page_size opening (events_in old) (entry.event ∷ []) from ps was)
+              of.began.is_told
+              (if_some_on (AreSince (tree_in old) (file_in old).page_size opening (events_in old) from) (AreSince (tree_in old) (file_in old).page_size opening (events_in old ++ entry.event ∷ []) from) old.ground.pages
+              (λ ps was. told_later (tree_in old) (file_in old).page_size opening (events_in old) (entry.event ∷ []) from ps was)
+              (told_stays (tree_in old) (file_in old).page_size (file_in old).pages opening (events_in old) (sides_in old) old.ground.pages from sound.true_to of.began s.ground))
+              began.is_told (told_stays (tree_in old) (file_in old).page_size (file_in old).pages opening (events_in old ++ entry.event ∷ []) (sides_in new) new.ground.pages from true_to began ground)
+              s.behind;
         })
 
     -- a sync that was completed, where each live disk then kept the ground's pages
@@ -250,10 +297,16 @@ module _ (old new : EngineSeen) (entry : Entry) (sound : IsSound old) (file : Is
         subst SyncedLater same (record {
           reached = omega (arith, reached);
           ground = ground;
-          disks = λ disk live. kept_pages (kept_on new.ground.disks disk) new.ground.pages (kept_now disk live)
-              (told_stays (tree_in old) (file_in old).page_size (file_in old).pages opening (events_in old ++ entry.event ∷ []) (sides_in new) new.ground.pages from true_to began ground) began.is_told;
+          disks = λ disk live. kept_pages (kept_on new.ground.disks disk) new.ground.pages (kept_now.kept disk live) since began.is_told;
+          behind = λ disk other i j live up is holds. elim (kept_now.behind disk other i j live up is holds) [
+            | inl a ↦ inl (such_pages (AreSince (tree_in old) (file_in old).page_size opening (events_in old ++ entry.event ∷ []) from) new.ground.pages j.pages began.is_told since a)
+            | inr r ↦ inr r
+          ];
         }))
       where
+        since : IfSome new.ground.pages (AreSince (tree_in old) (file_in old).page_size opening (events_in old ++ entry.event ∷ []) from)
+        since = told_stays (tree_in old) (file_in old).page_size (file_in old).pages opening (events_in old ++ entry.event ∷ []) (sides_in new) new.ground.pages from true_to began ground
+
         some_is : (a b : ℕ) → Some a ≡ Some b → a ≡ b
         some_is a b e = cc
 
@@ -312,6 +365,17 @@ module _ (old new : EngineSeen) (sound : IsSound old) (file : IsSameFile old.tab
         of_ground (Some image) None at since some = absurd (let both : false ≡ true = some in cc)
         of_ground (Some image) (Some ps) at since some = (ps, at, since)
 
+    left_behind : (from : ℕ) → GroundIsSince (tree_in old) (file_in old).page_size (file_in old).pages opening (events_in old) from
+        → AreBehind (AreSince (tree_in old) (file_in old).page_size opening (events_in old) from) old.ground → AreBehind (AreSince (tree_in old) (file_in old).page_size opening (events_in old) from) new.ground
+    left_behind from ground was =
+        behind_once Since Since old.ground new.ground call (λ ps same. same) of.began.is_told since (subst (λ (ps : Option (List (List ℕ))). IsSome ps) (sym pages) of.began.is_told) (subst (λ (ps : Option (List (List ℕ))). IfSome ps Since) (sym pages) since) was
+      where
+        Since : List (List ℕ) → Type 0
+        Since ps = AreSince (tree_in old) (file_in old).page_size opening (events_in old) from ps
+
+        since : IfSome old.ground.pages Since
+        since = told_stays (tree_in old) (file_in old).page_size (file_in old).pages opening (events_in old) (sides_in old) old.ground.pages from sound.true_to of.began ground
+
     pub of_left : IsOf opening new
     of_left = record {
       began = at_same (λ (t : TreeShape) (f : PagedFile). BeganWith t f.page_size f.pages opening (events_in new) (sides_in new) new.ground.pages) old.tables new.tables file
@@ -331,5 +395,7 @@ module _ (old new : EngineSeen) (sound : IsSound old) (file : IsSameFile old.tab
                 (subst (λ (es : List Event). GroundIsSince (tree_in old) (file_in old).page_size (file_in old).pages opening es from) (sym events_are) s.ground);
             disks = λ disk live. at_same (λ (t : TreeShape) (f : PagedFile). KeepsSince t f.page_size opening (events_in new) from (kept_on new.ground.disks disk)) old.tables new.tables file
                 (subst (λ (es : List Event). KeepsSince (tree_in old) (file_in old).page_size opening es from (kept_on new.ground.disks disk)) (sym events_are) (left_disks from disk s.ground live (s.disks disk)));
+            behind = at_same (λ (t : TreeShape) (f : PagedFile). AreBehind (AreSince t f.page_size opening (events_in new) from) new.ground) old.tables new.tables file
+                (subst (λ (es : List Event). AreBehind (AreSince (tree_in old) (file_in old).page_size opening es from) new.ground) (sym events_are) (left_behind from s.ground s.behind));
           };
     }

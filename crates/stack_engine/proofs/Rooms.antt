@@ -31,7 +31,7 @@ of_roomy opening old r of = record {
   began = of.began;
   keeps = of.keeps;
   answers = of.answers;
-  synced = λ from last. let s = of.synced from last in record { reached = s.reached; ground = s.ground; disks = s.disks };
+  synced = λ from last. let s = of.synced from last in record { reached = s.reached; ground = s.ground; disks = s.disks; behind = s.behind };
 }
 
 -- with another number of spare reads, too
@@ -40,7 +40,7 @@ of_spare opening old new spare room is of = subst (IsOf opening) (sym is) (recor
   began = of.began;
   keeps = of.keeps;
   answers = of.answers;
-  synced = λ from last. let s = of.synced from last in record { reached = s.reached; ground = s.ground; disks = s.disks };
+  synced = λ from last. let s = of.synced from last in record { reached = s.reached; ground = s.ground; disks = s.disks; behind = s.behind };
 })
 
 -- THE SHEET counts the events
@@ -127,7 +127,7 @@ lacking_read caller old mid new is ground tables trail no_spare none few =
           began = of.began;
           keeps = of.keeps;
           answers = of.answers;
-          synced = λ from last. let s = of.synced from last in record { reached = s.reached; ground = s.ground; disks = s.disks };
+          synced = λ from last. let s = of.synced from last in record { reached = s.reached; ground = s.ground; disks = s.disks; behind = s.behind };
         };
       };
       tables = record { sides = λ page node. refl; uses = λ node. refl };

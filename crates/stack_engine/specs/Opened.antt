@@ -7,7 +7,7 @@ use Rattle.hist_plain.specs.declared.event.Event.TheVariants as events
 use Rattle.hist_plain.specs.History.{page_in}
 use Rattle.hist_plain.specs.Plain.{reply}
 use Rattle.disk_format.specs.Image.{Imaged}
-use Rattle.disk_layer.specs.Seen.{live_in, pages_in}
+use Rattle.disk_layer.specs.Seen.{AreBehind, live_in, pages_in}
 use Rattle.disk_layer.specs.Seen.{kept_in as kept_on}
 use Rattle.tower_core.specs.Legal.{file_after, plain_shape}
 use Rattle.tower_core.specs.TreeShape.{TreeShape}
@@ -41,11 +41,12 @@ KeepsSince shape size opening trail from kept =
     IfSome (pages_in kept) (λ pages. (ps : List (List ℕ)) × (pages ≡ Some ps) × AreSince shape size opening trail from ps)
 
 -- WHAT A SYNC LEFT: from its own place on the ground shows the file as it was then or later, and so does what each live
--- disk keeps
+-- disk keeps; and an opened disk that has other pages has a lower generation than each live one
 pub record IsSynced (opening : List ℕ) (e : EngineSeen) (from : ℕ) : Type 0 where
   pub reached : from ≤ place_of (log_in e)
   pub ground : GroundIsSince (tree_in e) (file_in e).page_size (file_in e).pages opening (events_in e) from
   pub disks : (disk : ℕ) → Contains (live_in e.ground.disks) disk → KeepsSince (tree_in e) (file_in e).page_size opening (events_in e) from (kept_on e.ground.disks disk)
+  pub behind : AreBehind (AreSince (tree_in e) (file_in e).page_size opening (events_in e) from) e.ground
 
 -- THE ENGINE IS OF THE FILE that began with these bytes
 pub record IsOf (opening : List ℕ) (e : EngineSeen) : Type 0 where

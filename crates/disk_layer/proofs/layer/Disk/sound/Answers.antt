@@ -16,4 +16,4 @@ returns-clause-keeps g c =
     let faults = g.S.Store.faults d.store in
     let content = g.S.Store.content d.store in
     subst (λ (v : Disk). Keeps (seen_of v) (seen_of v)) c.self.view_is
-    (keeps-same d.front d.front d.generation d.generation d.disk faults faults d.opened content content (record { shape = refl; later = omega arith; since = c.self.invariant.1 }) refl)
+    (keeps-same d.front d.front d.generation d.disk faults faults d.opened content content (record { shape = refl; later = omega arith; since = c.self.invariant.1 }) refl)

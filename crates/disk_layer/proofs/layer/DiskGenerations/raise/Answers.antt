@@ -1,4 +1,4 @@
-use Rattle.std.proofs.Common.{◌≡◌, Option, sym, ap, ◌∙◌, subst, arith}
+use Rattle.std.proofs.Common.{◌≡◌, ◌≤◌, Option, sym, ap, ◌∙◌, subst, arith}
 use Rattle.spr_io.specs.Content.{Content, written}
 use Rattle.disk_format.specs.VersionOne.{header}
 use Rattle.disk_layer.specs.Front.{FrontSeen, IsMap}
@@ -39,8 +39,8 @@ returns-in-Err-clause-keeps g c =
     let m : IsMap (record f { draft = h }) = subst IsMap e c.draft_header.ensures.map in
     let shape : f2.shape ≡ f.shape = ap (λ (v : FrontSeen). v.shape) e in
     let s1 = c.write.new.self in
-    subst (λ (v : Disk). Keeps (seen_of v) (seen_of (disk_of f2 gen (g.S.Store.content s1) d.disk (g.S.Store.faults s1) d.opened))) c.self.view_is
-    (keeps-same f f2 gen gen d.disk (g.S.Store.faults s0) (g.S.Store.faults s1) d.opened (g.S.Store.content s0) (g.S.Store.content s1) (record { shape = shape; later = c.in-Err.ensures.cause.later; since = c.self.invariant.1 }) c.in-Err.ensures.err)
+    subst (λ (v : Disk). v.generation ≤ gen2 → Keeps (seen_of v) (seen_of (disk_of f2 gen (g.S.Store.content s1) d.disk (g.S.Store.faults s1) d.opened))) c.self.view_is
+    (λ le. keeps-same f f2 gen d.disk (g.S.Store.faults s0) (g.S.Store.faults s1) d.opened (g.S.Store.content s0) (g.S.Store.content s1) (record { shape = shape; later = c.in-Err.ensures.cause.later; since = c.self.invariant.1 }) c.in-Err.ensures.err)
 
 pub invariant_of-self-in-Err-flush : goal.invariant_of-self-in-Err-flush
 invariant_of-self-in-Err-flush g c =
@@ -136,8 +136,8 @@ returns-in-Err-flush-clause-keeps g c =
     let pages : told_pages f2 (g.S.Store.content s1) ≡ told_pages f (g.S.Store.content s0) =
     ap (λ (v : FrontSeen). told_pages v (g.S.Store.content s1)) e ∙ (ap (λ (v : Option Content). told_pages f v) ok ∙ pages-headed f h (g.S.Store.content s0)) in
     let s2 = c.flush.new.self in
-    subst (λ (v : Disk). Keeps (seen_of v) (seen_of (disk_of f2 gen2 (g.S.Store.content s2) d.disk (g.S.Store.faults s2) d.opened))) c.self.view_is
-    (keeps-written f f2 gen gen2 d.disk (g.S.Store.faults s0) (g.S.Store.faults s2) d.opened 0 h (g.S.Store.content s0) (g.S.Store.content s2) (record { shape = shape; later = omega (arith, c.self.invariant.1, c.in_default.ensures.cause.later, c.in-Err-flush.ensures.cause.later); since = c.self.invariant.1 }) (c.in-Err-flush.ensures.err ∙ ok))
+    subst (λ (v : Disk). v.generation ≤ gen2 → Keeps (seen_of v) (seen_of (disk_of f2 gen2 (g.S.Store.content s2) d.disk (g.S.Store.faults s2) d.opened))) c.self.view_is
+    (λ le. keeps-written f f2 gen gen2 le d.disk (g.S.Store.faults s0) (g.S.Store.faults s2) d.opened 0 h (g.S.Store.content s0) (g.S.Store.content s2) (record { shape = shape; later = omega (arith, c.self.invariant.1, c.in_default.ensures.cause.later, c.in-Err-flush.ensures.cause.later); since = c.self.invariant.1 }) (c.in-Err-flush.ensures.err ∙ ok))
 
 pub invariant_of-self-2 : goal.invariant_of-self-2
 invariant_of-self-2 g c =
@@ -233,8 +233,8 @@ returns-clause-keeps g c =
     let pages : told_pages f2 (g.S.Store.content s1) ≡ told_pages f (g.S.Store.content s0) =
     ap (λ (v : FrontSeen). told_pages v (g.S.Store.content s1)) e ∙ (ap (λ (v : Option Content). told_pages f v) ok ∙ pages-headed f h (g.S.Store.content s0)) in
     let s2 = c.flush.new.self in
-    subst (λ (v : Disk). Keeps (seen_of v) (seen_of (disk_of f2 gen2 (g.S.Store.content s2) d.disk (g.S.Store.faults s2) d.opened))) c.self.view_is
-    (keeps-flushed f f2 gen gen2 (g.S.Store.size s1) (g.S.Store.number s1) d.disk (g.S.Store.faults s0) (g.S.Store.faults s2) d.opened (g.S.Store.content s0) (g.S.Store.content s1) (g.S.Store.content s2) (record { shape = shape; later = omega (arith, c.self.invariant.1, c.in_default.ensures.cause.later, c.in_default-flush.ensures.cause.later); since = c.self.invariant.1 }) u1 pages c.in_default-flush.ensures.ok)
+    subst (λ (v : Disk). v.generation ≤ gen2 → Keeps (seen_of v) (seen_of (disk_of f2 gen2 (g.S.Store.content s2) d.disk (g.S.Store.faults s2) d.opened))) c.self.view_is
+    (λ le. keeps-flushed f f2 gen gen2 le (g.S.Store.size s1) (g.S.Store.number s1) d.disk (g.S.Store.faults s0) (g.S.Store.faults s2) d.opened (g.S.Store.content s0) (g.S.Store.content s1) (g.S.Store.content s2) (record { shape = shape; later = omega (arith, c.self.invariant.1, c.in_default.ensures.cause.later, c.in_default-flush.ensures.cause.later); since = c.self.invariant.1 }) u1 pages c.in_default-flush.ensures.ok)
 
 pub returns-clause-calm : goal.returns-clause-calm
 returns-clause-calm g c =

@@ -12,7 +12,7 @@ invariant_of-self g c =
     c.number-number.ensures c.sound.ensures c.advance-result.result c.advance-result.ensures.advances c.advance-result.ensures.bytes c.advance-result.ensures.fails in
     record {
       later = later_tried c.args.caller (access_of c.args.caller c.args.node c.args.life c.args.op.now) c.self.inside.tower.engine c.advance-result.new.self.engine c.advance-result.new.out c.advance-result.result tried
-          c.self.inside.began.value.engine c.sound.ensures c.self.invariant.later;
+          c.self.inside.began.value.engine c.sound.ensures c.sound-2.ensures c.self.invariant.later;
       long = c.log_len-self-inside.ensures;
     }
 

@@ -10,7 +10,7 @@ invariant_of-self g c = record {
   later = later_tried c.args.caller (sync_of c.args.caller c.args.node c.args.from c.args.keep) c.self.inside.tower.engine c.advance_sync-result.new.self.engine [] c.advance_sync-result.result
       (tried_sync c.args.caller c.number-number.result c.args.node c.args.from c.args.keep c.self.inside.tower c.advance_sync-result.new.self c.number-number.ensures
       c.advance_sync-result.result c.advance_sync-result.ensures.advances c.advance_sync-result.ensures.fails)
-      c.self.inside.began.value.engine c.sound.ensures c.self.invariant.later;
+      c.self.inside.began.value.engine c.sound.ensures c.sound-2.ensures c.self.invariant.later;
   long = c.log_len-self-inside.ensures;
 }
 
