@@ -117,6 +117,12 @@ fn lends_what_it_mounted(rt: HostRuntime) -> Result<(), Fail> {
     assert_eq!(rt; mounted.nodes().len(), 2);
     assert_eq!(rt; mounted.disks().len(), 2);
     assert_eq!(rt; mounted.machines().len(), 1);
+    Ok(())
+}
+
+#[test]
+fn lends_the_ground(rt: HostRuntime) -> Result<(), Fail> {
+    let mounted = stack(rt.alloc(), MIRRORED)??;
     let GroundPlan::Mirror { left, right } = mounted.ground() else {
         return Err("no mirror")?;
     };
@@ -124,16 +130,35 @@ fn lends_what_it_mounted(rt: HostRuntime) -> Result<(), Fail> {
     assert!(rt; matches!(**right, GroundPlan::Disk { disk: 0 }));
     let copied = mounted.ground().clone()?;
     assert!(rt; matches!(copied, GroundPlan::Mirror { .. }));
+    Ok(())
+}
+
+#[test]
+fn serves_each_machine(rt: HostRuntime) -> Result<(), Fail> {
     let spread = stack(rt.alloc(), SPREAD)??;
     for (view, machine, served) in [(1, 0, 1), (3, 0, 1), (3, 1, 3)] {
         assert_eq!(rt; spread.via(view, machine), served);
     }
+    Ok(())
+}
+
+#[test]
+fn tells_views_from_managers(rt: HostRuntime) -> Result<(), Fail> {
+    let spread = stack(rt.alloc(), SPREAD)??;
     for (node, has_view) in spread
         .nodes()
         .iter()
         .zip([false, true, false, true, false, false])
     {
         assert_eq!(rt; node.kind.is_view(), has_view, "{}", node.name.as_str());
+    }
+    Ok(())
+}
+
+#[test]
+fn copies_what_it_mounted(rt: HostRuntime) -> Result<(), Fail> {
+    let spread = stack(rt.alloc(), SPREAD)??;
+    for node in spread.nodes() {
         assert_eq!(rt; node.clone()?.frames, node.frames);
     }
     for file in spread.files() {
@@ -153,25 +178,47 @@ fn names_the_first_broken_rule(rt: HostRuntime) -> Result<(), Fail> {
     Ok(())
 }
 
+/// A disk with so many layers, each on the one before.
+fn layered(alloc: Global, layers: u32) -> Result<String, Fail> {
+    let mut text = format!(in alloc; "page 64\nfile f 2\ndisk k0 m\n")?;
+    for i in 0..layers {
+        let layer = format!(in alloc; "coherency k{} m k{}\n", i + 1, i)?;
+        text.push_str(&layer)?;
+    }
+    Ok(text)
+}
+
+/// A layer with so many managers on it.
+fn managed(alloc: Global, managers: u32) -> Result<String, Fail> {
+    let mut text = String::from_str(alloc, PLAIN)?;
+    for i in 0..managers {
+        let manager = format!(in alloc; "vmm v{} m c 1024\n", i)?;
+        text.push_str(&manager)?;
+    }
+    Ok(text)
+}
+
+/// The line at which a stack is refused for a limit.
+fn limit(alloc: Global, text: &str) -> Result<Option<u32>, Fail> {
+    Ok(match stack(alloc, text)? {
+        Err(Unfit::Unfit { rule: 10, line }) => Some(line),
+        Err(_) => Some(0),
+        Ok(_) => None,
+    })
+}
+
 #[test]
-fn keeps_the_limits(rt: HostRuntime) -> Result<(), Fail> {
-    for (layers, line) in [(8, None), (9, Some(12))] {
-        let mut text = format!(in rt.alloc(); "page 64\nfile f 2\ndisk k0 m\n")?;
-        for i in 0..layers {
-            let layer = format!(in rt.alloc(); "coherency k{} m k{}\n", i + 1, i)?;
-            text.push_str(&layer)?;
-        }
-        let unfit = stack(rt.alloc(), &text)?.err();
-        assert_eq!(rt; unfit, line.map(|line| Unfit::Unfit { rule: 10, line }));
-    }
-    for (managers, line) in [(30, None), (31, Some(35))] {
-        let mut text = String::from_str(rt.alloc(), PLAIN)?;
-        for i in 0..managers {
-            let manager = format!(in rt.alloc(); "vmm v{} m c 1024\n", i)?;
-            text.push_str(&manager)?;
-        }
-        let unfit = stack(rt.alloc(), &text)?.err();
-        assert_eq!(rt; unfit, line.map(|line| Unfit::Unfit { rule: 10, line }));
-    }
+fn keeps_the_depth(rt: HostRuntime) -> Result<(), Fail> {
+    let alloc = rt.alloc();
+    assert_eq!(rt; limit(alloc, &layered(alloc, 8)?)?, None);
+    assert_eq!(rt; limit(alloc, &layered(alloc, 9)?)?, Some(12));
+    Ok(())
+}
+
+#[test]
+fn keeps_the_number_of_nodes(rt: HostRuntime) -> Result<(), Fail> {
+    let alloc = rt.alloc();
+    assert_eq!(rt; limit(alloc, &managed(alloc, 30)?)?, None);
+    assert_eq!(rt; limit(alloc, &managed(alloc, 31)?)?, Some(35));
     Ok(())
 }
