@@ -130,7 +130,17 @@ fn texts(rt: HostRuntime) -> Result<(), Fail> {
         let script = parse_script(rt.alloc(), text).ok().ok_or("a script")?;
         assert_eq!(rt; print_script(rt.alloc(), &script)?.as_slice(), text);
     }
-    let script = parse_script(rt.alloc(), EVERY_CALL).ok().ok_or("a script")?;
+    Ok(())
+}
+
+/// The script of every call.
+fn every_call(alloc: Global) -> Result<Script, Fail> {
+    Ok(parse_script(alloc, EVERY_CALL).ok().ok_or("a script")?)
+}
+
+#[test]
+fn lines_of_phases(rt: HostRuntime) -> Result<(), Fail> {
+    let script = every_call(rt.alloc())?;
     assert_eq!(rt; script.clients.as_slice().len(), 2);
     let lines: Vec<usize> = script
         .phases
@@ -139,6 +149,12 @@ fn texts(rt: HostRuntime) -> Result<(), Fail> {
         .map(|phase| phase.as_slice().len())
         .collect(rt.alloc())?;
     assert_eq!(rt; lines.as_slice(), [14, 0, 9].as_slice());
+    Ok(())
+}
+
+#[test]
+fn a_line(rt: HostRuntime) -> Result<(), Fail> {
+    let script = every_call(rt.alloc())?;
     let Some(last) = script.phases.as_slice().last() else {
         return Err("no phase".into());
     };
@@ -155,22 +171,30 @@ fn refusals(rt: HostRuntime) -> Result<(), Fail> {
     for (text, line, word) in REFUSED {
         assert_eq!(rt; refusal(rt.alloc(), text), (line, word));
     }
-    let hex = built(
-        rt.alloc(),
+    Ok(())
+}
+
+/// The refusal of a write of so many bytes.
+fn hex(alloc: Global, bytes: u32) -> Result<(u32, &'static str), AllocError> {
+    let text = built(
+        alloc,
         b"client a m\nphase\na write x 0 0 ",
         b"00",
-        4096,
+        bytes,
         b"\n",
     )?;
-    assert_eq!(rt; refusal(rt.alloc(), &hex), (0, "script"));
-    let hex = built(
-        rt.alloc(),
-        b"client a m\nphase\na write x 0 0 ",
-        b"00",
-        4097,
-        b"\n",
-    )?;
-    assert_eq!(rt; refusal(rt.alloc(), &hex), (3, "hex"));
+    Ok(refusal(alloc, &text))
+}
+
+#[test]
+fn limit_of_bytes(rt: HostRuntime) -> Result<(), Fail> {
+    assert_eq!(rt; hex(rt.alloc(), 4096)?, (0, "script"));
+    assert_eq!(rt; hex(rt.alloc(), 4097)?, (3, "hex"));
+    Ok(())
+}
+
+#[test]
+fn limit_of_a_line(rt: HostRuntime) -> Result<(), Fail> {
     for (times, back, word) in [
         (8400, b"\n".as_slice(), "phase"),
         (8401, b"\n", "long"),
@@ -180,46 +204,58 @@ fn refusals(rt: HostRuntime) -> Result<(), Fail> {
         let long = built(rt.alloc(), b"", b"a", times, back)?;
         assert_eq!(rt; refusal(rt.alloc(), &long), (1, word));
     }
-    let mut clients = Vec::new(rt.alloc());
-    for letter in b"abcdefghijklmnop" {
-        clients.extend_from_slice(b"client ")?;
-        clients.push(*letter)?;
-        clients.extend_from_slice(b" m\n")?;
-    }
-    assert_eq!(rt; refusal(rt.alloc(), &clients), (0, "script"));
-    clients.extend_from_slice(b"client q m\n")?;
-    assert_eq!(rt; refusal(rt.alloc(), &clients), (17, "client"));
     Ok(())
 }
 
+/// Lines that declare clients of these letters.
+fn clients(alloc: Global, letters: &[u8]) -> Result<Vec<u8>, AllocError> {
+    let mut text = Vec::new(alloc);
+    for letter in letters {
+        text.extend_from_slice(b"client ")?;
+        text.push(*letter)?;
+        text.extend_from_slice(b" m\n")?;
+    }
+    Ok(text)
+}
+
 #[test]
-fn answers(rt: HostRuntime) -> Result<(), Fail> {
-    let text = |text: &str| Text::of(rt.alloc(), text);
-    let disks = [text("d")?, text("e_1")?];
-    let mut names = Items::new(rt.alloc());
-    names.push(text("c")?)?;
-    names.push(text("t")?)?;
-    let bytes = Bytes::of(rt.alloc(), &[0, 255])?;
+fn limit_of_clients(rt: HostRuntime) -> Result<(), Fail> {
+    let most = clients(rt.alloc(), b"abcdefghijklmnop")?;
+    assert_eq!(rt; refusal(rt.alloc(), &most), (0, "script"));
+    let more = clients(rt.alloc(), b"abcdefghijklmnopq")?;
+    assert_eq!(rt; refusal(rt.alloc(), &more), (17, "client"));
+    Ok(())
+}
+
+/// An answer as it is written.
+fn written(alloc: Global, reply: &Reply) -> Result<Vec<u8>, Fail> {
+    let disks = [Text::of(alloc, "d")?, Text::of(alloc, "e_1")?];
+    let mut out = Vec::new(alloc);
+    put_reply(alloc, &mut out, &disks, reply)?;
+    Ok(out)
+}
+
+#[test]
+fn plain_answers(rt: HostRuntime) -> Result<(), Fail> {
     for (reply, line) in [
         (Reply::Done, " done"),
-        (Reply::Names { names }, " names c t"),
-        (
-            Reply::Names {
-                names: Items::new(rt.alloc()),
-            },
-            " names",
-        ),
         (Reply::Life { life: 3 }, " life 3"),
-        (Reply::Bytes { bytes }, " 00ff"),
         (Reply::NoObject, " no object"),
         (Reply::BadObject, " bad object"),
         (Reply::ObjectExists, " object exists"),
         (Reply::NotOnePage, " not one page"),
-        (Reply::NotBound { part: text("u")? }, " not bound u"),
-        (Reply::AlreadyBound { part: text("k")? }, " already bound k"),
-        (Reply::NotContext { part: text("k")? }, " not context k"),
-        (Reply::NotObject { part: text("t")? }, " not object t"),
         (Reply::Revoked { life: 1 }, " revoked 1"),
+        (Reply::TrailFull, " trail full"),
+        (Reply::Memory, " memory"),
+    ] {
+        assert_eq!(rt; written(rt.alloc(), &reply)?.as_slice(), line.as_bytes());
+    }
+    Ok(())
+}
+
+#[test]
+fn answers_of_maps(rt: HostRuntime) -> Result<(), Fail> {
+    for (reply, line) in [
         (Reply::NoManager, " no manager"),
         (Reply::RegionExists, " region exists"),
         (Reply::Unaligned, " unaligned"),
@@ -229,19 +265,77 @@ fn answers(rt: HostRuntime) -> Result<(), Fail> {
         (Reply::Unmapped { address: 127 }, " unmapped 127"),
         (Reply::CrossesPage, " crosses page"),
         (Reply::NotWritable, " not writable"),
-        (
-            Reply::Store {
-                disk: 1,
-                count: 18_446_744_073_709_551_615,
-            },
-            " store e_1 18446744073709551615",
-        ),
-        (Reply::TrailFull, " trail full"),
-        (Reply::Memory, " memory"),
     ] {
-        let mut out = Vec::new(rt.alloc());
-        put_reply(rt.alloc(), &mut out, &disks, &reply)?;
-        assert_eq!(rt; out.as_slice(), line.as_bytes());
+        assert_eq!(rt; written(rt.alloc(), &reply)?.as_slice(), line.as_bytes());
     }
+    Ok(())
+}
+
+#[test]
+fn answers_of_names(rt: HostRuntime) -> Result<(), Fail> {
+    let alloc = rt.alloc();
+    for (reply, line) in [
+        (
+            Reply::NotBound {
+                part: Text::of(alloc, "u")?,
+            },
+            " not bound u",
+        ),
+        (
+            Reply::AlreadyBound {
+                part: Text::of(alloc, "k")?,
+            },
+            " already bound k",
+        ),
+        (
+            Reply::NotContext {
+                part: Text::of(alloc, "k")?,
+            },
+            " not context k",
+        ),
+        (
+            Reply::NotObject {
+                part: Text::of(alloc, "t")?,
+            },
+            " not object t",
+        ),
+    ] {
+        assert_eq!(rt; written(alloc, &reply)?.as_slice(), line.as_bytes());
+    }
+    Ok(())
+}
+
+#[test]
+fn answers_that_list(rt: HostRuntime) -> Result<(), Fail> {
+    let alloc = rt.alloc();
+    let mut names = Items::new(alloc);
+    names.push(Text::of(alloc, "c")?)?;
+    names.push(Text::of(alloc, "t")?)?;
+    assert_eq!(rt;
+        written(alloc, &Reply::Names { names })?.as_slice(),
+        b" names c t".as_slice()
+    );
+    let names = Items::new(alloc);
+    assert_eq!(rt;
+        written(alloc, &Reply::Names { names })?.as_slice(),
+        b" names".as_slice()
+    );
+    Ok(())
+}
+
+#[test]
+fn answers_with_numbers(rt: HostRuntime) -> Result<(), Fail> {
+    let alloc = rt.alloc();
+    let bytes = Bytes::of(alloc, &[0, 255])?;
+    assert_eq!(rt;
+        written(alloc, &Reply::Bytes { bytes })?.as_slice(),
+        b" 00ff".as_slice()
+    );
+    let count = 18_446_744_073_709_551_615;
+    let line = b" store e_1 18446744073709551615".as_slice();
+    assert_eq!(rt;
+        written(alloc, &Reply::Store { disk: 1, count })?.as_slice(),
+        line
+    );
     Ok(())
 }
