@@ -4,3 +4,5 @@ pub mod Named
 pub mod Keyed
 pub mod Slots
 pub mod Entries
+pub mod Cut
+pub mod Image

@@ -7,4 +7,5 @@ pub mod Blocks
 pub mod Memory
 pub mod MemoryTexts
 pub mod MemoryBay
+pub mod Raw
 pub mod Host

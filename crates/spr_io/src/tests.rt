@@ -1,6 +1,5 @@
 //! The forms of the outside, in memory and on the host, called once with ample memory.
 
-use crate::host::HostStore;
 use crate::{
     Bay, BayErr, Failed, Gate, HostBay, HostShelf, MemBay, MemShelf, MemSink, MemStore, OpenGate,
     Shelf, ShelfErr, Sink, StdSink, Store,
@@ -234,24 +233,6 @@ fn host_bay(rt: HostRuntime) -> Result<(), Fail> {
         Err(Failed),
         "it was not taken"
     );
-    fs::remove_file(&rt, path)?;
-    Ok(())
-}
-
-#[test]
-fn host_store_at_the_end_of_its_count(rt: HostRuntime) -> Result<(), Fail> {
-    let path = "spr_io_store.f.img";
-    fs::write(&rt, path, "abcd")?;
-    for (count, want, after) in [(0u64, Err(Failed), 1u64), (u64::MAX, Ok(()), u64::MAX)] {
-        let file = fs::open(&rt, path)?;
-        let mut store = HostStore::new(file, 4, 1, count);
-        assert_eq!(rt;
-            store.write(0, b"efgh"),
-            want,
-            "the file is not open for writing"
-        );
-        assert_eq!(rt; store.count(), after);
-    }
     fs::remove_file(&rt, path)?;
     Ok(())
 }

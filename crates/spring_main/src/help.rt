@@ -16,7 +16,8 @@ usage: spring format STACK
   run IDL STACK SCRIPT   mounts the stack, runs the script over it, syncs each file, and writes each
                          client's answers and each file's one history; with --trace also each page
                          message, with the heads of its two frames
-  dump STACK FILE        writes the pages of a file of the stack, as its image has them
+  dump STACK FILE        writes the pages of a file of the stack, as its image has them; over disks
+                         in mirrors it mends them first, as a run does
   check STACK            writes the tree of layers that the stack makes, or why it cannot be mounted
   idl IDL                writes the numbered operations of each interface
   --help, -h             writes this
@@ -24,6 +25,17 @@ usage: spring format STACK
 
 IDL, STACK and SCRIPT are names of host files; FILE is a file of the stack. The store of disk D for
 file F is D.F.img in the current folder.
+
+The last line is 'status N', and the process ends with N:
+  0  all went well                     5  a store could not be taken or given back
+  1  a store failed, or a file's       6  a disk holds no image of the file
+     history is full                   7  the output could not be written
+  2  the words are no command          8  memory ran out
+  3  a text is refused
+  4  a text could not be read
+'image D F 0 magic': the store has no image yet; 'spring format STACK' writes fresh images, over all
+that the stores of the stack had. 'bay D F': D.F.img cannot be opened, is of another size, or is in
+use by another run.
 
 example: spring format examples/first/first.stack
          spring run examples/spring.idl examples/first/first.stack examples/first/first.script";

@@ -8,6 +8,7 @@ use seen_values::Text;
 use spr_io::{HostBay, HostShelf, OpenGate, StdSink};
 use spr_run::spring;
 use std::alloc::{AllocError, Global};
+use std::fs::File;
 use std::process::ExitCode;
 use std::rt::Runtime;
 use std::sync::Wait;
@@ -27,10 +28,11 @@ fn words(alloc: Global, args: env::Args<Global>) -> Result<Vec<Text>, AllocError
 }
 
 /// Runs a command of these words, and answers its status.
-fn run<R: Runtime + Threads + Wait + Sync>(rt: &R, alloc: Global, words: &[Text]) -> io::Result<u8>
-where
-    R::File: Send,
-{
+fn run<R: Runtime<File = File> + Threads + Wait + Sync>(
+    rt: &R,
+    alloc: Global,
+    words: &[Text],
+) -> io::Result<u8> {
     let mut shelf = HostShelf::new(rt.clone()?);
     let mut bay = HostBay::new(rt.clone()?, alloc);
     let mut sink = StdSink::new(rt.clone()?);
