@@ -2,3 +2,5 @@ pub mod OpenLaws
 pub mod HeldLaws
 pub mod ReceivedLaws
 pub mod FoundLaws
+pub mod ViewLaws
+pub mod BegunLaws

@@ -4,3 +4,5 @@ pub mod Received
 pub mod Found
 pub mod Held
 pub mod Laws
+pub mod Views
+pub mod Begun

@@ -3,8 +3,11 @@
 //! to the cache of the machine that they are made on. That an object is held so, and that a subcontract routes to the
 //! local cache, is the Spring papers' rule; the bytes of the objects, the constant name of every manager, and a client's
 //! names for its objects are this project's own.
+//!
+//! The names of a mounted stack start with one context per view, in the order of the nodes, and in it an object for each file.
 #![tactic(auto)]
 
+mod begun;
 mod entry;
 mod laws;
 mod objects;
@@ -13,10 +16,9 @@ mod registry;
 mod state;
 mod stored;
 mod target;
-#[cfg(test)]
-mod tests;
 mod why;
 
+pub use begun::{start_is_of_stack, start_names};
 pub use laws::{bound_is_received, found_leads, received_leads};
 pub use objects::Objects;
 pub use state::ClientState;

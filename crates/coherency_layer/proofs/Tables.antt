@@ -7,7 +7,7 @@ use Rattle.std.proofs.lemmas.List.{get_or_default, get_or-take, get_or-drop, len
 use Rattle.std.proofs.lemmas.List.Elements.{All-set}
 use Rattle.tower_core.proofs.Steps.{slice_get-set_same, slice_get-set_other}
 use Rattle.tower_core.specs.declared.right.Right.{Right}
-use Rattle.tower_sides.specs.Side.{Side, written}
+use Rattle.layer_laws.specs.Side.{Side, written}
 use Rattle.page_messages.specs.declared.slot.Slot.{Slot}
 use Rattle.page_messages.specs.declared.paged.About.{About}
 use Rattle.page_messages.specs.declared.message.Message.{Message}
@@ -17,7 +17,7 @@ use Rattle.page_messages.specs.Kept.{IsKept}
 use Rattle.page_messages.specs.Slot.{side_of, IsSlot}
 use Rattle.page_messages.proofs.KeptLaws.{written_page, write_some}
 use Rattle.coherency_layer.specs.declared.node.Node.{Node}
-use Rattle.coherency_layer.specs.Seen.{side_seen, side_in}
+use Rattle.page_messages.specs.Seen.{side_seen, side_in}
 use Rattle.coherency_layer.specs.Node.{side, ChangesPage, MayWrite, OnPages, slots_about}
 
 -- a page that is there

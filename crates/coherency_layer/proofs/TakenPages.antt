@@ -2,7 +2,7 @@
 use Rattle.std.specs.Prelude.{IsSomeAnd, IfSome, IsSome, IsNone, IsOk, OnOk, OnErr}
 use Rattle.std.proofs.Common.{◌≡◌, ◌≢◌, ℕ, ◌<◌, sym, ◌∙◌, ap, subst, refl, arith, Bool, true, false, cond, List, [], ◌∷◌, length, get_or, Option, Some, None, All, inl, inr, Result, Ok, Err}
 use Rattle.std.proofs.Math.ListN.{set}
-use Rattle.tower_sides.specs.Side.{Side}
+use Rattle.layer_laws.specs.Side.{Side}
 use Rattle.pager_channel.specs.Flags.{has_data}
 use Rattle.pager_channel.specs.Size.{data_size}
 use Rattle.pager_channel.specs.Seen.{FrameSeen}

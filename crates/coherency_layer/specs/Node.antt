@@ -3,7 +3,7 @@ use Rattle.std.specs.Prelude.{◌≡◌, ◌≢◌, ℕ, ◌+◌, ◌<◌, Optio
 use Rattle.tower_core.specs.declared.right.Right.{Right}
 use Rattle.tower_core.specs.Count.{count_below}
 use Rattle.tower_core.specs.Trail.{holds}
-use Rattle.tower_sides.specs.Side.{Side, written}
+use Rattle.layer_laws.specs.Side.{Side, written}
 use Rattle.marshal_buf.specs.Held.{Held}
 use Rattle.pager_channel.specs.declared.numbers.Ops.{Ops}
 use Rattle.pager_channel.specs.Frame.{IsFrame}
@@ -24,9 +24,9 @@ use Rattle.page_messages.specs.Sealed.{sealed, PutsFrame}
 use Rattle.page_messages.specs.After.{page_after}
 use Rattle.page_messages.specs.Message.{first_in, second_in, Allows}
 use Rattle.coherency_layer.specs.declared.node.Node.{Node}
-use Rattle.coherency_layer.specs.declared.refusal.NodeErr.{NodeErr}
-use Rattle.coherency_layer.specs.declared.refusal.NodeErr.TheVariants as errors
-use Rattle.coherency_layer.specs.Seen.{side_in}
+use Rattle.page_messages.specs.declared.refusal.NodeErr.{NodeErr}
+use Rattle.page_messages.specs.declared.refusal.NodeErr.TheVariants as errors
+use Rattle.page_messages.specs.Seen.{side_in}
 
 -- WHAT CONTRACTS SEE OF A NODE: its file, its children, and by page its right, its copy, whether that is changed, and
 -- the right of each child

@@ -5,12 +5,11 @@ ghost use Rattle.page_messages.specs.Masks.{IsIn};
 ghost use Rattle.page_messages.specs.Message.{Allows, IsKnown};
 ghost use Rattle.page_messages.specs.Paged.{IsInside, page_named};
 ghost use Rattle.page_messages.specs.Slot.{side_of};
-ghost use Rattle.coherency_layer.specs.declared.refusal.NodeErr.{NodeErr as ARefusal};
+ghost use Rattle.page_messages.specs.declared.refusal.NodeErr.{NodeErr as ARefusal};
 ghost use Rattle.coherency_layer.specs.Node.{file_of, HasChild, slots_about, AllowsAbout, AllowsFirst, AllowsSecond};
 
 use crate::node::Node;
-use crate::refusal::NodeErr;
-use page_messages::{About, Answer, Message, Slot, first_in, second_in};
+use page_messages::{About, Answer, Message, NodeErr, Slot, first_in, second_in};
 use pager_channel::Frame;
 
 /// Whether each of these pages allows the message.

@@ -7,14 +7,9 @@
 
 mod allowing;
 mod node;
-mod refusal;
 mod starting;
 mod taking;
 mod writing;
 
 pub use node::Node;
-pub use page_messages::{About, Asked, Called, PagedFile};
-pub use refusal::NodeErr;
-
-#[cfg(test)]
-mod tests;
+pub use page_messages::{About, Asked, Called, NodeErr, PagedFile};

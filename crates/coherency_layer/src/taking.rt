@@ -4,8 +4,7 @@ ghost use Rattle.std.specs.Prelude.{IfSome, IfErr, OnOk, OnErr};
 ghost use Rattle.coherency_layer.specs.Node.{HasChild, AllowsFirst, AllowsSecond, IsChange, IsLeft, IsRefusal, IsFirstCopy, IsForFirstCopy};
 
 use crate::node::Node;
-use crate::refusal::NodeErr;
-use page_messages::About;
+use page_messages::{About, NodeErr};
 use pager_channel::Frame;
 use std::alloc::AllocError;
 

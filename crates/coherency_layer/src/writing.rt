@@ -3,7 +3,7 @@
 ghost use Rattle.std.specs.Prelude.{◌≡◌, ◌≢◌, ◌<◌, ◌≤◌, ◌+◌, ◌^◌, ℕ, List, OnOk, OnErr, IfErr, IsOk, length, Some, None, Err};
 ghost use Rattle.marshal_buf.specs.Held.{IsAsBefore};
 ghost use Rattle.pager_channel.specs.Frame.{IsFrame};
-ghost use Rattle.coherency_layer.specs.declared.refusal.NodeErr.{NodeErr as ARefusal};
+ghost use Rattle.page_messages.specs.declared.refusal.NodeErr.{NodeErr as ARefusal};
 ghost use Rattle.page_messages.specs.Paged.{about_of};
 ghost use Rattle.page_messages.specs.Rights.{IsForPage};
 ghost use Rattle.page_messages.specs.Letters.{question, answer, order, reply};
@@ -11,9 +11,8 @@ ghost use Rattle.page_messages.specs.Sealed.{sealed, PutsFrame};
 ghost use Rattle.coherency_layer.specs.Node.{file_of, side, HasChild, MayAskAbout, MayCallAbout, AllowsFirst, IsRefusal, WritesReply, WritesAnswer};
 
 use crate::node::Node;
-use crate::refusal::NodeErr;
 use marshal_buf::Buf;
-use page_messages::{Asked, Called, Letter, asked_in, called_in};
+use page_messages::{Asked, Called, Letter, NodeErr, asked_in, called_in};
 use pager_channel::{Frame, Ops};
 use std::alloc::AllocError;
 use tower_core::Right;

@@ -13,6 +13,3 @@ pub use putting::put_call;
 pub use reading::read_call;
 pub use through::through_frame;
 pub use why::CallWhy;
-
-#[cfg(test)]
-mod tests;

@@ -5,3 +5,8 @@ pub mod Files
 pub mod Stop
 pub mod Stops
 pub mod Written
+pub mod WholeDisk
+pub mod Under
+pub mod Opening
+pub mod Reading
+pub mod Guards

@@ -11,6 +11,3 @@ mod why;
 pub use checked::{Checked, check, first_reason, fit_exactly, ranks_fall};
 pub use names::{decl_name, is_interface};
 pub use why::{IdlUnfit, UnfitWhy};
-
-#[cfg(test)]
-mod tests;

@@ -15,6 +15,3 @@ pub use idl::{
 pub use print::print_idl;
 pub use read::{read_idl, texts_and_declarations};
 pub use why::{IdlRefused, IdlWhy};
-
-#[cfg(test)]
-mod tests;

@@ -11,6 +11,3 @@ mod table_set;
 pub use entry::Entry;
 pub use laws::{clashes_show, lines_and_bases, tables_are_few, tables_follow_bases};
 pub use table_set::{TableSet, print_tables, tables};
-
-#[cfg(test)]
-mod tests;

@@ -28,11 +28,11 @@ use Rattle.file_stores.specs.Written.{Written}
 use Rattle.file_stores.proofs.Lists.{to-map}
 use Rattle.file_stores.proofs.FileLaws.{became-pairs, in-disks}
 use Rattle.file_stores.proofs.ReturnLaws.{returned-of}
-use Rattle.file_ground.specs.Under.{One, Many, Under}
-use Rattle.file_ground.specs.Opening.{IsLeft, IsOpened, content_of, faults_of, shape_of_file}
-use Rattle.file_ground.specs.Reading.{AllStay, Calmly, Fails, ReadsAll, shape_under}
-use Rattle.file_ground.proofs.AloneLaws.{same-state}
-use Rattle.file_ground.proofs.StoreLaws.{alone-lasts, closed-lasts}
+use Rattle.file_stores.specs.Under.{One, Many, Under}
+use Rattle.file_stores.specs.Opening.{IsLeft, IsOpened, content_of, faults_of, shape_of_file}
+use Rattle.file_stores.specs.Reading.{AllStay, Calmly, Fails, ReadsAll, shape_under}
+use Rattle.file_stores.proofs.AloneLaws.{same-state}
+use Rattle.file_stores.proofs.StoreLaws.{alone-lasts, closed-lasts}
 use Rattle.image_commands.specs.Pages.{ArePagesOf, page_lines}
 use Rattle.image_commands.specs.Read.{ArePagesIn, IsRead, IsUnprinted, Looked, no_text, read_many, read_one, refused_many, refused_one}
 use Rattle.image_commands.specs.Says.{FileTurned, PrintsPages, SaysDump, not_printed, not_taken, printed}

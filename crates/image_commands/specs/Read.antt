@@ -14,8 +14,8 @@ use Rattle.file_stores.specs.Keys.{image_shape}
 use Rattle.file_stores.specs.Held.{StoreSeen}
 use Rattle.file_stores.specs.Files.{FileSeen}
 use Rattle.file_stores.specs.Stops.{Failed}
-use Rattle.file_ground.specs.Opening.{IsUnopened, content_of, faults_of, shape_of_file}
-use Rattle.file_ground.specs.Reading.{Stays}
+use Rattle.file_stores.specs.Opening.{IsUnopened, content_of, faults_of, shape_of_file}
+use Rattle.file_stores.specs.Reading.{Stays}
 use Rattle.image_commands.specs.Pages.{ArePagesOf}
 
 -- A GROUND WAS OPENED over the stores of a file on disks in mirrors, pages of it were read, and it was closed. All that the reads did

@@ -12,8 +12,6 @@ mod plain;
 mod put;
 mod read;
 mod room;
-#[cfg(test)]
-mod tests;
 mod value;
 mod why;
 

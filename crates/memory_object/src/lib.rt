@@ -5,8 +5,6 @@
 
 mod binding;
 mod laws;
-#[cfg(test)]
-mod tests;
 
 pub use binding::{CacheRights, MemoryObject, NoManager};
 pub use laws::equivalent_objects_bind_alike;

@@ -10,8 +10,6 @@ mod parts;
 mod stack_names;
 mod start;
 mod steps;
-#[cfg(test)]
-mod tests;
 mod tree;
 mod walk;
 

@@ -4,9 +4,9 @@ use Rattle.tower_core.specs.declared.right.Right.{Right}
 use Rattle.tower_core.specs.declared.step.Step.TheVariants.{Reads, Writes, Grants, PagesOut, Pushes, Denies, Flushes, Deletes}
 use Rattle.tower_core.specs.TreeShape.{TreeShape, parent, IsUpper, IsChild}
 use Rattle.tower_core.specs.Column.{Column, IsCoherent, MayStep, NoChildWrites, NoChildHolds, NoSiblingHolds}
-use Rattle.tower_sides.specs.Side.{Side}
-use Rattle.tower_sides.specs.Shown.{AreRights}
-use Rattle.tower_sides.proofs.HandOvers.{differs-same}
+use Rattle.layer_laws.specs.Side.{Side}
+use Rattle.layer_laws.specs.Shown.{AreRights}
+use Rattle.layer_laws.proofs.HandOvers.{differs-same}
 use Rattle.page_messages.specs.declared.kinds.Asked.{Asked}
 use Rattle.page_messages.specs.declared.kinds.Called.{Called}
 use Rattle.page_messages.specs.Rules.{NoKidHolds, NoKidWrites, NoOtherHolds}

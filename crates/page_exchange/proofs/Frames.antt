@@ -3,7 +3,7 @@ use Rattle.std.specs.Prelude.{IsSomeAnd}
 use Rattle.std.specs.Option.{option_map}
 use Rattle.std.proofs.Common.{◌≡◌, ◌≢◌, ℕ, ◌+◌, cond, ◌<◌, sym, ◌∙◌, ap, subst, refl, Bool, true, false, List, [], length, Option, Some, None}
 use Rattle.tower_core.specs.declared.right.Right.{Right}
-use Rattle.tower_sides.specs.Side.{Side, kid_after}
+use Rattle.layer_laws.specs.Side.{Side, kid_after}
 use Rattle.pager_channel.specs.declared.numbers.Ops.{Ops}
 use Rattle.pager_channel.specs.Flags.{has_data}
 use Rattle.pager_channel.specs.declared.flags.TheConstants.{DATA}

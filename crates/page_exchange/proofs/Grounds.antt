@@ -3,7 +3,7 @@ use Rattle.std.specs.Prelude.{IsErrAnd, IfErr}
 use Rattle.std.proofs.Common.{◌⊎◌, inl, inr, Result, Ok, Err, ◌≡◌, ℕ, ◌<◌, sym, ◌∙◌, ap, subst, refl, true, List, length, Option, Some, None}
 use Rattle.disk_layer.specs.Seen.{Seen}
 use Rattle.tower_core.specs.declared.right.Right.{Right}
-use Rattle.tower_sides.specs.Side.{Side}
+use Rattle.layer_laws.specs.Side.{Side}
 use Rattle.pager_channel.specs.declared.numbers.Ops.{Ops}
 use Rattle.pager_channel.specs.Flags.{has_data}
 use Rattle.pager_channel.specs.Seen.{FrameSeen}

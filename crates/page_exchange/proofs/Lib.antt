@@ -6,3 +6,10 @@ pub mod Grounds
 pub mod Allowed
 pub mod Moved
 pub mod Telling
+pub mod Using
+pub mod Pairs
+pub mod Singles
+pub mod Sending
+pub mod Lent
+pub mod Fresh
+pub mod Copies

@@ -2,7 +2,7 @@
 use Rattle.std.proofs.Common.{◌≡◌, ◌≢◌, ℕ, inl, inr, sym, ◌∙◌, ap, subst, arith, List, Option}
 use Rattle.tower_core.specs.declared.right.Right.{Right}
 use Rattle.tower_core.specs.TreeShape.{TreeShape, parent, IsUpper}
-use Rattle.tower_sides.specs.Side.{Side, own_after, kid_after}
+use Rattle.layer_laws.specs.Side.{Side, own_after, kid_after}
 use Rattle.page_messages.specs.declared.paged.About.{About}
 use Rattle.page_messages.proofs.NodeSets.{same_or_not}
 use Rattle.coherency_layer.specs.declared.node.Node.{Node}

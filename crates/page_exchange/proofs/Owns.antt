@@ -3,7 +3,7 @@ use Rattle.std.specs.Prelude.{IsSomeAnd, IsSome}
 use Rattle.std.specs.Option.{option_map}
 use Rattle.std.proofs.Common.{◌≡◌, ◌≢◌, ℕ, ◌<◌, sym, ◌∙◌, ap, subst, refl, List, [], Option, Some, None}
 use Rattle.tower_core.specs.declared.right.Right.{Right}
-use Rattle.tower_sides.specs.Side.{Side, own_after}
+use Rattle.layer_laws.specs.Side.{Side, own_after}
 use Rattle.pager_channel.specs.Seen.{FrameSeen}
 use Rattle.page_messages.specs.declared.kinds.Answer.{Answer}
 use Rattle.page_messages.specs.declared.kinds.Asked.{Asked}
@@ -21,7 +21,7 @@ use Rattle.page_messages.specs.Rules.{MayAsk, MayTake}
 use Rattle.coherency_layer.specs.declared.node.Node.{Node}
 use Rattle.coherency_layer.specs.Node as layers
 use Rattle.coherency_layer.specs.Node.{OnPages, about_asked, about_called}
-use Rattle.coherency_layer.specs.Seen.{side_seen, no_side}
+use Rattle.page_messages.specs.Seen.{side_seen, no_side}
 use Rattle.vmm_cache.specs.declared.leaf.Leaf.{Leaf as LeafTable}
 use Rattle.vmm_cache.specs.Frames.{slot_in}
 use Rattle.vmm_cache.specs.Leaf as leaves

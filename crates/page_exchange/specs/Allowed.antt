@@ -2,7 +2,7 @@
 use Rattle.std.specs.Prelude.{◌≡◌, ◌≢◌, ℕ, Bool, true, false}
 use Rattle.tower_core.specs.TreeShape.{TreeShape, parent, IsUpper}
 use Rattle.tower_core.specs.declared.right.Right.{Right}
-use Rattle.tower_sides.specs.Side.{Side}
+use Rattle.layer_laws.specs.Side.{Side}
 use Rattle.page_messages.specs.declared.kinds.Asked.{Asked}
 use Rattle.page_messages.specs.declared.kinds.Called.{Called}
 use Rattle.page_messages.specs.Rules.{MayAsk, MayServe, MayCall, MayObey, NoKidHolds, NoKidWrites}

@@ -1,7 +1,7 @@
 -- A message and its answer between two nodes of one file, and what they make of the two tables.
 use Rattle.std.specs.Prelude.{◌≡◌, ℕ, Bool, true, List, [], Option}
 use Rattle.tower_core.specs.declared.right.Right.{Right}
-use Rattle.tower_sides.specs.Side.{Side, own_after, kid_after}
+use Rattle.layer_laws.specs.Side.{Side, own_after, kid_after}
 use Rattle.page_messages.specs.declared.kinds.Asked.{Asked}
 use Rattle.page_messages.specs.declared.paged.About.{About}
 use Rattle.coherency_layer.specs.declared.node.Node.{Node}

@@ -2,7 +2,7 @@
 use Rattle.std.specs.Prelude.{◌≡◌, ◌⊎◌, ◌<◌, ℕ, List, length, slice_get, Option, Some, None, IfSome, Result, Ok, Err}
 use Rattle.tower_core.specs.declared.right.Right.{Right}
 use Rattle.tower_core.specs.Column.{updated}
-use Rattle.tower_sides.specs.Side.{brought}
+use Rattle.layer_laws.specs.Side.{brought}
 use Rattle.disk_layer.specs.Seen.{Seen, IsCalm, IsFault, Keeps, ReadsPage, with_page}
 use Rattle.page_messages.specs.declared.kinds.Asked.{Asked}
 use Rattle.page_messages.specs.Carried.{asked_down}

@@ -5,3 +5,5 @@ pub mod Ground
 pub mod Allowed
 pub mod Moved
 pub mod Steps
+pub mod Listed
+pub mod Tables

@@ -2,7 +2,7 @@
 use Rattle.std.specs.Prelude.{◌≡◌, ◌≢◌, ℕ, List, Option}
 use Rattle.tower_core.specs.TreeShape.{TreeShape, parent, IsUpper}
 use Rattle.tower_core.specs.declared.right.Right.{Right}
-use Rattle.tower_sides.specs.Side.{Side, own_after, kid_after}
+use Rattle.layer_laws.specs.Side.{Side, own_after, kid_after}
 use Rattle.page_exchange.specs.Table.{IsLike}
 
 -- the tables, by page and node, have this one as the node's

@@ -3,8 +3,8 @@ use Rattle.std.specs.Prelude.{◌≡◌, ◌≢◌, ℕ, ◌==◌, if◌then◌e
 use Rattle.tower_core.specs.TreeShape.{TreeShape, parent}
 use Rattle.tower_core.specs.declared.step.Step.{Step}
 use Rattle.tower_core.specs.declared.step.Step.TheVariants.{Untouched, Grants, PagesOut, Denies, Pushes, Flushes, Deletes}
-use Rattle.tower_sides.specs.Side.{Side}
-use Rattle.tower_sides.specs.Sent.{AreSent, AreBrought, pushed_by}
+use Rattle.layer_laws.specs.Side.{Side}
+use Rattle.layer_laws.specs.Sent.{AreSent, AreBrought, pushed_by}
 use Rattle.page_messages.specs.declared.kinds.Asked.{Asked}
 use Rattle.page_messages.specs.declared.kinds.Called.{Called}
 use Rattle.page_exchange.specs.Ground.{Tells}

@@ -1,7 +1,7 @@
 -- A node's own table, that of a layer or of a leaf: what contracts see of it, what it allows, and what a frame makes of it.
 use Rattle.std.specs.Prelude.{◌≡◌, ◌≢◌, ℕ, Bool, true, false, None, List, []}
 use Rattle.tower_core.specs.declared.right.Right.{Right}
-use Rattle.tower_sides.specs.Side.{Side, written}
+use Rattle.layer_laws.specs.Side.{Side, written}
 use Rattle.pager_channel.specs.declared.numbers.Ops.{Ops}
 use Rattle.pager_channel.specs.Seen.{FrameSeen}
 use Rattle.page_messages.specs.declared.kinds.Asked.{Asked}

@@ -2,7 +2,7 @@
 
 ghost use Rattle.std.specs.Prelude.{◌≡◌, ◌+◌, ◌<◌, ◌≤◌, ◌↔◌, IsTrue, length, take, drop, replicate};
 ghost use Rattle.hist_plain.specs.Plain.{overwritten};
-ghost use Rattle.tower_sides.specs.Side.{written};
+ghost use Rattle.layer_laws.specs.Side.{written};
 ghost use Rattle.vmm_cache.specs.Leaf as leaves;
 ghost use Rattle.vmm_cache.specs.Uses.{oldest, used_last};
 ghost use Rattle.page_exchange.specs.Table.{file_of, side, uses_of, MayRead, MayWrite, IsUsed, IsWritten};

@@ -6,8 +6,8 @@ ghost use Rattle.tower_core.specs.Column.{Column, IsCoherent, MayStep, NoChildHo
 ghost use Rattle.tower_core.specs.TreeShape.{IsUpper, TreeShape, parent};
 ghost use Rattle.tower_core.specs.declared.right.Right.{Right as ARight};
 ghost use Rattle.tower_core.specs.declared.step.Step.TheVariants.{Deletes, Denies, Flushes, Grants, PagesOut, Pushes, Reads, Writes};
-ghost use Rattle.tower_sides.specs.Shown.{AreRights};
-ghost use Rattle.tower_sides.specs.Side.{Side};
+ghost use Rattle.layer_laws.specs.Shown.{AreRights};
+ghost use Rattle.layer_laws.specs.Side.{Side};
 ghost use Rattle.page_messages.specs.declared.kinds.Asked.{Asked as AQuestion};
 ghost use Rattle.page_messages.specs.declared.kinds.Called.{Called as AnOrder};
 ghost use Rattle.page_messages.specs.declared.paged.About.{About as AnAbout};

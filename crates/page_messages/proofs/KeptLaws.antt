@@ -4,7 +4,7 @@ use Rattle.std.proofs.Common.{◌≡◌, ◌≢◌, ℕ, ◌<◌, inl, inr, sym,
 use Rattle.std.proofs.lemmas.Bool.Decides.{eqb_tells}
 use Rattle.tower_core.specs.declared.right.Right.{Right}
 use Rattle.tower_core.specs.Column.{updated}
-use Rattle.tower_sides.specs.Side.{Side, own_after, kid_after, written, brought}
+use Rattle.layer_laws.specs.Side.{Side, own_after, kid_after, written, brought}
 use Rattle.pager_channel.specs.Flags.{has_data}
 use Rattle.pager_channel.specs.Seen.{FrameSeen}
 use Rattle.page_messages.specs.declared.kinds.Asked.{Asked}

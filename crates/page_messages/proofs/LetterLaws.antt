@@ -2,7 +2,7 @@
 use Rattle.std.specs.Prelude.{◌&&◌, if◌then◌else◌}
 use Rattle.std.proofs.Common.{◌≡◌, ℕ, ◌+◌, ◌<◌, sym, ◌∙◌, ap, refl, arith, Bool, true, false, cond, List, [], length}
 use Rattle.tower_core.specs.declared.right.Right.{Right}
-use Rattle.tower_sides.specs.Side.{Side}
+use Rattle.layer_laws.specs.Side.{Side}
 use Rattle.pager_channel.specs.declared.operation.Operation.{Operation}
 use Rattle.pager_channel.specs.Flags.{has_data, is_to_cache, is_to_file}
 use Rattle.pager_channel.specs.Numbers.{IsOfObject}

@@ -6,8 +6,8 @@ use Rattle.std.proofs.Math.Nat.{mul-div_cancel}
 use Rattle.std.proofs.lemmas.Bool.{eq-eqb, lt-ltb}
 use Rattle.std.proofs.lemmas.Nat.{mod-mul-add}
 use Rattle.tower_core.specs.declared.right.Right.{Right}
-use Rattle.tower_sides.specs.Side.{Side}
-use Rattle.tower_sides.specs.Sent.{up_for}
+use Rattle.layer_laws.specs.Side.{Side}
+use Rattle.layer_laws.specs.Sent.{up_for}
 use Rattle.pager_channel.specs.declared.operation.Operation.{Operation}
 use Rattle.pager_channel.specs.declared.numbers.Ops.{Ops}
 use Rattle.pager_channel.specs.Flags.{has_data}

@@ -1,6 +1,6 @@
 -- What a frame makes of a page of a table.
 use Rattle.std.specs.Prelude.{ℕ, Option, Some, None}
-use Rattle.tower_sides.specs.Side.{Side, own_after, kid_after}
+use Rattle.layer_laws.specs.Side.{Side, own_after, kid_after}
 use Rattle.pager_channel.specs.Seen.{FrameSeen}
 use Rattle.page_messages.specs.Kinds.{right_of, bytes_up, bytes_down}
 

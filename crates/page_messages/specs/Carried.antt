@@ -2,8 +2,8 @@
 -- carries.
 use Rattle.std.specs.Prelude.{ℕ, if◌then◌else◌, List, Option, Some, None}
 use Rattle.tower_core.specs.declared.right.Right.{Right}
-use Rattle.tower_sides.specs.Side.{Side}
-use Rattle.tower_sides.specs.Sent.{down_for, pushed_by}
+use Rattle.layer_laws.specs.Side.{Side}
+use Rattle.layer_laws.specs.Sent.{down_for, pushed_by}
 use Rattle.pager_channel.specs.declared.operation.Operation.{Operation}
 use Rattle.page_messages.specs.declared.kinds.Asked.{Asked}
 use Rattle.page_messages.specs.declared.kinds.Called.{Called}

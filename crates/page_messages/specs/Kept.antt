@@ -1,7 +1,7 @@
 -- What holds of each page of a node's table.
 use Rattle.std.specs.Prelude.{◌≡◌, ◌≢◌, ◌<◌, ℕ, length}
 use Rattle.tower_core.specs.declared.right.Right.{Right}
-use Rattle.tower_sides.specs.Side.{Side}
+use Rattle.layer_laws.specs.Side.{Side}
 use Rattle.page_messages.specs.Masks.{IsIn}
 
 -- a page has so many bytes, and these are the children

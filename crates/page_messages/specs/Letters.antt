@@ -2,7 +2,7 @@
 use Rattle.std.specs.Prelude.{◌≡◌, ◌<◌, ℕ, ◌+◌, ◌==◌, ◌&&◌, Bool, false, true, if◌then◌else◌, List, [], length}
 use Rattle.std.specs.List.{list_all}
 use Rattle.tower_core.specs.declared.right.Right.{Right}
-use Rattle.tower_sides.specs.Side.{Side}
+use Rattle.layer_laws.specs.Side.{Side}
 use Rattle.pager_channel.specs.declared.operation.Operation.{Operation}
 use Rattle.pager_channel.specs.declared.flags.TheConstants.{DATA, REPLY, TO_CACHE}
 use Rattle.pager_channel.specs.Flags.{has_data, is_to_cache, is_to_file}

@@ -11,3 +11,4 @@ pub mod Kept
 pub mod Slot
 pub mod After
 pub mod Message
+pub mod Seen

@@ -3,7 +3,7 @@ use Rattle.std.specs.Prelude.{◌<◌, ℕ, Option, Some, None}
 use Rattle.std.specs.Option.{option_map}
 use Rattle.pager_channel.specs.Flags.{has_data}
 use Rattle.pager_channel.specs.Seen.{FrameSeen}
-use Rattle.tower_sides.specs.Side.{Side}
+use Rattle.layer_laws.specs.Side.{Side}
 use Rattle.page_messages.specs.declared.kinds.Asked.{Asked}
 use Rattle.page_messages.specs.declared.kinds.Called.{Called}
 use Rattle.page_messages.specs.declared.kinds.Answer.{Answer}

@@ -1,6 +1,6 @@
 -- One page of a node's table, as the code has it.
 use Rattle.page_messages.specs.declared.slot.Slot.{Slot}
-use Rattle.tower_sides.specs.Side.{Side}
+use Rattle.layer_laws.specs.Side.{Side}
 use Rattle.page_messages.specs.Kids.{right_in}
 use Rattle.page_messages.specs.Kept.{IsKept}
 use Rattle.std.specs.Prelude.{ℕ}

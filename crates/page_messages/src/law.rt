@@ -3,7 +3,7 @@
 ghost use Rattle.std.specs.Prelude.{List, None, Some, length, ℕ, ◌<◌, ◌≡◌};
 ghost use Rattle.pager_channel.specs.declared.numbers.Ops.{Ops as Numbers};
 ghost use Rattle.tower_core.specs.declared.right.Right.{Right as ARight};
-ghost use Rattle.tower_sides.specs.Side.{Side};
+ghost use Rattle.layer_laws.specs.Side.{Side};
 ghost use Rattle.page_messages.specs.declared.kinds.Asked.{Asked as AQuestion};
 ghost use Rattle.page_messages.specs.declared.kinds.Called.{Called as AnOrder};
 ghost use Rattle.page_messages.specs.declared.paged.PagedFile.{PagedFile as AFile};

@@ -12,6 +12,7 @@ mod letter;
 mod masks;
 mod message;
 mod paged;
+mod refusal;
 mod slot;
 
 pub use kids::Kids;
@@ -23,7 +24,5 @@ pub use letter::Letter;
 pub use masks::{has, set_of};
 pub use message::{Message, first_in, second_in};
 pub use paged::{About, PagedFile};
+pub use refusal::NodeErr;
 pub use slot::Slot;
-
-#[cfg(test)]
-mod tests;

@@ -2,7 +2,7 @@
 
 ghost use Rattle.std.specs.Prelude.{◌≡◌, ◌≢◌, ◌+◌, ◌<◌, ◌≤◌, ◌++◌, ◌↔◌, IsTrue, OnOk, OnErr, IsOk, IsSome, IsNone, IfSome, length, replicate, ℕ, Bool, Some, None, true};
 ghost use Rattle.tower_core.specs.declared.right.Right.{Right as ARight};
-ghost use Rattle.tower_sides.specs.Side.{own_after, written};
+ghost use Rattle.layer_laws.specs.Side.{own_after, written};
 ghost use Rattle.pager_channel.specs.Flags.{has_data};
 ghost use Rattle.page_messages.specs.Rules.{NoKidHolds, NoKidWrites, MayAsk, MayServe, MayCall, MayObey, MayTake};
 ghost use Rattle.page_messages.specs.Kinds.{bytes_down};

@@ -20,6 +20,3 @@ pub use reading::read_frame;
 pub use sent::Frame;
 pub use why::{BadFrame, FrameWhy};
 pub use writing::put_frame;
-
-#[cfg(test)]
-mod tests;

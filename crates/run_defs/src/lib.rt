@@ -7,6 +7,3 @@ mod store;
 
 pub use names::{disk_name, file_name, file_named, pages_of, view_of};
 pub use store::StoreKey;
-
-#[cfg(test)]
-mod tests;

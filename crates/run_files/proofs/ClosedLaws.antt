@@ -20,9 +20,9 @@ use Rattle.stack_engine.specs.Engine.{events_in, file_in, log_in, tree_in}
 use Rattle.stack_engine.specs.Opened.{KeepsSince, last_from}
 use Rattle.stack_engine.specs.Tower.{TowerSeen}
 use Rattle.stack_engine.proofs.Logs.{last_from-entered}
-use Rattle.shared_tower.specs.Shared.{by}
-use Rattle.shared_tower.proofs.Laters.{all-append}
-use Rattle.shared_tower.proofs.Whole.{IsIdle, IsQuiet, all_idle, pages_end}
+use Rattle.spr_volume.specs.TowerShared.{by}
+use Rattle.spr_volume.proofs.Laters.{all-append}
+use Rattle.spr_volume.proofs.Whole.{IsIdle, IsQuiet, all_idle, pages_end}
 use Rattle.spr_volume.specs.Passes.{is_own}
 use Rattle.run_phases.specs.Closing.{EndsQuietly}
 use Rattle.run_files.specs.Play.{IsClosed}

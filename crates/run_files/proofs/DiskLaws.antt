@@ -22,13 +22,13 @@ use Rattle.stack_engine.specs.Opened.{IsOf}
 use Rattle.file_stores.specs.Keys.{image_shape}
 use Rattle.file_stores.specs.State.{StoreState}
 use Rattle.file_stores.specs.Held.{StoreSeen, IsFit}
-use Rattle.file_ground.specs.Opening.{under}
-use Rattle.file_ground.specs.WholeDisk.{seen_whole}
+use Rattle.file_stores.specs.Opening.{under}
+use Rattle.file_stores.specs.WholeDisk.{seen_whole}
 use Rattle.run_files.specs.Play.{KeepsNow}
 use Rattle.run_files.specs.Run.{pages_in, IsKept, IsTold, Leaves}
 use Rattle.run_files.proofs.EngineLaws.{EngineRun, along-of, calm-of, disks-later, kept-of, rises-of, same-number, same-size, still-told}
 use Rattle.run_files.proofs.PageLaws.{ArePaged, image-paged, joined-are, length-of}
-use Rattle.file_ground.proofs.WholeLaws.{kept-under, faults-under, opened-under, is-live}
+use Rattle.file_stores.proofs.WholeLaws.{kept-under, faults-under, opened-under, is-live}
 use Rattle.run_files.proofs.WholeLaws.{on-disk, same-number-under}
 
 rises-is : (a b c d : ℕ) (m n : ℕ) (log : List Logged) → a ≡ b → c ≡ d → m ≡ n → Rises a c (counts_of m log) → Rises b d (counts_of n log)

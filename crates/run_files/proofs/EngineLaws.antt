@@ -24,7 +24,7 @@ use Rattle.tower_shows.proofs.Stays.{told_stays}
 use Rattle.stack_engine.specs.Engine.{EngineSeen, IsSound, events_in, file_in, log_in, sides_in, tree_in}
 use Rattle.stack_engine.specs.Opened.{AreAnswers, IsOf, KeepsSince, last_from}
 use Rattle.stack_engine.specs.Start as engines
-use Rattle.shared_tower.specs.Later.{AreLater, IsLater, IsNoteOf, IsOnDisk, KeepsFirst, TurnsFirst}
+use Rattle.spr_volume.specs.Later.{AreLater, IsLater, IsNoteOf, IsOnDisk, KeepsFirst, TurnsFirst}
 use Rattle.run_defs.specs.declared.store.StoreKey.{StoreKey}
 use Rattle.run_defs.specs.Stack.{pages_of}
 use Rattle.file_stores.specs.Keys.{image_shape}

@@ -17,8 +17,8 @@ use Rattle.mirror_layer.specs.Stores.{Finds}
 use Rattle.mirror_layer.specs.Bringing.{Brought, Lies, brought, lies}
 use Rattle.file_stores.specs.Keys.{EachAt}
 use Rattle.file_stores.specs.Held.{StoreSeen}
-use Rattle.file_ground.specs.Opening.{content_of, faults_of}
-use Rattle.file_ground.proofs.Lists.{nth-get}
+use Rattle.file_stores.specs.Opening.{content_of, faults_of}
+use Rattle.file_stores.proofs.GroundLists.{nth-get}
 use Rattle.run_files.proofs.PageLaws.{ArePaged, image-paged}
 
 -- a good disk has such pages

@@ -24,8 +24,8 @@ use Rattle.spr_volume.specs.Passes.{logs}
 use Rattle.file_stores.specs.declared.stop.Stop.{Stop}
 use Rattle.file_stores.specs.Files.{ArePairs, FileSeen, Lasts}
 use Rattle.file_stores.proofs.Lists.{some-is, no-item}
-use Rattle.file_ground.specs.Under.{IsSound as IsSoundUnder, Under, seen_under}
-use Rattle.file_ground.specs.Opening.{IsOpened}
+use Rattle.file_stores.specs.Under.{IsSound as IsSoundUnder, Under, seen_under}
+use Rattle.file_stores.specs.Opening.{IsOpened}
 use Rattle.run_files.specs.Held.{paged, BeganOn, Opens, OpensEach, OpensSome, IsUnheld, IsShut, AreShut}
 
 -- a tower over what lies under a file

@@ -27,7 +27,7 @@ use Rattle.tower_log.specs.declared.logged.Logged.{Logged}
 use Rattle.tower_log.specs.Notes.{Rises, counts_of}
 use Rattle.stack_engine.specs.Engine.{EngineSeen, log_in}
 use Rattle.stack_engine.specs.Opened.{IsOf}
-use Rattle.shared_tower.specs.Later.{AreLater}
+use Rattle.spr_volume.specs.Later.{AreLater}
 use Rattle.run_defs.specs.declared.store.StoreKey.{StoreKey}
 use Rattle.run_defs.specs.Stack.{pages_of}
 use Rattle.file_stores.specs.Keys.{EachAt, image_shape}
@@ -35,15 +35,15 @@ use Rattle.file_stores.specs.Held.{StoreSeen}
 use Rattle.file_stores.specs.Files.{FileSeen, IsFile}
 use Rattle.file_stores.proofs.Lists.{to-map}
 use Rattle.file_stores.proofs.FileLaws.{file-number, in-disks}
-use Rattle.file_ground.specs.Under.{Many}
-use Rattle.file_ground.specs.Guards.{AreAmong, AreGuarded, HoldImages, IsUp}
-use Rattle.file_ground.specs.Opening.{content_of, faults_of, shape_of_file}
-use Rattle.file_ground.proofs.GuardLaws.{guarded-pages}
-use Rattle.file_ground.proofs.HeldLaws.{AreHeld, held-guards}
-use Rattle.file_ground.proofs.Lists.{get-within}
-use Rattle.file_ground.proofs.StoreLaws.{AllLast}
-use Rattle.file_ground.proofs.SpotLaws.{After, Before, after-at, before-at, live-few, live-some, numbers-seen}
-use Rattle.file_ground.proofs.UnderLaws.{counts-under}
+use Rattle.file_stores.specs.Under.{Many}
+use Rattle.file_stores.specs.Guards.{AreAmong, AreGuarded, HoldImages, IsUp}
+use Rattle.file_stores.specs.Opening.{content_of, faults_of, shape_of_file}
+use Rattle.file_stores.proofs.GuardLaws.{guarded-pages}
+use Rattle.file_stores.proofs.GroundHeldLaws.{AreHeld, held-guards}
+use Rattle.file_stores.proofs.GroundLists.{get-within}
+use Rattle.file_stores.proofs.StoreLaws.{AllLast}
+use Rattle.file_stores.proofs.SpotLaws.{After, Before, after-at, before-at, live-few, live-some, numbers-seen}
+use Rattle.file_stores.proofs.UnderLaws.{counts-under}
 use Rattle.run_files.specs.Play.{KeepsNow}
 use Rattle.run_files.specs.Run.{AreTold, LeavesMirrors, Store, live_of, versions}
 use Rattle.run_files.proofs.EngineLaws.{EngineRun, along-of, behind-of, kept-of, reached-of, rises-of, same-number, same-size, shows-of, turned-of}

@@ -16,7 +16,7 @@ use Rattle.stack_accept.specs.declared.entries.Kind.TheVariants as kinds
 use Rattle.stack_accept.specs.Sound.{IsMount}
 use Rattle.client_objects.specs.declared.state.ClientState.{ClientState}
 use Rattle.name_context.specs.History.{NamesSeen, IsStory}
-use Rattle.stack_names.specs.Views.{names_at_start}
+use Rattle.client_objects.specs.Views.{names_at_start}
 use Rattle.run_defs.specs.Log.{Histories}
 use Rattle.spr_client.specs.Calls.{histories}
 use Rattle.tower_log.specs.declared.logged.Logged.{Logged}

@@ -11,7 +11,7 @@ use Rattle.mirror_rules.specs.Guards.{Among, among}
 use Rattle.mirror_layer.specs.View.{Beside}
 use Rattle.mirror_layer.specs.Ground.{Ground, IsGround, disks_seen, seen_of}
 use Rattle.mirror_layer.specs.Stores.{GivesBack, Numbered}
-use Rattle.tower_pages.specs.Shown.{page_shown}
+use Rattle.layer_laws.specs.PlacesShown.{page_shown}
 use Rattle.tower_shows.specs.Since.{IsSince}
 use Rattle.tower_log.specs.declared.logged.Logged.{Logged}
 use Rattle.tower_log.specs.Log.{trail_of}
@@ -19,11 +19,11 @@ use Rattle.script_text.specs.declared.script.Reply.{Reply}
 use Rattle.file_stores.specs.Held.{StoreSeen}
 use Rattle.file_stores.specs.Files.{FileSeen}
 use Rattle.file_stores.proofs.Lists.{some-is}
-use Rattle.file_ground.specs.Guards.{AreAmong, AreGuarded, HasImage, IsUp}
-use Rattle.file_ground.specs.Opening.{content_of, faults_of, shape_of_file}
-use Rattle.file_ground.proofs.HeldLaws.{AreHeld}
-use Rattle.file_ground.proofs.ImageLaws.{image-at, live-held}
-use Rattle.file_ground.proofs.Lists.{get-within}
+use Rattle.file_stores.specs.Guards.{AreAmong, AreGuarded, HasImage, IsUp}
+use Rattle.file_stores.specs.Opening.{content_of, faults_of, shape_of_file}
+use Rattle.file_stores.proofs.GroundHeldLaws.{AreHeld}
+use Rattle.file_stores.proofs.ImageLaws.{image-at, live-held}
+use Rattle.file_stores.proofs.GroundLists.{get-within}
 use Rattle.run_files.proofs.EngineLaws.{IsTurnedIn}
 use Rattle.run_files.specs.Promise.{Finds, LastsOn, LastsToNext, SinceSync, since_ran, since_synced, TellsAll}
 use Rattle.run_files.specs.Run.{AreLower, Holds, LeavesMirrors, live_of, versions}

@@ -30,7 +30,7 @@ use Rattle.tower_log.specs.declared.logged.Logged.{Logged}
 use Rattle.tower_log.specs.Log.{trail_of}
 use Rattle.stack_engine.specs.Engine.{EngineSeen, IsSound, events_in, file_in, log_in, tree_in}
 use Rattle.stack_engine.specs.Tower.{TowerSeen}
-use Rattle.shared_tower.specs.Later.{IsLater}
+use Rattle.spr_volume.specs.Later.{IsLater}
 use Rattle.spr_volume.specs.Passes.{logs}
 use Rattle.spr_volume.specs.Passes.{AreBack as AreTowersBack}
 use Rattle.spr_client.specs.Calls.{frames, AreFrames, AreOfStack}
@@ -43,7 +43,7 @@ use Rattle.file_stores.specs.Written.{Written}
 use Rattle.file_stores.proofs.Lists.{there}
 use Rattle.file_stores.proofs.FileLaws.{became-files, file-number, keys-in, pairs-in, pairs-keys, short-after}
 use Rattle.file_stores.proofs.ReturnLaws.{returned-of}
-use Rattle.file_ground.specs.Under.{Under, seen_under}
+use Rattle.file_stores.specs.Under.{Under, seen_under}
 use Rattle.run_files.specs.Ended.{status_of}
 use Rattle.run_files.specs.Held.{AreFiles, IsTaken, Opens, OpensEach, IsShut, AreShut}
 use Rattle.run_files.specs.Play.{IsClosed, IsUnwritten, ArePlayed, KeepsNow, unnamed}

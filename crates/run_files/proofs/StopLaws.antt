@@ -24,7 +24,7 @@ use Rattle.file_stores.specs.Stop.{stop_text, stop_status}
 use Rattle.file_stores.specs.Written.{Written}
 use Rattle.file_stores.proofs.Lists.{no-item, some-is}
 use Rattle.file_stores.proofs.FileLaws.{at-joined, became-files, keys-in, pairs-in, pairs-keys, short-after}
-use Rattle.file_ground.specs.Under.{seen_under}
+use Rattle.file_stores.specs.Under.{seen_under}
 use Rattle.file_stores.proofs.ReturnLaws.{returned-of}
 use Rattle.run_files.specs.Held.{AreFiles, AreShut, Closes, Halts, IsShut, IsTaken, IsUnheld, Opens, OpensEach, OpensSome}
 use Rattle.run_files.specs.Run.{Halted, NotRun, SaysRun, stopped, unopened, untaken}

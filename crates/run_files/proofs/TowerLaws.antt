@@ -21,8 +21,8 @@ use Rattle.run_defs.specs.Log.{Histories, items, items_from, log_of}
 use Rattle.run_defs.specs.Fits.{IsEntryUpTo, IsUpTo}
 use Rattle.stack_engine.specs.Engine.{log_in}
 use Rattle.stack_engine.specs.Tower.{TowerSeen}
-use Rattle.shared_tower.specs.Later.{IsLater}
-use Rattle.shared_tower.specs.Shared.{by}
+use Rattle.spr_volume.specs.Later.{IsLater}
+use Rattle.spr_volume.specs.TowerShared.{by}
 use Rattle.spr_volume.specs.Passes.{AreBack, AreNamesBack, IsBack, Knows, known, logs}
 use Rattle.spr_client.specs.Calls.{AreFrames, AreOfStack, Frame, frame_of, frames}
 use Rattle.file_stores.proofs.Lists.{some-is, no-item}

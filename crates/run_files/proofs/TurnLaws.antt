@@ -17,7 +17,7 @@ use Rattle.mirror_layer.specs.View.{Beside}
 use Rattle.mirror_layer.specs.Ground.{Ground, Differ, seen_of}
 use Rattle.mirror_layer.proofs.CloseSteps.{told-kept}
 use Rattle.tower_log.specs.declared.logged.Logged.{Logged}
-use Rattle.shared_tower.specs.Later.{AreLater}
+use Rattle.spr_volume.specs.Later.{AreLater}
 use Rattle.run_defs.specs.declared.store.StoreKey.{StoreKey}
 use Rattle.file_stores.specs.Keys.{image_shape, stores_of_file}
 use Rattle.file_stores.specs.State.{StoreState}
@@ -26,12 +26,12 @@ use Rattle.file_stores.specs.Files.{ArePairs, FileSeen, IsFile, Lasts}
 use Rattle.file_stores.specs.Stops.{HoldsImage}
 use Rattle.file_stores.proofs.Lists.{to-map}
 use Rattle.file_stores.proofs.FileLaws.{file-number, in-disks}
-use Rattle.file_ground.specs.Under.{IsSound, Many, One, Under, seen_under}
-use Rattle.file_ground.specs.Opening.{IsLeft, IsOpened, under}
-use Rattle.file_ground.specs.WholeDisk.{seen_whole}
-use Rattle.file_ground.proofs.StoreLaws.{AllLast, in-pairs, lasts-one, same-keys}
-use Rattle.file_ground.proofs.WholeLaws.{kept-under, faults-under, whole-content, whole-count}
-use Rattle.file_ground.proofs.SpotLaws.{numbers-seen}
+use Rattle.file_stores.specs.Under.{IsSound, Many, One, Under, seen_under}
+use Rattle.file_stores.specs.Opening.{IsLeft, IsOpened, under}
+use Rattle.file_stores.specs.WholeDisk.{seen_whole}
+use Rattle.file_stores.proofs.StoreLaws.{AllLast, in-pairs, lasts-one, same-keys}
+use Rattle.file_stores.proofs.WholeLaws.{kept-under, faults-under, whole-content, whole-count}
+use Rattle.file_stores.proofs.SpotLaws.{numbers-seen}
 use Rattle.run_files.specs.Held.{Closes, closes_one, closes_many}
 use Rattle.run_files.specs.Play.{KeepsNow}
 use Rattle.run_files.specs.Run.{LeavesFile, leaves_one, leaves_many}

@@ -3,9 +3,9 @@ use Rattle.std.proofs.Common.{◌≡◌, ℕ, zero, suc, [], ◌∷◌, List, re
 use Rattle.std.specs.Prelude.{Contains}
 use Rattle.disk_layer.specs.Disk.{Disk}
 use Rattle.disk_layer.specs.Seen.{numbers_in}
-use Rattle.shared_tower.specs.Later.{IsOnDisk}
-use Rattle.file_ground.specs.WholeDisk.{seen_whole}
-use Rattle.file_ground.proofs.WholeLaws.{is-live}
+use Rattle.spr_volume.specs.Later.{IsOnDisk}
+use Rattle.file_stores.specs.WholeDisk.{seen_whole}
+use Rattle.file_stores.proofs.WholeLaws.{is-live}
 
 one-live : (x n : ℕ) → Contains (x ∷ []) n → n ≡ x
 one-live x n (zero, lt, is) = sym is

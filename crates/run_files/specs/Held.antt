@@ -19,8 +19,8 @@ use Rattle.file_stores.specs.Stops.{HoldsImage}
 use Rattle.mirror_layer.specs.Ground.{Ground, seen_of}
 use Rattle.mirror_layer.specs.Bringing.{OpenedOver}
 use Rattle.mirror_layer.specs.Stores.{GivesBack}
-use Rattle.file_ground.specs.Under.{IsSound as IsSoundUnder, Under, seen_under}
-use Rattle.file_ground.specs.Opening.{IsLeft, IsOpened, IsUnopened, content_of, faults_of, shape_of_file}
+use Rattle.file_stores.specs.Under.{IsSound as IsSoundUnder, Under, seen_under}
+use Rattle.file_stores.specs.Opening.{IsLeft, IsOpened, IsUnopened, content_of, faults_of, shape_of_file}
 
 -- these stores were taken from a bay that was so before, and the bay had no fault
 pub record IsTaken (mount : Mount) (before now : BaySeen) (keys : List StoreKey) (stores : List StoreSeen) : Type 0 where

@@ -14,7 +14,7 @@ use Rattle.tower_log.specs.declared.logged.Logged.{Logged}
 use Rattle.tower_log.specs.Log.{trail_of}
 use Rattle.tower_shows.specs.Began.{ArePagesOf}
 use Rattle.name_context.specs.History.{NamesSeen, IsStory}
-use Rattle.stack_names.specs.Views.{names_at_start}
+use Rattle.client_objects.specs.Views.{names_at_start}
 use Rattle.run_defs.specs.Log.{EndsSynced, Histories, items}
 use Rattle.run_defs.specs.Fits.{FitsScript, EachAnswered, IsEntryUpTo, IsUpTo}
 use Rattle.stack_engine.specs.Engine.{EngineSeen, events_in, file_in, log_in, tree_in}

@@ -9,8 +9,8 @@ use Rattle.stack_engine.specs.Opened.{last_from}
 use Rattle.file_stores.specs.Keys.{EachAt}
 use Rattle.file_stores.specs.Held.{StoreSeen}
 use Rattle.file_stores.specs.Files.{FileSeen}
-use Rattle.file_ground.specs.Guards.{AreAmong, HoldImages, IsUp}
-use Rattle.file_ground.specs.Opening.{shape_of_file}
+use Rattle.file_stores.specs.Guards.{AreAmong, HoldImages, IsUp}
+use Rattle.file_stores.specs.Opening.{shape_of_file}
 use Rattle.run_files.specs.Run.{AreLower, Holds, LeavesMirrors, live_of, versions}
 
 -- what a file's stores hold, if it is told, one for each disk

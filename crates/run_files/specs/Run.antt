@@ -15,13 +15,13 @@ use Rattle.tower_log.specs.declared.logged.Logged.{Logged}
 use Rattle.tower_log.specs.declared.logged.Logged.TheVariants.{Entered, Noted}
 use Rattle.tower_log.specs.Log.{place_of, trail_of}
 use Rattle.tower_log.specs.Notes.{Rises, counts_of}
-use Rattle.tower_pages.specs.Shown.{page_shown}
+use Rattle.layer_laws.specs.PlacesShown.{page_shown}
 use Rattle.tower_shows.specs.Began.{ArePagesOf}
 use Rattle.tower_shows.specs.Since.{AreSince}
 use Rattle.stack_engine.specs.Opened.{AreAnswers, last_from}
 use Rattle.run_defs.specs.declared.store.StoreKey.{StoreKey}
 use Rattle.run_defs.specs.Stack.{pages_of}
-use Rattle.stack_names.specs.Views.{names_at_start}
+use Rattle.client_objects.specs.Views.{names_at_start}
 use Rattle.run_defs.specs.Log.{Histories, log_of, EndsSynced}
 use Rattle.run_defs.specs.Fits.{FitsScript, EachAnswered}
 use Rattle.spr_io.specs.Content.{Content}
@@ -40,8 +40,8 @@ use Rattle.file_stores.specs.Keys.{EachAt, stores_of, image_shape}
 use Rattle.file_stores.specs.State.{StoreState, Returned}
 use Rattle.file_stores.specs.Held.{StoreSeen}
 use Rattle.file_stores.specs.Files.{FileSeen, StandsAt, stores_in}
-use Rattle.file_ground.specs.Guards.{AreAmong, AreGuarded, HasImage, HoldImages, IsUp}
-use Rattle.file_ground.specs.Opening.{content_of, faults_of, shape_of_file}
+use Rattle.file_stores.specs.Guards.{AreAmong, AreGuarded, HasImage, HoldImages, IsUp}
+use Rattle.file_stores.specs.Opening.{content_of, faults_of, shape_of_file}
 use Rattle.run_files.specs.Held.{AreFiles, Closes, IsUnheld}
 use Rattle.file_stores.specs.declared.stop.Stop.{Stop}
 use Rattle.file_stores.specs.declared.stop.Stop.TheVariants as stops

@@ -10,12 +10,11 @@ ghost use Rattle.page_messages.specs.Paged.{IsPagedFile};
 ghost use Rattle.file_stores.specs.Keys.{EachAt};
 ghost use Rattle.file_stores.specs.Held.{IsRoom};
 ghost use Rattle.file_stores.specs.Files.{ArePairs, IsFile, Lasts};
-ghost use Rattle.file_ground.specs.Under.{IsSound as IsSoundUnder, seen_under};
+ghost use Rattle.file_stores.specs.Under.{IsSound as IsSoundUnder, seen_under};
 ghost use Rattle.run_files.specs.Held.{paged, BeganOn, Opens, OpensEach, OpensSome, IsUnheld, IsShut, AreShut};
 
 use crate::layers::copy_tree;
-use file_ground::{FileGround, Unopened, close_file, open_file};
-use file_stores::{FileStores, Stop, shape_of};
+use file_stores::{FileGround, FileStores, Stop, Unopened, close_file, open_file, shape_of};
 use page_messages::PagedFile;
 use pager_channel::Ops;
 use run_defs::StoreKey;

@@ -11,6 +11,7 @@ ghost use Rattle.run_files.specs.Play.{IsPlayed, IsUnwritten, ArePlayed};
 ghost use Rattle.run_files.specs.Room.{HasAnswerRoom};
 
 use crate::room::Asked;
+use client_objects::start_names;
 use disk_layer::Ground;
 use name_context::Names;
 use pager_channel::Ops;
@@ -21,7 +22,6 @@ use spr_io::Gate;
 use spr_volume::{Pass, Volume};
 use stack_accept::Mounted;
 use stack_engine::Tower;
-use stack_names::start_names;
 use std::alloc::Global;
 use std::sync::Wait;
 use std::thread::Threads;

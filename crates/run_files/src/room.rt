@@ -7,8 +7,7 @@ ghost use Rattle.file_stores.specs.Keys.{AreStores, EachAt, stores_of};
 ghost use Rattle.file_stores.specs.Held.{IsRoom};
 ghost use Rattle.run_files.specs.Room.{HasAnswerRoom};
 
-use file_ground::FileGround;
-use file_stores::{FileStores, Held, rooms_of, stores_of};
+use file_stores::{FileGround, FileStores, Held, rooms_of, stores_of};
 use run_defs::StoreKey;
 use run_phases::{Worker, workers_of};
 use script_text::{Reply, Said, Script};

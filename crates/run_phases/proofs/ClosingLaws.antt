@@ -23,7 +23,7 @@ use Rattle.run_defs.specs.Plan.{Made, Goes, asking, sync}
 use Rattle.run_defs.specs.Fits.{Line, Closes, no_client, plan_closing}
 use Rattle.run_defs.proofs.Logs.{trail_of-append}
 use Rattle.run_defs.proofs.Parts.{did_nothing, did_then, full_later, goes_later}
-use Rattle.shared_files.specs.declared.answered.Answered.{Answered}
+use Rattle.spr_volume.specs.declared.answered.Answered.{Answered}
 use Rattle.spr_volume.specs.Passes.{VolumeSeen, Knows, known, as_known}
 use Rattle.spr_client.specs.Calls.{CallDone, MayCall, histories, refusal_of}
 use Rattle.spr_client.specs.Lines.{LineDone}

@@ -8,7 +8,7 @@ use Rattle.script_text.specs.declared.script.Said.{Said}
 use Rattle.stack_accept.specs.Mount.{Mount}
 use Rattle.tower_log.specs.declared.logged.Logged.{Logged}
 use Rattle.name_context.specs.declared.entry.NameEntry.{NameEntry}
-use Rattle.stack_names.specs.Views.{names_at_start}
+use Rattle.client_objects.specs.Views.{names_at_start}
 use Rattle.run_defs.specs.Log.{Histories}
 use Rattle.run_defs.specs.Fits.{AllGoOn, Did, lines_of}
 use Rattle.run_defs.proofs.Parts.{did_after, did_nothing, did_then, all_go_on_same, all_go_on_then, worked_before, worked_then}

@@ -1,1 +1,4 @@
 pub mod OpsCauses
+pub mod OwnNumbers
+pub mod Missing
+pub mod SoFar

@@ -6,8 +6,8 @@ use Rattle.idl_reader.specs.Reading.{idl_at}
 use Rattle.idl_check.specs.declared.why.IdlUnfit.{IdlUnfit}
 use Rattle.idl_check.specs.FitsTogether.{FitsTogether, IsReason}
 use Rattle.idl_check.specs.Verdict.{unfit}
-use Rattle.idl_ops.specs.Found.{HasNumbers, IsFirstMissing}
-use Rattle.idl_ops.specs.Order.{order}
+use Rattle.run_texts.specs.Found.{HasNumbers, IsFirstMissing}
+use Rattle.run_texts.specs.Order.{order}
 use Rattle.idl_tables.specs.Rule.{FollowBases}
 use Rattle.idl_tables.specs.TableSet.{Tabled, IsTabled}
 use Rattle.idl_tables.specs.Tables.{Operation, tables_text}

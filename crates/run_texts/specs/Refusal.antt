@@ -21,7 +21,7 @@ use Rattle.spr_report.specs.declared.status.Status.{Status}
 use Rattle.spr_report.specs.declared.status.Status.TheVariants as statuses
 use Rattle.idl_reader.specs.Why.{word_of as idl_word}
 use Rattle.idl_check.specs.Why.{word_of as unfit_word}
-use Rattle.idl_ops.specs.Names.{full_name}
+use Rattle.run_texts.specs.OperationNames.{full_name}
 use Rattle.pager_channel.specs.declared.numbers.Ops.{Ops}
 use Rattle.run_texts.specs.declared.texts.TheConstants.{TEXT_LIMIT}
 use Rattle.run_texts.specs.declared.refusal.TextNames.{TextNames}

@@ -7,10 +7,10 @@ ghost use Rattle.idl_reader.specs.Grammar.{AreDecls, IsTextOf};
 ghost use Rattle.run_texts.specs.Stacks.{SameTexts};
 ghost use Rattle.run_texts.specs.Interfaces.{AreLines, AreOps, AreTablesOf, Declares, HasInterfaces, IsUnfitBy, IsLackedBy, RefusesInterfaces, RefusesOps, IsInterfacesCause, IsOpsCause};
 
+use crate::ops::ops_of;
 use crate::refusal::Refusal;
 use crate::texts::read_text;
 use idl_check::{Checked, UnfitWhy, check};
-use idl_ops::ops_of;
 use idl_reader::{Idl, IdlWhy, read_idl};
 use idl_tables::{print_tables, tables};
 use pager_channel::Ops;

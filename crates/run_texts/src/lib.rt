@@ -1,9 +1,12 @@
-//! What a command reads before it takes a store: its texts, and why one of them is refused.
+//! What a command reads before it takes a store: its texts, the numbers that the layers' operations have in the interfaces of a text,
+//! and why a text is refused.
 #![tactic(auto)]
 
 mod interfaces;
 mod known;
 mod later;
+mod operation_names;
+mod ops;
 mod refusal;
 mod stacks;
 mod texts;
@@ -11,8 +14,7 @@ mod texts;
 pub use interfaces::{IDL_LIMIT, read_tables};
 pub use known::unknown_line;
 pub use later::{later_call, later_line};
+pub use operation_names::operation_name;
+pub use ops::ops_of;
 pub use refusal::{Refusal, TextNames, refuse};
 pub use texts::{TEXT_LIMIT, read_run, read_runnable, read_stack};
-
-#[cfg(test)]
-mod tests;

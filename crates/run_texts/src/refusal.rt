@@ -5,8 +5,8 @@ ghost use Rattle.spr_report.specs.declared.status.Status.TheVariants.{Refused, S
 ghost use Rattle.run_texts.specs.Refusal.{line_text, shelf_text, missing_text, names_of, refusal_text, refusal_status};
 ghost use Rattle.spr_report.specs.Writing.{Finishes};
 
+use crate::operation_names::operation_name;
 use idl_check::UnfitWhy;
-use idl_ops::operation_name;
 use idl_reader::IdlWhy;
 use itoa::Buffer;
 use pager_channel::Operation;

@@ -23,6 +23,3 @@ pub const MAX_CLIENTS: usize = 16;
 pub const MAX_LINES: u32 = 2_097_152;
 /// The most bytes of a line before its line feed.
 pub const MAX_LINE_BYTES: usize = 8_400;
-
-#[cfg(test)]
-mod tests;

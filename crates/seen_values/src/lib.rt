@@ -6,6 +6,3 @@ mod text;
 
 pub use items::Items;
 pub use text::{Bytes, Path, Text};
-
-#[cfg(test)]
-mod tests;

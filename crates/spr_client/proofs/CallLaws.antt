@@ -28,9 +28,9 @@ use Rattle.run_defs.specs.Plan.{Plan, ends, calls, Request, Ask, access, sync, A
 use Rattle.run_defs.specs.Fits.{made_on, made_with_names, SyncsFrom, SyncsInOrder, GoesOn, Did, Gone}
 use Rattle.run_defs.proofs.Logs.{by_caller-more}
 use Rattle.run_defs.proofs.Parts.{goes_on_same, goes_on_then, names_go_on_same, did_nothing, gone_call, gone_fault, gone_refused}
-use Rattle.shared_files.specs.declared.answered.Answered.{Answered}
-use Rattle.shared_files.specs.Passes.{is_own, Quietly}
-use Rattle.stack_names.specs.Views.{names_at_start}
+use Rattle.spr_volume.specs.declared.answered.Answered.{Answered}
+use Rattle.spr_volume.specs.FilePasses.{is_own, Quietly}
+use Rattle.client_objects.specs.Views.{names_at_start}
 use Rattle.spr_volume.specs.Passes.{Knows}
 use Rattle.spr_client.specs.Calls.{CallDone, IsAsked, histories, refusal_of}
 

@@ -26,7 +26,7 @@ use Rattle.run_defs.specs.Stack.{pages_of}
 use Rattle.run_defs.specs.Plan.{Plan, ends, calls, Request, NamesAsk, told_names, unless_refused, refused_as, plan_call, plan_named, plan_names, plan_access, plan_open, plan_found, access, asking, asking_names, holding, node_at, opened, reply_of}
 use Rattle.run_defs.specs.Fits.{Gone}
 use Rattle.run_defs.proofs.Parts.{did_nothing, did_then, went_of, went_lacks, gone_as, gone_none, gone_named, gone_unnamed, gone_refused}
-use Rattle.shared_files.specs.declared.answered.Answered.{Answered}
+use Rattle.spr_volume.specs.declared.answered.Answered.{Answered}
 use Rattle.spr_volume.specs.Passes.{VolumeSeen, Knows, as_known}
 use Rattle.spr_client.specs.Calls.{CallDone, MayCall, NamesDone, histories, refusal_of}
 use Rattle.spr_client.specs.Lines.{LineDone, OthersIdle, PlanDone}

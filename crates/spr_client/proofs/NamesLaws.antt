@@ -13,12 +13,12 @@ use Rattle.name_context.specs.declared.entry.NameErr.TheVariants as errs
 use Rattle.name_context.specs.Names.{Kept, context, object, Name, kept_at}
 use Rattle.name_context.specs.History.{NamesSeen, after, names_after}
 use Rattle.name_context.specs.Refusal.{refused_at, needed_for, first_of, walk, refusal}
-use Rattle.shared_names.specs.Shared.{is_own, names_with}
-use Rattle.shared_names.specs.Shared.{Quietly as NamesQuietly}
-use Rattle.shared_names.specs.Calls.{Called as NamesCalled}
+use Rattle.spr_volume.specs.NamesShared.{is_own, names_with}
+use Rattle.spr_volume.specs.NamesShared.{Quietly as NamesQuietly}
+use Rattle.spr_volume.specs.NamesCalls.{Called as NamesCalled}
 use Rattle.name_context.specs.Calls.{Answered, Called}
 use Rattle.stack_accept.specs.Mount.{Mount}
-use Rattle.stack_names.specs.Views.{names_at_start}
+use Rattle.client_objects.specs.Views.{names_at_start}
 use Rattle.tower_log.specs.declared.logged.Logged.{Logged}
 use Rattle.tower_log.specs.Log.{place_of}
 use Rattle.run_defs.specs.Log.{Item, NameItem, items, by_caller, name_items, name_items_from, names_by, log_at}

@@ -12,14 +12,14 @@ use Rattle.tower_log.specs.Log.{place_of}
 use Rattle.marshal_buf.specs.Held.{Held}
 use Rattle.name_context.specs.declared.entry.NameErr.{NameErr}
 use Rattle.name_context.specs.Names.{Name, kept_object}
-use Rattle.stack_names.specs.Views.{names_at_start}
+use Rattle.client_objects.specs.Views.{names_at_start}
 use Rattle.run_defs.specs.Log.{Histories}
 use Rattle.run_defs.specs.Plan.{Ask, NamesAsk, Request, access, sync}
 use Rattle.stack_engine.specs.declared.refusal.StepErr.{StepErr}
 use Rattle.stack_engine.specs.declared.refusal.StepErr.TheVariants.{StoreFault, TrailFull, Memory}
 use Rattle.stack_engine.specs.Engine.{file_in, tree_in}
 use Rattle.stack_engine.specs.Tower.{TowerSeen}
-use Rattle.shared_files.specs.declared.answered.Answered.{Answered}
+use Rattle.spr_volume.specs.declared.answered.Answered.{Answered}
 use Rattle.spr_volume.specs.Calls.{CalledAt, CalledNames, IsAccess, IsSync}
 use Rattle.spr_volume.specs.Passes.{VolumeSeen, IsOf, Knows, known}
 

@@ -3,3 +3,10 @@ pub mod Writing
 pub mod Tracing
 pub mod Traced
 pub mod Report
+pub mod NamesAnswers
+pub mod NamesLines
+pub mod NamesLaws
+pub mod Exchange
+pub mod Heads
+pub mod OperationNames
+pub mod Letters

@@ -23,16 +23,16 @@ use Rattle.script_text.specs.Answer.{answer_words}
 use Rattle.stack_accept.specs.declared.entries.FileEntry.{FileEntry}
 use Rattle.stack_accept.specs.Mount.{Mount}
 use Rattle.name_context.specs.declared.entry.NameEntry.{NameEntry}
-use Rattle.names_report.specs.Lines.{names_part}
+use Rattle.spr_report.specs.NamesLines.{names_part}
 use Rattle.run_defs.specs.declared.store.StoreKey.{StoreKey}
 use Rattle.run_defs.specs.Stack.{name_in, disk_name, file_name, node_names}
 use Rattle.pager_channel.specs.declared.numbers.Ops.{Ops}
 use Rattle.tower_log.specs.declared.logged.Entry.{Entry}
 use Rattle.tower_log.specs.declared.logged.Logged.{Logged}
 use Rattle.tower_log.specs.Log.{entries_of, told_by}
-use Rattle.tower_trace.specs.declared.heads.Heads.{Heads}
-use Rattle.tower_trace.specs.Heads.{head_bytes}
-use Rattle.tower_trace.specs.Names.{operation_name}
+use Rattle.spr_report.specs.declared.heads.Heads.{Heads}
+use Rattle.spr_report.specs.Heads.{head_bytes}
+use Rattle.spr_report.specs.OperationNames.{operation_name}
 use Rattle.spr_report.specs.Tracing.{Tracing, heads_by, tracing_from, traced_after}
 
 -- a client's line: the number of the script's line, and the answer

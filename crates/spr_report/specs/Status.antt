@@ -1,5 +1,5 @@
 -- The numbers of the statuses.
-use Rattle.std.specs.Prelude.{ℕ, nat_lt, if◌then◌else◌}
+use Rattle.std.specs.Prelude.{ℕ}
 use Rattle.spr_report.specs.declared.status.Status.{Status}
 use Rattle.spr_report.specs.declared.status.Status.TheVariants.{Good, Faulted, Usage, Refused, ShelfFault, BayFault, BadImage, SinkFault, Memory}
 
@@ -14,7 +14,3 @@ number_of BayFault = 5
 number_of BadImage = 6
 number_of SinkFault = 7
 number_of Memory = 8
-
--- the worse of two statuses: the one of the greater number
-abbrev pub worse : Status → Status → Status
-worse one other = if nat_lt (number_of one) (number_of other) then other else one

@@ -10,8 +10,8 @@ use Rattle.pager_channel.specs.declared.numbers.Ops.{Ops}
 use Rattle.page_messages.specs.declared.paged.PagedFile.{PagedFile}
 use Rattle.tower_log.specs.declared.logged.Logged.{Logged}
 use Rattle.tower_log.specs.Log.{trail_of, place_of}
-use Rattle.tower_trace.specs.declared.heads.Heads.{Heads}
-use Rattle.tower_trace.specs.Heads.{heads_of}
+use Rattle.spr_report.specs.declared.heads.Heads.{Heads}
+use Rattle.spr_report.specs.Heads.{heads_of}
 use Rattle.stack_accept.specs.declared.entries.FileEntry.{FileEntry}
 use Rattle.stack_accept.specs.Mount.{Mount}
 

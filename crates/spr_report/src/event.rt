@@ -7,19 +7,21 @@ ghost use Rattle.hist_plain.specs.Event.{node_of};
 ghost use Rattle.text_words.specs.Lines.{line_of, spaced};
 ghost use Rattle.run_defs.specs.Stack.{name_in, node_names};
 ghost use Rattle.tower_log.specs.Log.{bytes_with};
-ghost use Rattle.tower_trace.specs.Heads.{head_bytes};
-ghost use Rattle.tower_trace.specs.Names.{operation_name};
+ghost use Rattle.spr_report.specs.Heads.{head_bytes};
+ghost use Rattle.spr_report.specs.OperationNames.{operation_name};
 ghost use Rattle.spr_report.specs.Tracing.{IsNextOf};
 ghost use Rattle.spr_report.specs.Traced.{traced_by};
 ghost use Rattle.spr_report.specs.Report.{op_words, keep_word, event_words, told_words, heads_line, message_line, entry_line};
 
+use crate::bytes::head_bytes;
+use crate::heads::Heads;
+use crate::operation_names::operation_name;
 use crate::tracing::Tracer;
 use hist_plain::{Answer, Event, Keep, Op};
 use stack_accept::NodeEntry;
 use std::alloc::{AllocError, Global};
 use text_words::{put, put_hex, put_number, put_spaced_number, put_word};
 use tower_log::Entry;
-use tower_trace::{Heads, head_bytes, operation_name};
 
 /// The names of the callers and the nodes, by their numbers.
 #[derive(Clone, Copy)]

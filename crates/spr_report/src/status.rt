@@ -1,7 +1,7 @@
 //! How a command ended.
 
 ghost use Rattle.std.specs.Prelude.{◌≡◌};
-ghost use Rattle.spr_report.specs.Status.{number_of, worse};
+ghost use Rattle.spr_report.specs.Status.{number_of};
 
 /// How a command ended: the number that the process gives back, and that the last line of its text names.
 #[derive(Clone, Copy, Debug, PartialEq, Eq)]
@@ -32,16 +32,5 @@ impl Status {
         ensures { result ≡ number_of self }
     {
         self as u8
-    }
-
-    /// The worse of two statuses: the one of the greater number.
-    pub fn worse(self, other: Status) -> Status
-        ensures { result ≡ worse self other }
-    {
-        if self.number() < other.number() {
-            other
-        } else {
-            self
-        }
     }
 }

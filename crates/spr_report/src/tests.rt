@@ -9,6 +9,7 @@ ghost use Rattle.tower_log.specs.Log.{trail_of};
 ghost use Rattle.spr_report.specs.Tracing.{AreReported, IsReported};
 
 use super::*;
+use client_objects::start_names;
 use hist_plain::{Answer, Event, Keep, MAX_EVENTS, MAX_PAGES, Op, fits};
 use name_context::Names as StackNames;
 use pager_channel::Ops;
@@ -17,7 +18,6 @@ use script_text::{Reply, Said, parse_script};
 use seen_values::{Bytes, Path};
 use spr_io::MemSink;
 use stack_accept::{FileEntry, Mounted, accept};
-use stack_names::start_names;
 use stack_text::{StackText, parse_stack};
 use std::alloc::{AllocError, Global};
 use std::test::Fail;
@@ -63,7 +63,7 @@ fn lines(rt: HostRuntime) -> Result<(), Fail> {
     let mut sink = MemSink::new(rt.alloc(), 64, &[])?;
     let lost = [StoreKey { file: 0, disk: 0 }, StoreKey { file: 1, disk: 0 }];
     assert!(rt; write_lost(&mut sink, &mount, &lost).is_ok());
-    assert!(rt; write_status(&mut sink, Status::BayFault.worse(Status::Faulted)).is_ok());
+    assert!(rt; write_status(&mut sink, Status::BayFault).is_ok());
     assert!(rt; write_all(&mut sink, b"end").is_ok());
     assert_eq!(rt; sink.bytes(), b"bay d f\nbay d g\nstatus 5\nend".as_slice());
     Ok(())

@@ -4,13 +4,13 @@ ghost use Rattle.std.specs.Prelude.{◌≡◌};
 ghost use Rattle.tower_core.specs.TreeShape.{nodes};
 ghost use Rattle.tower_core.specs.Sheet.{nodes_of, pages_of};
 
+use crate::heads::{Heads, heads_of};
 use hist_plain::Event;
 use page_messages::PagedFile;
 use pager_channel::Ops;
 use stack_accept::{FileEntry, Mounted};
 use std::alloc::{AllocError, Global};
 use tower_core::{Sheet, Tree};
-use tower_trace::{Heads, heads_of};
 
 /// The tree and the file, the numbers of the operations, and the sheet of the events so far.
 #[derive(Drop)]

@@ -11,11 +11,11 @@ ghost use Rattle.spr_report.specs.Report.{client_parts, entry_lines, file_part, 
 
 use crate::answer::{put_client, put_closing};
 use crate::event::{Names, put_entry};
+use crate::names_lines::put_names;
 use crate::tracing::Tracer;
 use crate::writing::lost_pieces;
 use hist_plain::Event;
 use name_context::Names as StackNames;
-use names_report::put_names;
 use pager_channel::Ops;
 use run_defs::StoreKey;
 use script_text::{ClientLine, Reply, Said, Script};

@@ -5,8 +5,8 @@ use Rattle.script_text.specs.declared.script.Script.{Script}
 use Rattle.stack_accept.specs.Mount.{Mount}
 use Rattle.spr_io.specs.Texts.{SinkSeen}
 use Rattle.spr_report.specs.declared.status.Status.{Status}
-use Rattle.spr_words.specs.declared.words.Asked.TheVariants.{Run, Check, Format, Dump, Idl}
-use Rattle.spr_words.specs.Asked.{asked}
+use Rattle.spr_run.specs.declared.words.Asked.TheVariants.{Run, Check, Format, Dump, Idl}
+use Rattle.spr_run.specs.Asked.{asked}
 use Rattle.file_stores.specs.Keys.{stores_of}
 use Rattle.file_stores.specs.Written.{Written}
 use Rattle.image_commands.specs.Says.{SaysFormat, SaysDump}

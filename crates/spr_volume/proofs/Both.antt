@@ -3,9 +3,9 @@ use Rattle.std.proofs.Common.{◌≡◌, ℕ, List, Some, subst}
 use Rattle.hist_lock.specs.Ranges.{Follows, in_range}
 use Rattle.name_context.specs.declared.entry.NameEntry.{NameEntry}
 use Rattle.name_context.specs.History.{IsStory}
-use Rattle.shared_files.specs.Passes.{FilesSeen, FilesKnown}
-use Rattle.shared_files.specs.Passes.{AllQuietly as AllFilesQuietly}
-use Rattle.shared_names.specs.Shared.{NamesLock, NamesSeat}
+use Rattle.spr_volume.specs.FilePasses.{FilesSeen, FilesKnown}
+use Rattle.spr_volume.specs.FilePasses.{AllQuietly as AllFilesQuietly}
+use Rattle.spr_volume.specs.NamesShared.{NamesLock, NamesSeat}
 use Rattle.spr_volume.specs.Passes.{AllQuietly, IsSeat, Knows, VolumeSeen, pass_of, volume_of}
 
 -- a history that explains itself under the lock does so in the volume

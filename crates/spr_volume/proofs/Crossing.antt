@@ -12,8 +12,8 @@ use Rattle.name_context.specs.contracts.entry.NameEntry as NameEntry
 use Rattle.name_context.specs.contracts.stack_names.Names as Names
 use Rattle.name_context.specs.contracts.stack_names.NamesStoried.TheImpl as storied
 use Rattle.name_context.specs.contracts.tree.NameTree as NameTree
-use Rattle.shared_files.proofs.Crossing.{volume_send as files_send, volume_sync as files_sync}
-use Rattle.shared_files.proofs.Crossing.{pass_send as files_pass_send}
+use Rattle.spr_volume.proofs.FilesCrossing.{volume_send as files_send, volume_sync as files_sync}
+use Rattle.spr_volume.proofs.FilesCrossing.{pass_send as files_pass_send}
 use Rattle.spr_volume.specs.contracts.mounted.Pass as Pass
 use Rattle.spr_volume.specs.contracts.mounted.Pass.TheInside as pass
 use Rattle.spr_volume.specs.contracts.mounted.Volume as Volume

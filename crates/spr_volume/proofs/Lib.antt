@@ -1,2 +1,12 @@
 pub mod Both
 pub mod Crossing
+pub mod Laters
+pub mod Sharing
+pub mod Trying
+pub mod Whole
+pub mod TowerCrossing
+pub mod Holding
+pub mod RowLemmas
+pub mod Passing
+pub mod FilesCrossing
+pub mod NamesStories

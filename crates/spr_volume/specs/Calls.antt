@@ -6,10 +6,10 @@ use Rattle.name_context.specs.declared.entry.NameCall.{NameCall}
 use Rattle.name_context.specs.declared.entry.NameErr.{NameErr}
 use Rattle.name_context.specs.Names.{Name}
 use Rattle.stack_engine.specs.declared.refusal.StepErr.{StepErr}
-use Rattle.shared_files.specs.declared.answered.Answered.{Answered}
-pub use Rattle.shared_files.specs.Calls.{Called, Ends, IsAccess, IsSync}
-use Rattle.shared_names.specs.Calls.{Called as NamesCalled}
-pub use Rattle.shared_names.specs.Calls.{TellsNothing, TellsObject}
+use Rattle.spr_volume.specs.declared.answered.Answered.{Answered}
+pub use Rattle.spr_volume.specs.FileCalls.{Called, Ends, IsAccess, IsSync}
+use Rattle.spr_volume.specs.NamesCalls.{Called as NamesCalled}
+pub use Rattle.spr_volume.specs.NamesCalls.{TellsNothing, TellsObject}
 use Rattle.spr_volume.specs.Passes.{Knows, VolumeSeen, as_known, known}
 
 -- a call at one of the files; of the others, and of the names, the pass knows what it knew

@@ -1,3 +1,13 @@
 pub mod Calls
 pub mod Passes
 pub mod Sample
+pub mod Later
+pub mod TowerShared
+pub mod TowerCalls
+pub mod FilePasses
+pub mod Holds
+pub mod FileCalls
+pub mod Rows
+pub mod FileSample
+pub mod NamesCalls
+pub mod NamesShared

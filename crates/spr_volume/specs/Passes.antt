@@ -8,11 +8,11 @@ use Rattle.stack_engine.specs.Tower.{TowerSeen}
 use Rattle.name_context.specs.declared.entry.NameEntry.{NameEntry}
 use Rattle.name_context.specs.History.{NamesSeen}
 use Rattle.name_context.specs.Names.{Name}
-use Rattle.shared_tower.specs.Shared.{IsPlain}
-use Rattle.shared_files.specs.Passes.{FilesSeen, FilesKnown, Owner}
-pub use Rattle.shared_files.specs.Passes.{AreBack, IsBack, Quietly, is_own, logs}
-use Rattle.shared_names.specs.Shared.{NamesLock, NamesSeat}
-use Rattle.shared_names.specs.Shared.{Quietly as NamesQuietly}
+use Rattle.spr_volume.specs.TowerShared.{IsPlain}
+use Rattle.spr_volume.specs.FilePasses.{FilesSeen, FilesKnown, Owner}
+pub use Rattle.spr_volume.specs.FilePasses.{AreBack, IsBack, Quietly, is_own, logs}
+use Rattle.spr_volume.specs.NamesShared.{NamesLock, NamesSeat}
+use Rattle.spr_volume.specs.NamesShared.{Quietly as NamesQuietly}
 
 -- which lock the names have, and the names at the start
 pub record Register : Type 0 where

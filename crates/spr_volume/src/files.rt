@@ -12,11 +12,12 @@ ghost use Rattle.stack_engine.specs.Tower.{TowerSeen};
 ghost use Rattle.spr_volume.specs.Calls.{CalledAt, IsAccess, IsSync};
 ghost use Rattle.spr_volume.specs.Passes.{IsOf, KnowsPlain, known};
 
+use crate::answered::Answered;
 use crate::mounted::{Pass, Volume};
 use disk_layer::Ground;
 use hist_plain::{Keep, Op};
-use shared_files::{Answered, CallErr};
 use spr_io::Gate;
+use stack_engine::StepErr as CallErr;
 use std::sync::Wait;
 
 impl<G: Ground> Volume<G> {

@@ -11,6 +11,7 @@ ghost use Rattle.spr_volume.specs.Calls.{CalledNames, TellsNothing, TellsObject}
 ghost use Rattle.spr_volume.specs.Passes.{IsOf};
 
 use crate::mounted::{Pass, Volume};
+use crate::names_calls::{bind, context, list, resolve, unbind};
 use disk_layer::Ground;
 use name_context::{NameErr, Stored};
 use seen_values::{Path, Text};
@@ -32,7 +33,7 @@ impl<G: Ground> Volume<G> {
         ensures called { CalledNames self.now caller names_calls.Context (Some path.now) None TellsNothing pass.old pass.new (refused_by result) }
         ensures story { IsStory self.now.names.began pass.new.history }
     {
-        shared_names::context(rt, &self.names, &mut pass.names, caller, path)
+        context(rt, &self.names, &mut pass.names, caller, path)
     }
 
     /// Stores an object under a path of one to eight parts, for a caller. An error is the refusal that the names give in the call's hold, or
@@ -52,7 +53,7 @@ impl<G: Ground> Volume<G> {
         ensures story { IsStory self.now.names.began pass.new.history }
         ensures back { IfErr result (λ back. back.1 ≡ object) }
     {
-        shared_names::bind(rt, &self.names, &mut pass.names, caller, path, object)
+        bind(rt, &self.names, &mut pass.names, caller, path, object)
     }
 
     /// Gives a copy of the object that stands under a path of one to eight parts, for a caller. An error is the refusal that the names give
@@ -70,7 +71,7 @@ impl<G: Ground> Volume<G> {
         ensures called { CalledNames self.now caller names_calls.Resolve (Some path.now) None (TellsObject path.now result) pass.old pass.new (refused_by result) }
         ensures story { IsStory self.now.names.began pass.new.history }
     {
-        shared_names::resolve(rt, &self.names, &mut pass.names, caller, path)
+        resolve(rt, &self.names, &mut pass.names, caller, path)
     }
 
     /// Takes out what stands under a path of one to eight parts, and all below it, for a caller. An error is the refusal that the names give
@@ -88,7 +89,7 @@ impl<G: Ground> Volume<G> {
         ensures called { CalledNames self.now caller names_calls.Unbind (Some path.now) None TellsNothing pass.old pass.new (refused_by result) }
         ensures story { IsStory self.now.names.began pass.new.history }
     {
-        shared_names::unbind(rt, &self.names, &mut pass.names, caller, path)
+        unbind(rt, &self.names, &mut pass.names, caller, path)
     }
 
     /// Lists what stands in the context of a path of one to eight parts, or in the root, in the order in which it was made, for a caller. An
@@ -106,6 +107,6 @@ impl<G: Ground> Volume<G> {
         ensures called { CalledNames self.now caller names_calls.List (option_copied path.entry) None (λ names. IfOk result (λ parts. parts.items ≡ listed names (option_copied path.entry))) pass.old pass.new (refused_by result) }
         ensures story { IsStory self.now.names.began pass.new.history }
     {
-        shared_names::list(rt, &self.names, &mut pass.names, caller, path)
+        list(rt, &self.names, &mut pass.names, caller, path)
     }
 }

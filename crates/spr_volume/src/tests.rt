@@ -6,7 +6,7 @@ ghost use Rattle.disk_format.specs.Shape.{IsShape};
 ghost use Rattle.disk_layer.specs.Disk.{seen_of};
 ghost use Rattle.disk_layer.specs.Seen.{faults_in, opened_in};
 ghost use Rattle.tower_core.specs.TreeShape.{frames_of};
-ghost use Rattle.tower_tables.specs.Tables.{IsUnderFile};
+ghost use Rattle.page_exchange.specs.Tables.{IsUnderFile};
 ghost use Rattle.spr_volume.specs.Passes.{IsOf};
 ghost use Rattle.spr_volume.specs.Sample.{IsFor, IsSmall};
 

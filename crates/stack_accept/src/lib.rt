@@ -23,6 +23,3 @@ pub const MAX_LAYERS: usize = 31;
 pub const MAX_DEPTH: usize = 8;
 /// The most frames of a memory manager, for each file.
 pub const MAX_FRAMES: u32 = 1_024;
-
-#[cfg(test)]
-mod tests;

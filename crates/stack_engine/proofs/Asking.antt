@@ -8,7 +8,7 @@ use Rattle.tower_core.specs.Column.{MayStep}
 use Rattle.tower_core.specs.TreeShape.{IsUpper, TreeShape, frames_of, parent}
 use Rattle.tower_core.specs.Trail.{HasRoom, IsLeastRecentlyUsed, held_below, holds}
 use Rattle.tower_core.proofs.Counts.{count_below-same}
-use Rattle.tower_sides.specs.Shown.{AreRights}
+use Rattle.layer_laws.specs.Shown.{AreRights}
 use Rattle.page_messages.specs.declared.kinds.Asked.{Asked}
 use Rattle.page_messages.specs.declared.kinds.Called.{Called}
 use Rattle.page_exchange.specs.Allowed.{AllowAsking, AllowCalling, grant_asked}
@@ -16,9 +16,9 @@ use Rattle.page_exchange.specs.Steps.{step_asked, step_called}
 use Rattle.page_exchange.specs.Exchange.{may_be_full}
 use Rattle.page_exchange.proofs.Allowed as allowed
 use Rattle.vmm_cache.specs.Uses.{oldest}
-use Rattle.tower_tables.specs.Listed.{held_in}
-use Rattle.tower_tables.specs.Tables.{MayAskFrames}
-use Rattle.tower_tables.proofs.Copies.{held_inside}
+use Rattle.page_exchange.specs.Listed.{held_in}
+use Rattle.page_exchange.specs.Tables.{MayAskFrames}
+use Rattle.page_exchange.proofs.Copies.{held_inside}
 use Rattle.tower_shows.specs.Began.{IsStepOn}
 use Rattle.stack_engine.specs.Engine.{EngineSeen, IsNext, IsSound, column_in, file_in, sides_in, state_in, tree_in, uses_in}
 use Rattle.stack_engine.specs.Messages.{IsPush, event_asked, event_called}

@@ -17,11 +17,11 @@ use Rattle.tower_core.specs.Sheet.{nodes_of, pages_of, seen}
 use Rattle.tower_core.specs.TreeShape.{TreeShape, frames_of, nodes}
 use Rattle.tower_core.specs.Trail.{State, state_after, state_of}
 use Rattle.tower_core.proofs.Legals.{state_of-snoc}
-use Rattle.tower_pages.specs.Granted.{is_grant_of, is_granted_in}
+use Rattle.layer_laws.specs.Granted.{is_grant_of, is_granted_in}
 use Rattle.page_messages.specs.declared.paged.PagedFile.{PagedFile}
 use Rattle.page_exchange.specs.Ground.{IsOneCall}
-use Rattle.tower_tables.specs.declared.tables.Tables.{Tables}
-use Rattle.tower_tables.specs.Tables.{AreLeft, IsSameFile, IsUnderFile, paged_of, tree_of}
+use Rattle.page_exchange.specs.declared.tables.Tables.{Tables}
+use Rattle.page_exchange.specs.Tables.{AreLeft, IsSameFile, IsUnderFile, paged_of, tree_of}
 use Rattle.tower_log.specs.declared.logged.Entry.{Entry}
 use Rattle.tower_log.specs.declared.logged.Logged.{Logged}
 use Rattle.tower_log.specs.declared.logged.Logged.TheVariants.{Entered, Noted}

@@ -9,15 +9,15 @@ use Rattle.tower_core.specs.declared.step.Step.{Step}
 use Rattle.tower_core.specs.declared.step.Step.TheVariants.{Grants}
 use Rattle.tower_core.specs.Column.{MayStep, strength}
 use Rattle.tower_core.specs.TreeShape.{TreeShape, parent}
-use Rattle.tower_sides.specs.Sent.{granted}
-use Rattle.tower_sides.specs.Side.{Side}
-use Rattle.tower_pages.specs.Granted.{is_granted_in}
+use Rattle.layer_laws.specs.Sent.{granted}
+use Rattle.layer_laws.specs.Side.{Side}
+use Rattle.layer_laws.specs.Granted.{is_granted_in}
 use Rattle.page_messages.specs.declared.paged.PagedFile.{PagedFile}
 use Rattle.page_messages.specs.declared.kinds.Asked.{Asked}
 use Rattle.page_exchange.specs.Allowed.{AllowsReading, grant_asked}
 use Rattle.page_exchange.specs.Ground.{IsCalmCall, IsOneCall, pages_given}
 use Rattle.page_exchange.specs.Steps.{IsSent, given_up, step_asked}
-use Rattle.tower_tables.specs.Tables.{Follow, IsSameFile}
+use Rattle.page_exchange.specs.Tables.{Follow, IsSameFile}
 use Rattle.tower_log.specs.declared.logged.Logged.TheVariants.{Entered}
 use Rattle.tower_log.specs.Log.{place_of}
 use Rattle.stack_engine.specs.Engine.{EngineSeen, IsNext, IsSound, column_in, events_in, file_in, log_in, sides_in, tree_in}

@@ -8,7 +8,7 @@ use Rattle.std.proofs.lemmas.Bool.Decides.{nat_tests}
 use Rattle.hist_plain.specs.declared.event.Event.{Event}
 use Rattle.hist_plain.specs.Event.{caller_of, number_of}
 use Rattle.hist_plain.specs.History.{mine, is_by, IsCounted, IsNumbered}
-use Rattle.tower_pages.specs.Granted.{is_grant_of, is_granted_in}
+use Rattle.layer_laws.specs.Granted.{is_grant_of, is_granted_in}
 use Rattle.tower_log.specs.declared.logged.Entry.{Entry}
 use Rattle.tower_log.specs.declared.logged.Logged.{Logged}
 use Rattle.tower_log.specs.declared.logged.Logged.TheVariants.{Entered, Noted}

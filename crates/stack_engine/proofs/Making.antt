@@ -22,15 +22,15 @@ use Rattle.tower_core.specs.Legal.{IsFilled, file_after, plain_shape}
 use Rattle.tower_core.specs.TreeShape.{TreeShape, frames_of}
 use Rattle.tower_core.proofs.Trails.{trail_len}
 use Rattle.tower_core.specs.Trail.{of_page, state_after, state_of, step_of, step_of_access}
-use Rattle.tower_sides.specs.Sent.{AreBrought}
-use Rattle.tower_sides.specs.Side.{Side}
-use Rattle.tower_pages.specs.Granted.{is_grant_of}
-use Rattle.tower_pages.specs.Shown.{access_next, answer_next, page_next, told_bytes}
+use Rattle.layer_laws.specs.Sent.{AreBrought}
+use Rattle.layer_laws.specs.Side.{Side}
+use Rattle.layer_laws.specs.Granted.{is_grant_of}
+use Rattle.layer_laws.specs.PlacesShown.{access_next, answer_next, page_next, told_bytes}
 use Rattle.page_exchange.specs.Ground.{IsCalmCall, IsOneCall, Tells, pages_given}
 use Rattle.page_exchange.specs.Steps.{AreSentAt, given_up}
 use Rattle.vmm_cache.specs.Used.{AreUses}
 use Rattle.vmm_cache.proofs.TrailLaws.{uses_follow}
-use Rattle.tower_tables.specs.Tables.{Follow, IsSameFile}
+use Rattle.page_exchange.specs.Tables.{Follow, IsSameFile}
 use Rattle.tower_log.specs.declared.logged.Entry.{Entry}
 use Rattle.tower_log.specs.declared.logged.Logged.TheVariants.{Entered}
 use Rattle.tower_log.specs.Log.{place_of, told_by}

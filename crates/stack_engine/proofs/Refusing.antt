@@ -3,11 +3,11 @@ use Rattle.std.proofs.Common.{◌≡◌, ℕ, ◌<◌, Bool, List, [], ◌∷◌
 use Rattle.hist_plain.specs.declared.TheConstants.{MAX_EVENTS}
 use Rattle.disk_layer.specs.Seen.{IsFault}
 use Rattle.tower_core.specs.declared.sheet.Sheet.{Sheet}
-use Rattle.tower_sides.specs.Side.{Side}
+use Rattle.layer_laws.specs.Side.{Side}
 use Rattle.page_exchange.specs.declared.ground.GroundErr.{GroundErr}
 use Rattle.page_exchange.specs.declared.ground.GroundErr.TheVariants as causes
 use Rattle.page_exchange.specs.Ground.{IsCalmCall, IsOneCall, UnlessFault}
-use Rattle.tower_tables.specs.Tables.{AreLeft, IsCause, IsSameFile}
+use Rattle.page_exchange.specs.Tables.{AreLeft, IsCause, IsSameFile}
 use Rattle.tower_log.specs.declared.logged.Logged.{Logged}
 use Rattle.tower_log.specs.declared.logged.Logged.TheVariants.{Noted}
 use Rattle.tower_log.specs.Log.{entries_of, kept_in, place_of, trail_of}

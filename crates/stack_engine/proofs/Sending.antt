@@ -16,17 +16,17 @@ use Rattle.tower_core.specs.Sheet.{nodes_of, pages_of, seen}
 use Rattle.tower_core.specs.TreeShape.{TreeShape, frames_of}
 use Rattle.tower_core.specs.Trail.{state_after, state_of}
 use Rattle.std.proofs.lemmas.Bool.Decides.{nat_tests}
-use Rattle.tower_sides.specs.Side.{Side}
-use Rattle.tower_sides.specs.Sent.{AreBrought}
-use Rattle.tower_pages.specs.Granted.{is_grant_of, is_granted_in}
-use Rattle.tower_pages.specs.Shown.{page_next}
+use Rattle.layer_laws.specs.Side.{Side}
+use Rattle.layer_laws.specs.Sent.{AreBrought}
+use Rattle.layer_laws.specs.Granted.{is_grant_of, is_granted_in}
+use Rattle.layer_laws.specs.PlacesShown.{page_next}
 use Rattle.page_messages.specs.declared.kinds.Asked.{Asked}
 use Rattle.page_messages.specs.declared.kinds.Called.{Called}
 use Rattle.page_exchange.specs.Ground.{IsCalmCall, IsOneCall, pages_given}
 use Rattle.page_exchange.specs.Steps.{IsSent, given_up, step_asked, step_called}
 use Rattle.vmm_cache.specs.Used.{AreUses}
 use Rattle.vmm_cache.proofs.TrailLaws.{uses_follow}
-use Rattle.tower_tables.specs.Tables.{Follow, IsSameFile}
+use Rattle.page_exchange.specs.Tables.{Follow, IsSameFile}
 use Rattle.tower_log.specs.declared.logged.Entry.{Entry}
 use Rattle.tower_log.specs.declared.logged.Logged.TheVariants.{Entered}
 use Rattle.tower_log.specs.Log.{place_of}

@@ -8,13 +8,13 @@ use Rattle.tower_core.specs.Sheet.{nodes_of, pages_of, seen}
 use Rattle.tower_core.specs.Column.{Column}
 use Rattle.tower_core.specs.TreeShape.{TreeShape, frames_of, nodes}
 use Rattle.tower_core.specs.Trail.{State, state_of}
-use Rattle.tower_sides.specs.Side.{Side}
-use Rattle.tower_pages.specs.Granted.{is_granted_in}
+use Rattle.layer_laws.specs.Side.{Side}
+use Rattle.layer_laws.specs.Granted.{is_granted_in}
 use Rattle.disk_layer.specs.Seen.{DiskSeen, Seen, faults_in, opened_in}
 use Rattle.page_messages.specs.declared.paged.PagedFile.{PagedFile}
-use Rattle.tower_tables.specs.declared.tables.Tables.{Tables}
+use Rattle.page_exchange.specs.declared.tables.Tables.{Tables}
 use Rattle.vmm_cache.specs.Used.{AreUses}
-use Rattle.tower_tables.specs.Tables.{IsUnderFile, paged_of, sides, tree_of, uses}
+use Rattle.page_exchange.specs.Tables.{IsUnderFile, paged_of, sides, tree_of, uses}
 use Rattle.tower_log.specs.declared.logged.Logged.{Logged}
 use Rattle.tower_log.specs.Log.{place_of, trail_of}
 use Rattle.tower_log.specs.Notes.{Rises, counts_of}

@@ -8,7 +8,7 @@ use Rattle.page_exchange.specs.declared.ground.GroundErr.{GroundErr}
 use Rattle.page_exchange.specs.declared.ground.GroundErr.TheVariants as causes
 use Rattle.tower_log.specs.declared.logged.Logged.TheVariants.{Noted}
 use Rattle.tower_log.specs.Trail.{TrailSeen}
-use Rattle.tower_pages.specs.Granted.{is_granted_in}
+use Rattle.layer_laws.specs.Granted.{is_granted_in}
 use Rattle.stack_engine.specs.declared.refusal.StepErr.{StepErr}
 use Rattle.stack_engine.specs.declared.refusal.StepErr.TheVariants as errors
 use Rattle.stack_engine.specs.Engine.{EngineSeen, events_in, file_in}

@@ -10,9 +10,9 @@ use Rattle.hist_plain.specs.declared.event.Answer.TheVariants as answers
 use Rattle.hist_plain.specs.History.{IsZeroPage, mine}
 use Rattle.disk_layer.specs.Seen.{IsFault}
 use Rattle.tower_core.specs.declared.right.Right.{Right}
-use Rattle.tower_pages.specs.Granted.{is_granted_in}
+use Rattle.layer_laws.specs.Granted.{is_granted_in}
 use Rattle.page_exchange.specs.Ground.{IsCalmCall, IsOneCall}
-use Rattle.tower_tables.specs.Tables.{AreLeft, IsSameFile}
+use Rattle.page_exchange.specs.Tables.{AreLeft, IsSameFile}
 use Rattle.tower_log.specs.declared.logged.Entry.{Entry}
 use Rattle.tower_log.specs.declared.logged.Logged.TheVariants.{Entered, Noted}
 use Rattle.tower_log.specs.Log.{place_of}

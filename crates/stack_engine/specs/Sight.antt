@@ -4,8 +4,8 @@ use Rattle.tower_core.specs.declared.sheet.Sheet.{Sheet}
 use Rattle.tower_core.specs.Sheet.{seen}
 use Rattle.tower_core.specs.TreeShape.{frames_of}
 use Rattle.vmm_cache.specs.Used.{AreUses}
-use Rattle.tower_tables.specs.declared.tables.Tables.{Tables}
-use Rattle.tower_tables.specs.Tables.{tree_of, uses}
+use Rattle.page_exchange.specs.declared.tables.Tables.{Tables}
+use Rattle.page_exchange.specs.Tables.{tree_of, uses}
 
 -- each leaf lists the pages that it holds by their last uses
 abbrev pub AreListed : Tables → Sheet → Type 0

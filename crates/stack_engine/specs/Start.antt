@@ -6,10 +6,10 @@ use Rattle.page_messages.specs.declared.paged.PagedFile.{PagedFile}
 use Rattle.tower_core.specs.Sheet.{nodes_of, pages_of, seen}
 use Rattle.tower_core.specs.Trail.{start}
 use Rattle.tower_core.specs.TreeShape.{TreeShape, nodes}
-use Rattle.tower_sides.specs.Tables.{AreBare}
+use Rattle.layer_laws.specs.Tables.{AreBare}
 use Rattle.tower_log.specs.Log.{place_of}
-use Rattle.tower_tables.specs.declared.tables.Tables.{Tables}
-use Rattle.tower_tables.specs.Tables.{paged_of, sides, tree_of, uses}
+use Rattle.page_exchange.specs.declared.tables.Tables.{Tables}
+use Rattle.page_exchange.specs.Tables.{paged_of, sides, tree_of, uses}
 use Rattle.stack_engine.specs.declared.book.Book.{Book}
 use Rattle.stack_engine.specs.declared.refusal.StepErr.{StepErr}
 use Rattle.stack_engine.specs.declared.refusal.StepErr.TheVariants as errors

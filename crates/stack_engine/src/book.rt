@@ -7,7 +7,7 @@ ghost use Rattle.hist_plain.specs.declared.TheConstants.{MAX_EVENTS};
 ghost use Rattle.tower_core.specs.Sheet.{nodes_of, pages_of, seen};
 ghost use Rattle.tower_core.specs.Trail.{IsAllowed, state_after};
 ghost use Rattle.tower_core.specs.TreeShape.{nodes};
-ghost use Rattle.tower_pages.specs.Granted.{is_grant_of};
+ghost use Rattle.layer_laws.specs.Granted.{is_grant_of};
 ghost use Rattle.tower_log.specs.Log.{place_of};
 ghost use Rattle.tower_log.specs.declared.logged.Logged.{Logged as ALogged};
 

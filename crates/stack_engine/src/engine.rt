@@ -7,7 +7,7 @@ ghost use Rattle.disk_layer.specs.Seen.{faults_in, opened_in};
 ghost use Rattle.page_messages.specs.Paged.{IsPagedFile};
 ghost use Rattle.tower_core.specs.TreeShape.{IsUpper, frames_of, nodes};
 ghost use Rattle.tower_log.specs.Log.{place_of};
-ghost use Rattle.tower_tables.specs.Tables.{IsUnderFile};
+ghost use Rattle.page_exchange.specs.Tables.{IsUnderFile};
 ghost use Rattle.stack_engine.specs.Engine.{EngineSeen, IsSound, events_in, file_in, log_in, sides_in, state_in, tree_in, uses_in};
 ghost use Rattle.stack_engine.specs.Opened.{IsOf};
 ghost use Rattle.coherency_layer.specs.Node as layers;
@@ -19,12 +19,12 @@ use crate::refusal::StepErr;
 use coherency_layer::{Node, PagedFile};
 use disk_layer::Ground;
 use hist_plain::MAX_EVENTS;
+use page_exchange::Tables;
 use pager_channel::Ops;
 use std::alloc::{AllocError, Global};
 use std::marker::Model;
 use tower_core::{Sheet, Tree};
 use tower_log::Trail;
-use tower_tables::Tables;
 use vmm_cache::Leaf;
 
 /// A file's ground, the tables of the layers above it, and what is written down of it.

@@ -6,7 +6,7 @@ ghost use Rattle.hist_plain.specs.History.{IsZeroPage};
 ghost use Rattle.tower_core.specs.declared.right.Right.{Right as ARight};
 ghost use Rattle.tower_core.specs.TreeShape.{IsUpper};
 ghost use Rattle.page_exchange.specs.Allowed.{AllowsReading, grant_asked};
-ghost use Rattle.tower_tables.specs.Tables.{paged_of, sides, tree_of};
+ghost use Rattle.page_exchange.specs.Tables.{paged_of, sides, tree_of};
 ghost use Rattle.stack_engine.specs.Engine.{IsNext, file_in};
 ghost use Rattle.stack_engine.specs.Messages.{IsPageMessage, IsPush, Refuses, event_asked, event_called, event_granted, kept_size};
 ghost use Rattle.stack_engine.specs.Moves.{IsRefused, Sends};
@@ -17,12 +17,11 @@ use crate::refusal::StepErr;
 use coherency_layer::{Asked, Called};
 use disk_layer::{Ground, StoreFault, is_zero_page};
 use hist_plain::Event;
-use page_exchange::GroundErr;
+use page_exchange::{GroundErr, Tables};
 use seen_values::Bytes;
 use std::alloc::{AllocError, Global};
 use tower_core::Right;
 use tower_log::{Entry, Note, Trail};
-use tower_tables::Tables;
 
 /// The event that a question is, once it is answered.
 fn event_asked(what: Asked, node: u32, page: u32) -> Event

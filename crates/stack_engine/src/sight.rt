@@ -1,9 +1,9 @@
 //! What the plan reads of an engine.
 
+use page_exchange::Tables;
 use std::marker::Model;
 use tower_core::{Right, Sheet};
 use tower_plan::Rights;
-use tower_tables::Tables;
 
 /// The rights and places of the book's sheet; and which page goes out of a leaf, the leaf's own table says.
 #[derive(Drop)]
@@ -17,7 +17,7 @@ impl<'a> Model for Sight<'a> {
     ghost use Rattle.tower_core.specs.declared.sheet.Sheet.{Sheet};
     ghost use Rattle.tower_core.specs.Sheet.{nodes_of};
     ghost use Rattle.tower_core.specs.TreeShape.{nodes};
-    ghost use Rattle.tower_tables.specs.Tables.{tree_of};
+    ghost use Rattle.page_exchange.specs.Tables.{tree_of};
     ghost use Rattle.stack_engine.specs.Sight.{AreListed};
 
     ghost Value = { Sheet };

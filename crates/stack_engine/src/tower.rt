@@ -12,7 +12,7 @@ ghost use Rattle.page_messages.specs.Paged.{IsPagedFile};
 ghost use Rattle.tower_core.specs.TreeShape.{IsTree, IsUpper, frames_of};
 ghost use Rattle.tower_log.specs.Log.{place_of};
 ghost use Rattle.tower_shows.specs.Began.{ArePagesOf};
-ghost use Rattle.tower_tables.specs.Tables.{IsUnderFile};
+ghost use Rattle.page_exchange.specs.Tables.{IsUnderFile};
 ghost use Rattle.tower_core.specs.Trail.{IsSettled};
 ghost use Rattle.stack_engine.specs.Engine.{IsNext, IsSound, column_in, events_in, file_in, log_in, sides_in, state_in, tree_in, uses_in};
 ghost use Rattle.stack_engine.specs.Moves.{IsRefused, bytes_to};

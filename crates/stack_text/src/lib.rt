@@ -10,6 +10,3 @@ pub use print::print_stack;
 pub use read::parse_stack;
 pub use stack::{MAX_LINES, StackLine, StackText};
 pub use why::{Refused, StackWhy};
-
-#[cfg(test)]
-mod tests;

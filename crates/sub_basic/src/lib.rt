@@ -4,8 +4,6 @@
 #![tactic(auto)]
 
 mod kinds;
-#[cfg(test)]
-mod tests;
 
 pub use kinds::{Cluster, Singleton};
 

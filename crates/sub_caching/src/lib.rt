@@ -5,8 +5,6 @@
 
 mod kinds;
 mod laws;
-#[cfg(test)]
-mod tests;
 
 pub use kinds::Caching;
 pub use laws::calls_go_local;

@@ -13,8 +13,6 @@ mod received;
 mod roles;
 mod sent;
 mod shape;
-#[cfg(test)]
-mod tests;
 mod values;
 mod why;
 

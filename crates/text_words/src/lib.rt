@@ -13,6 +13,3 @@ pub use print::{
     put, put_hex, put_line, put_number, put_path, put_spaced, put_spaced_number, put_word,
 };
 pub use words::{hex_bytes, is_name, read_path, text_of_name};
-
-#[cfg(test)]
-mod tests;

@@ -1,12 +1,9 @@
 pub mod TreeShape
 pub mod Flags
 pub mod Count
-pub mod Tournament
-pub mod Lowest
 pub mod Column
 pub mod Trail
 pub mod Legal
 pub mod Messages
 pub mod Page
-pub mod Kept
 pub mod Sheet

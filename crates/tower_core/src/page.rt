@@ -6,7 +6,7 @@ ghost use Rattle.tower_core.specs.TreeShape.{nodes, IsUpper};
 ghost use Rattle.tower_core.specs.Column.{at_after, newest_after, right_after, used_after, given, updated, MayStep, NoChildHolds, NoChildWrites, NoSiblingHolds, IsStepOf, column_after};
 ghost use Rattle.tower_core.specs.Trail.{holds};
 ghost use Rattle.tower_core.specs.declared.step.Step.TheVariants.{Grants};
-ghost use Rattle.tower_core.specs.Page.{IsFresh, cell_of, page_column, page_used, use_key, stale_key};
+ghost use Rattle.tower_core.specs.Page.{IsFresh, cell_of, page_column, page_used};
 
 use crate::{Right, Step, Tree};
 use std::alloc::{AllocError, Global};
@@ -58,27 +58,6 @@ impl Page {
             Right::Nothing => false,
             Right::Read | Right::Write => true,
         }
-    }
-
-    /// The place after the node's last use of the page, if the node holds it.
-    pub fn use_of(&self, node: u32) -> Option<u64>
-        requires { node < vec_len self.now.cells }
-        ensures { result ≡ use_key (page_column self.now) (page_used self.now) node }
-    {
-        if self.holds(node) {
-            Some(self.cells[node as usize].used)
-        } else {
-            None
-        }
-    }
-
-    /// The place that the ground shows, if the page was written or cleared since.
-    pub fn stale(&self) -> Option<u64>
-        requires { 0 < vec_len self.now.cells }
-        ensures { result ≡ stale_key (page_column self.now) }
-    {
-        let at = self.cells[0].at;
-        if at < self.newest { Some(at) } else { None }
     }
 
     /// Whether no child of the node has Write.

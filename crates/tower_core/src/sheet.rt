@@ -7,25 +7,20 @@ ghost use Rattle.hist_plain.specs.declared.TheConstants.{MAX_EVENTS, MAX_PAGES};
 ghost use Rattle.tower_core.specs.TreeShape.{nodes, IsUpper};
 ghost use Rattle.tower_core.specs.Trail.{lives_after};
 ghost use Rattle.tower_core.specs.Page.{IsHeldCounted};
-ghost use Rattle.tower_core.specs.Kept.{AreUsesKept, KeepsStale, StartsUses};
-ghost use Rattle.tower_core.specs.declared.lowest.Lowest.{Lowest as ALowest};
 
-use crate::lowest::Lowest;
 use crate::page::Page;
 use crate::{Right, Step, Tree, subtree};
 use hist_plain::{Event, Op};
 use std::alloc::{AllocError, Global};
 
 /// The state after a file's trail: the rights, places, uses and lives. `seen` is the state that
-/// contracts see. Each node's uses, and the places of the pages that the ground lacks, are
-/// kept in order too, so that no call looks at all pages.
+/// contracts see. How many pages each node holds is kept too. What only `allowed` asks, as which page was used longest ago, is
+/// found by a look at all pages.
 #[derive(Drop)]
 pub struct Sheet {
     lives: Vec<u32>,
     held: Vec<u32>,
     pages: Vec<Page>,
-    uses: Vec<Lowest>,
-    stale: Lowest,
     len: u64,
     ghost grounded: { 0 < vec_len lives },
     ghost few: { vec_len pages ≤ MAX_PAGES },
@@ -33,9 +28,6 @@ pub struct Sheet {
     ghost sized: { All (λ page. vec_len page.cells ≡ vec_len lives) pages.items } by { Prim.hlevel props },
     ghost counted: { All (λ life. life ≤ len) lives.items } by { Prim.hlevel props },
     ghost held_counted: { IsHeldCounted pages.items held.items } by { Prim.hlevel props },
-    ghost nodes_used: { vec_len uses ≡ vec_len lives },
-    ghost uses_kept: { AreUsesKept pages.items uses.items } by { Prim.hlevel props },
-    ghost stale_kept: { KeepsStale pages.items stale } by { Prim.hlevel props },
 }
 
 impl Sheet {
@@ -44,8 +36,8 @@ impl Sheet {
     ghost use Rattle.hist_plain.specs.Event.{node_of, page_of, page_of_op};
     ghost use Rattle.tower_core.specs.TreeShape.{nodes, IsUpper};
     ghost use Rattle.tower_core.specs.Column.{MayStep, IsStepOf};
-    ghost use Rattle.tower_core.specs.Trail.{IsAllowed, IsLine, IsOldest, MayAccess, IsAllSettled, IsLeastRecentlyUsed, IsSubtreeEmpty, HasRoom, HoldsNothing, held_below, moved, of_page, start, state_after, step_of_access, lives_after};
-    ghost use Rattle.tower_core.specs.Sheet.{nodes_of, pages_of, seen};
+    ghost use Rattle.tower_core.specs.Trail.{IsAllowed, IsLine, IsOldest, MayAccess, IsSettled, IsAllSettled, IsLeastRecentlyUsed, IsSubtreeEmpty, HasRoom, HoldsNothing, holds, held_below, moved, of_page, start, state_after, step_of_access, lives_after};
+    ghost use Rattle.tower_core.specs.Sheet.{nodes_of, pages_of, seen, comes_first};
     ghost use Rattle.tower_core.specs.declared.step.Step.TheVariants.{Grants};
 
     /// The sheet of an empty trail.
@@ -64,8 +56,6 @@ impl Sheet {
             lives: zeros(alloc, nodes)?,
             held: counts_at_start(alloc, nodes, pages)?,
             pages: tables,
-            uses: uses_at_start(alloc, nodes, pages)?,
-            stale: Lowest::new(alloc, pages, None)?,
             len: 0,
         })
     }
@@ -141,13 +131,44 @@ impl Sheet {
         self.pages.len() as u32
     }
 
-    /// The node's least recently used page, if it has a right on any.
+    /// Whether the node has a right on the page.
+    fn holds(&self, node: u32, page: u32) -> bool
+        requires node_in { node < nodes_of self.now }
+        requires page_in { page < pages_of self.now }
+        ensures { result ≡ holds (((seen self.now).column page).right node) }
+    {
+        let table = &self.pages[page as usize];
+        table.holds(node)
+    }
+
+    /// Whether the node holds the page, and used it last before another one, if there is one.
+    fn comes_first(&self, node: u32, page: u32, other: Option<u32>) -> bool
+        requires node_in { node < nodes_of self.now }
+        requires page_in { page < pages_of self.now }
+        requires other_in { IfSome other (λ p. p < pages_of self.now) }
+        ensures { result ≡ comes_first (seen self.now) node page other }
+    {
+        match other {
+            Some(other) => {
+                self.holds(node, page) && self.used(node, page) < self.used(node, other)
+            }
+            None => self.holds(node, page),
+        }
+    }
+
+    /// The node's least recently used page, if it has a right on any. It looks at all pages.
     pub fn oldest(&self, node: u32) -> Option<u32>
         requires { node < nodes_of self.now }
         ensures none { IfNone result (HoldsNothing (pages_of self.now) (seen self.now) node) }
         ensures some { IfSome result (IsOldest (pages_of self.now) (seen self.now) node) }
     {
-        self.uses[node as usize].first()
+        let mut first: Option<u32> = None;
+        for page in 0..self.pages() {
+            if self.comes_first(node, page, first) {
+                first = Some(page);
+            }
+        }
+        first
     }
 
     /// How many pages the node has a right on.
@@ -175,10 +196,12 @@ impl Sheet {
         requires page_in { page < pages_of self.now }
         ensures { IsTrue result ↔ IsLeastRecentlyUsed (pages_of self.now) (seen self.now) node page }
     {
-        match self.uses[node as usize].lowest() {
-            Some(first) => self.used(node, page) <= first,
-            None => true,
+        for other in 0..self.pages() {
+            if self.comes_first(node, other, Some(page)) {
+                return false;
+            }
         }
+        true
     }
 
     /// Whether the node has no right on any page.
@@ -203,14 +226,25 @@ impl Sheet {
         true
     }
 
-    /// Whether each page's bytes on the ground are from that place on, or the newest.
+    /// Whether the page's bytes on the ground are from that place on, or the newest.
+    fn is_page_settled(&self, page: u32, from: u64) -> bool
+        requires { page < pages_of self.now }
+        ensures { IsTrue result ↔ IsSettled from ((seen self.now).column page) }
+    {
+        let at = self.at(0, page);
+        from <= at || self.newest(page) <= at
+    }
+
+    /// Whether that is so of each page.
     fn is_settled(&self, from: u64) -> bool
         ensures { IsTrue result ↔ IsAllSettled (pages_of self.now) from (seen self.now) }
     {
-        match self.stale.lowest() {
-            Some(first) => from <= first,
-            None => true,
+        for page in 0..self.pages() {
+            if !self.is_page_settled(page, from) {
+                return false;
+            }
         }
+        true
     }
 
     /// Whether the event may come next, by the table of events.
@@ -307,11 +341,7 @@ impl Sheet {
         let had = table.holds(node);
         table.take(tree, step, len);
         let has = table.holds(node);
-        let used = table.use_of(node);
-        let stale = table.stale();
         recount(&mut self.held, node, had, has);
-        self.uses[node as usize].set(page, used);
-        self.stale.set(page, stale);
         self.len += 1;
     }
 
@@ -421,21 +451,6 @@ fn counts_at_start(alloc: Global, nodes: usize, pages: u32) -> Result<Vec<u32>, 
     let mut counts = zeros(alloc, nodes)?;
     counts[0] = pages;
     Ok(counts)
-}
-
-/// The orders of uses at the start: the ground alone holds pages.
-fn uses_at_start(alloc: Global, nodes: usize, pages: u32) -> Result<Vec<Lowest>, AllocError>
-    requires nodes { 0 < nodes }
-    requires pages { pages ≤ MAX_PAGES }
-    ensures len { IfOk result (λ uses. vec_len uses ≡ nodes) }
-    ensures starts { IfOk result (λ uses. (node : ℕ) (l : ALowest) → slice_get uses.items node ≡ Some l → StartsUses pages node l) }
-{
-    let mut uses = Vec::new(alloc);
-    uses.push(Lowest::new(alloc, pages, Some(0))?)?;
-    for _ in 1..nodes {
-        uses.push(Lowest::new(alloc, pages, None)?)?;
-    }
-    Ok(uses)
 }
 
 /// Counts a page that a node had or has a right on.

@@ -5,7 +5,7 @@ use Rattle.hist_plain.specs.declared.event.Event.{Event}
 use Rattle.hist_plain.specs.declared.event.Answer.{Answer}
 use Rattle.hist_plain.specs.declared.event.Answer.TheVariants as answers
 use Rattle.hist_plain.specs.Plain.{Told}
-use Rattle.tower_pages.specs.Granted.{is_grant_of}
+use Rattle.layer_laws.specs.Granted.{is_grant_of}
 use Rattle.tower_log.specs.declared.logged.Entry.{Entry}
 use Rattle.tower_log.specs.declared.logged.Logged.{Logged}
 use Rattle.tower_log.specs.declared.logged.Logged.TheVariants.{Entered, Noted}

@@ -10,6 +10,3 @@ mod trail;
 
 pub use logged::{Entry, Logged, Note};
 pub use trail::Trail;
-
-#[cfg(test)]
-mod tests;

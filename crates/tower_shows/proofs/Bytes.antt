@@ -12,12 +12,12 @@ use Rattle.tower_core.specs.Trail.{state_of, step_of, of_page}
 use Rattle.tower_core.specs.Legal.{IsFilled}
 use Rattle.tower_core.proofs.Legals.{legal_snoc}
 use Rattle.tower_core.proofs.StepLaw.{updated-same, updated-other}
-use Rattle.tower_sides.specs.Side.{Side, brought}
-use Rattle.tower_sides.specs.Sent.{AreBrought, IsGrounded, IsPushed, pushed_by}
-use Rattle.tower_sides.specs.Tables.{AreAllCopies, AreBare, AreBytesMoved}
-use Rattle.tower_sides.proofs.TrailLaws.{event_copies, start_copies}
-use Rattle.tower_pages.specs.Shown.{page_next, page_shown}
-use Rattle.tower_pages.proofs.Newest.{shown-earlier}
+use Rattle.layer_laws.specs.Side.{Side, brought}
+use Rattle.layer_laws.specs.Sent.{AreBrought, IsGrounded, IsPushed, pushed_by}
+use Rattle.layer_laws.specs.Tables.{AreAllCopies, AreBare, AreBytesMoved}
+use Rattle.layer_laws.proofs.TrailLaws.{event_copies, start_copies}
+use Rattle.layer_laws.specs.PlacesShown.{page_next, page_shown}
+use Rattle.layer_laws.proofs.Newest.{shown-earlier}
 use Rattle.page_exchange.specs.Ground.{Tells, base_given, pages_given}
 use Rattle.page_exchange.specs.Steps.{AreSentAt, given_up, up_from}
 use Rattle.page_exchange.proofs.Telling.{told_given}

@@ -14,11 +14,11 @@ use Rattle.tower_core.specs.Legal.{IsFilled, shown}
 use Rattle.tower_core.proofs.Frames.{run_coherent}
 use Rattle.tower_core.proofs.Legals.{run_snoc, state_of-snoc}
 use Rattle.tower_core.proofs.Trails.{on_each_page, trail_len}
-use Rattle.tower_sides.specs.Side.{Side, brought}
-use Rattle.tower_sides.specs.Sent.{down_for, granted, page_above}
-use Rattle.tower_pages.specs.Granted.{is_grant_of, is_granted_in}
-use Rattle.tower_pages.proofs.Grants.{AllNothing, never_granted}
-use Rattle.tower_pages.proofs.Newest.{page_at-newest}
+use Rattle.layer_laws.specs.Side.{Side, brought}
+use Rattle.layer_laws.specs.Sent.{down_for, granted, page_above}
+use Rattle.layer_laws.specs.Granted.{is_grant_of, is_granted_in}
+use Rattle.layer_laws.proofs.Grants.{AllNothing, never_granted}
+use Rattle.layer_laws.proofs.Newest.{page_at-newest}
 use Rattle.page_exchange.specs.Steps.{IsSent}
 use Rattle.tower_shows.specs.Began.{BeganWith, IsNextIn, IsTrueTo, ground_shown}
 

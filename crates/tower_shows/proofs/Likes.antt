@@ -4,9 +4,9 @@ use Rattle.tower_core.specs.TreeShape.{TreeShape}
 use Rattle.tower_core.specs.Column.{Column, updated}
 use Rattle.tower_core.specs.declared.step.Step.{Step}
 use Rattle.tower_core.proofs.StepLaw.{updated-same, updated-other}
-use Rattle.tower_sides.specs.Side.{Side}
-use Rattle.tower_sides.specs.Sent.{AreSent}
-use Rattle.tower_sides.specs.Shown.{AreRights, AreCopies}
+use Rattle.layer_laws.specs.Side.{Side}
+use Rattle.layer_laws.specs.Sent.{AreSent}
+use Rattle.layer_laws.specs.Shown.{AreRights, AreCopies}
 use Rattle.page_messages.proofs.NodeSets.{same_or_not}
 use Rattle.page_exchange.specs.Table.{IsLike}
 use Rattle.page_exchange.specs.Steps.{AreLike, AreSentAt}

@@ -8,9 +8,9 @@ use Rattle.tower_core.specs.TreeShape.{TreeShape, IsTree}
 use Rattle.tower_core.specs.Trail.{start, state_of}
 use Rattle.tower_core.specs.Legal.{FitsFile}
 use Rattle.tower_core.proofs.Legals.{run_snoc}
-use Rattle.tower_sides.specs.Side.{Side}
-use Rattle.tower_sides.specs.Tables.{AreAllRights, AreBare, AreMoved}
-use Rattle.tower_sides.proofs.TrailLaws.{event_rights, moves_page, start_rights}
+use Rattle.layer_laws.specs.Side.{Side}
+use Rattle.layer_laws.specs.Tables.{AreAllRights, AreBare, AreMoved}
+use Rattle.layer_laws.proofs.TrailLaws.{event_rights, moves_page, start_rights}
 use Rattle.page_exchange.specs.Steps.{AreSentAt}
 use Rattle.tower_shows.specs.Began.{AreSame, IsNextIn, IsStepOn, IsTrueTo}
 use Rattle.tower_shows.proofs.Likes.{made, made_here, made_kept, made_others, rights_like}

@@ -16,9 +16,9 @@ use Rattle.tower_core.proofs.Frames.{run_coherent}
 use Rattle.tower_core.proofs.Legals.{legal_snoc, state_of-snoc}
 use Rattle.tower_core.proofs.StepLaw.{updated-other}
 use Rattle.tower_core.proofs.Trails.{on_each_page, trail_len}
-use Rattle.tower_sides.specs.Side.{Side}
-use Rattle.tower_pages.specs.Shown.{page_shown}
-use Rattle.tower_pages.proofs.Newest.{page_at-newest, shown-earlier}
+use Rattle.layer_laws.specs.Side.{Side}
+use Rattle.layer_laws.specs.PlacesShown.{page_shown}
+use Rattle.layer_laws.proofs.Newest.{page_at-newest, shown-earlier}
 use Rattle.page_exchange.specs.Ground.{Tells}
 use Rattle.tower_shows.specs.Began.{BeganWith, IsNextIn, IsTrueTo, ground_shown}
 use Rattle.tower_shows.specs.Since.{AreSince, GroundIsSince, IsSince}

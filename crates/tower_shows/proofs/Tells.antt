@@ -12,9 +12,9 @@ use Rattle.tower_core.specs.TreeShape.{IsUpper, TreeShape}
 use Rattle.tower_core.specs.Trail.{right_of, state_of}
 use Rattle.tower_core.specs.Legal.{IsLegalNext, file_after, shown}
 use Rattle.tower_core.proofs.Lives.{lives_agree}
-use Rattle.tower_sides.specs.Side.{Side}
-use Rattle.tower_pages.specs.Shown.{access_next, answer_next, page_next, told_bytes}
-use Rattle.tower_pages.proofs.Accesses.{read_of_copy, write_of_copy, clear_of_copy}
+use Rattle.layer_laws.specs.Side.{Side}
+use Rattle.layer_laws.specs.PlacesShown.{access_next, answer_next, page_next, told_bytes}
+use Rattle.layer_laws.proofs.Accesses.{read_of_copy, write_of_copy, clear_of_copy}
 use Rattle.tower_shows.specs.Began.{BeganWith, IsNextIn, IsTrueTo}
 
 writes_have : (r : Right) → r ≡ Right.Write → r ≢ Right.Nothing

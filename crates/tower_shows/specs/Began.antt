@@ -7,9 +7,9 @@ use Rattle.tower_core.specs.declared.step.Step.{Step}
 use Rattle.tower_core.specs.TreeShape.{TreeShape, IsTree}
 use Rattle.tower_core.specs.Trail.{IsAllowed, IsRun, of_page, start, state_of, step_of}
 use Rattle.tower_core.specs.Legal.{FitsFile, IsLegal, shown}
-use Rattle.tower_sides.specs.Side.{Side}
-use Rattle.tower_sides.specs.Tables.{AreAllCopies, AreAllRights}
-use Rattle.tower_pages.specs.Shown.{page_shown}
+use Rattle.layer_laws.specs.Side.{Side}
+use Rattle.layer_laws.specs.Tables.{AreAllCopies, AreAllRights}
+use Rattle.layer_laws.specs.PlacesShown.{page_shown}
 use Rattle.page_exchange.specs.Ground.{Tells}
 
 -- THE RIGHTS: each event stays in the file and was allowed where it stands, and the rights in the tables are those of

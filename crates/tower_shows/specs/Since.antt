@@ -3,7 +3,7 @@ use Rattle.std.specs.Prelude.{◌≡◌, ℕ, ◌<◌, ◌≤◌, List, length, 
 use Rattle.hist_plain.specs.declared.event.Event.{Event}
 use Rattle.tower_core.specs.TreeShape.{TreeShape}
 use Rattle.tower_core.specs.Trail.{at_of}
-use Rattle.tower_pages.specs.Shown.{page_shown}
+use Rattle.layer_laws.specs.PlacesShown.{page_shown}
 
 -- these bytes are the page as it was at a place from this one on
 pub record IsSince (shape : TreeShape) (size : ℕ) (opening : List ℕ) (trail : List Event) (from page : ℕ) (bytes : List ℕ) : Type 0 where

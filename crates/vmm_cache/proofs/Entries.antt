@@ -13,10 +13,10 @@ use Rattle.std.proofs.lemmas.Map.Keys.{IsDistinct-head, IsDistinct-tail}
 use Rattle.lru.specs.LruCache.{LruCache, lru_cache, promoted, put_entries}
 use Rattle.lru.proofs.CallerLemmas.{Contains-lookup_entry}
 use Rattle.lru.proofs.Pairs.{lookup-lookup_entry}
-use Rattle.tower_sides.specs.Side.{Side}
+use Rattle.layer_laws.specs.Side.{Side}
 use Rattle.page_messages.specs.declared.slot.Slot.{Slot}
 use Rattle.page_messages.specs.Slot.{side_of}
-use Rattle.coherency_layer.specs.Seen.{side_seen}
+use Rattle.page_messages.specs.Seen.{side_seen}
 use Rattle.vmm_cache.specs.Uses.{without, used_last}
 use Rattle.vmm_cache.specs.Frames.{slot_in, side_in, uses_in, FramesPage, FreesPage}
 use Rattle.vmm_cache.proofs.Listing.{is_other, eq_same, eq_apart, eq_from, reverse_cons, filter-reverse, without_none}

@@ -16,13 +16,13 @@ use Rattle.tower_core.specs.declared.right.Right.{Right}
 use Rattle.tower_core.specs.Count.{count_below}
 use Rattle.tower_core.specs.Trail.{holds}
 use Rattle.tower_core.proofs.Counts.{count_below-less, count_below-zero}
-use Rattle.tower_sides.specs.Side.{Side}
+use Rattle.layer_laws.specs.Side.{Side}
 use Rattle.page_messages.specs.declared.slot.Slot.{Slot}
 use Rattle.page_messages.specs.declared.paged.PagedFile.{PagedFile}
 use Rattle.page_messages.specs.Kept.{IsKept}
 use Rattle.page_messages.specs.Slot.{side_of}
 use Rattle.page_messages.proofs.NodeSets.{none_among}
-use Rattle.coherency_layer.specs.Seen.{side_seen, no_side}
+use Rattle.page_messages.specs.Seen.{side_seen, no_side}
 use Rattle.page_messages.specs.declared.paged.About.{About}
 use Rattle.page_messages.specs.declared.kinds.Called.{Called}
 use Rattle.page_messages.specs.Letters.{reply}

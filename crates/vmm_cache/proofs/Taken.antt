@@ -3,7 +3,7 @@ use Rattle.std.specs.Prelude.{IsSome, IsSomeAnd, OnOk, OnErr}
 use Rattle.std.proofs.Common.{◌≡◌, ◌≢◌, ℕ, sym, ◌∙◌, ap, subst, inl, inr, ◌⊎◌, false, List, length, Option, Some, None, Result, Ok, Err}
 use Rattle.lru.specs.LruCache.{LruCache}
 use Rattle.tower_core.specs.declared.right.Right.{Right}
-use Rattle.tower_sides.specs.Side.{Side, own_after}
+use Rattle.layer_laws.specs.Side.{Side, own_after}
 use Rattle.pager_channel.specs.Seen.{FrameSeen}
 use Rattle.page_messages.specs.declared.slot.Slot.{Slot}
 use Rattle.page_messages.specs.declared.paged.PagedFile.{PagedFile}
@@ -15,7 +15,7 @@ use Rattle.page_messages.specs.After.{after_pager}
 use Rattle.page_messages.proofs.KindLaws.{answer_says, settled_right, IsSettling}
 use Rattle.page_messages.proofs.NodeSets.{same_or_not}
 use Rattle.page_messages.proofs.KeptLaws.{is_some_and}
-use Rattle.coherency_layer.specs.Seen.{side_seen}
+use Rattle.page_messages.specs.Seen.{side_seen}
 use Rattle.vmm_cache.specs.Frames.{slot_in, side_in, FramesPage, IsFramed, AreFramed}
 use Rattle.vmm_cache.specs.declared.leaf.Leaf.{Leaf}
 use Rattle.vmm_cache.specs.Leaf.{IsKeeping, IsGranting, ChangesPage}

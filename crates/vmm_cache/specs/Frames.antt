@@ -3,12 +3,12 @@ use Rattle.std.specs.Prelude.{◌≡◌, ◌≢◌, ℕ, ◌<◌, List, reverse,
 use Rattle.std.specs.Map.{keys_of, lookup}
 use Rattle.lru.specs.LruCache.{LruCache}
 use Rattle.tower_core.specs.declared.right.Right.{Right}
-use Rattle.tower_sides.specs.Side.{Side}
+use Rattle.layer_laws.specs.Side.{Side}
 use Rattle.page_messages.specs.declared.slot.Slot.{Slot}
 use Rattle.page_messages.specs.declared.paged.PagedFile.{PagedFile}
 use Rattle.page_messages.specs.Kept.{IsKept}
 use Rattle.page_messages.specs.Slot.{side_of}
-use Rattle.coherency_layer.specs.Seen.{side_seen}
+use Rattle.page_messages.specs.Seen.{side_seen}
 use Rattle.vmm_cache.specs.Uses.{without}
 
 -- the frame of a page, if it has one

@@ -3,7 +3,7 @@ use Rattle.std.specs.Prelude.{◌≡◌, ◌≢◌, ◌↔◌, ℕ, ◌<◌, ◌
 use Rattle.tower_core.specs.declared.right.Right.{Right}
 use Rattle.tower_core.specs.Count.{count_below}
 use Rattle.tower_core.specs.Trail.{holds}
-use Rattle.tower_sides.specs.Side.{Side, written}
+use Rattle.layer_laws.specs.Side.{Side, written}
 use Rattle.marshal_buf.specs.Held.{Held}
 use Rattle.pager_channel.specs.declared.numbers.Ops.{Ops}
 use Rattle.pager_channel.specs.Frame.{IsFrame}
@@ -19,9 +19,9 @@ use Rattle.page_messages.specs.Kinds.{called_in, answer_in, right_of, bytes_down
 use Rattle.page_messages.specs.Letters.{reply}
 use Rattle.page_messages.specs.Sealed.{sealed, PutsFrame}
 use Rattle.page_messages.specs.After.{after_pager}
-use Rattle.coherency_layer.specs.Seen.{no_side}
-use Rattle.coherency_layer.specs.declared.refusal.NodeErr.{NodeErr}
-use Rattle.coherency_layer.specs.declared.refusal.NodeErr.TheVariants as errors
+use Rattle.page_messages.specs.Seen.{no_side}
+use Rattle.page_messages.specs.declared.refusal.NodeErr.{NodeErr}
+use Rattle.page_messages.specs.declared.refusal.NodeErr.TheVariants as errors
 use Rattle.vmm_cache.specs.declared.leaf.Leaf.{Leaf}
 use Rattle.vmm_cache.specs.Uses.{oldest, uses_answered, uses_called}
 use Rattle.vmm_cache.specs.Frames.{side_in, uses_in}

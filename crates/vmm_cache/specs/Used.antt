@@ -5,7 +5,7 @@ use Rattle.tower_core.specs.declared.step.Step.{Step}
 use Rattle.tower_core.specs.declared.step.Step.TheVariants.{Untouched, Grants, PagesOut, Denies, Pushes, Flushes, Deletes}
 use Rattle.tower_core.specs.Column.{is_use, updated}
 use Rattle.tower_core.specs.Trail.{State}
-use Rattle.tower_sides.specs.Side.{Side}
+use Rattle.layer_laws.specs.Side.{Side}
 use Rattle.page_messages.specs.declared.kinds.Answer.{Answer}
 use Rattle.page_messages.specs.declared.kinds.Called.{Called}
 use Rattle.vmm_cache.specs.Uses.{without, used_last}

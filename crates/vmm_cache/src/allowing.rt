@@ -1,13 +1,12 @@
 //! What a leaf's own table allows.
 
 ghost use Rattle.std.specs.Prelude.{◌≡◌, ◌↔◌, IsTrue};
-ghost use Rattle.coherency_layer.specs.declared.refusal.NodeErr.{NodeErr as ARefusal};
+ghost use Rattle.page_messages.specs.declared.refusal.NodeErr.{NodeErr as ARefusal};
 ghost use Rattle.page_messages.specs.Paged.{page_named};
 ghost use Rattle.vmm_cache.specs.Leaf.{file_of, FramesTake, MayObeyAt, MayTakeAt, AllowsFirst, AllowsSecond};
 
 use crate::leaf::Leaf;
-use coherency_layer::NodeErr;
-use page_messages::{About, Answer, Called, Message, answer_in, called_in};
+use page_messages::{About, Answer, Called, Message, NodeErr, answer_in, called_in};
 use pager_channel::Frame;
 
 impl Leaf {

@@ -2,7 +2,7 @@
 
 ghost use Rattle.std.specs.Prelude.{◌≡◌, ◌+◌, ◌<◌, ◌≤◌, ℕ, OnOk, OnErr, IsSome, None, length, replicate};
 ghost use Rattle.hist_plain.specs.Plain.{overwritten};
-ghost use Rattle.tower_sides.specs.Side.{written};
+ghost use Rattle.layer_laws.specs.Side.{written};
 ghost use Rattle.page_messages.specs.Kinds.{bytes_down};
 ghost use Rattle.page_messages.specs.After.{after_pager};
 ghost use Rattle.page_messages.specs.Slot.{side_of};

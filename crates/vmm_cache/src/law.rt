@@ -7,8 +7,8 @@ ghost use Rattle.tower_core.specs.declared.step.Step.TheVariants.{Reads, Writes}
 ghost use Rattle.tower_core.specs.Column.{Column};
 ghost use Rattle.tower_core.specs.TreeShape.{IsTree, TreeShape, frames_of};
 ghost use Rattle.tower_core.specs.Trail.{HoldsNothing, IsAllowed, IsOldest, State, held_below, of_page, start, state_of, step_of};
-ghost use Rattle.tower_sides.specs.Side.{Side};
-ghost use Rattle.tower_sides.specs.Shown.{AreCopies, AreRights};
+ghost use Rattle.layer_laws.specs.Side.{Side};
+ghost use Rattle.layer_laws.specs.Shown.{AreCopies, AreRights};
 ghost use Rattle.page_messages.specs.declared.kinds.Answer.{Answer as AnAnswer};
 ghost use Rattle.page_messages.specs.declared.kinds.Called.{Called as AnOrder};
 ghost use Rattle.vmm_cache.specs.Uses.{oldest, used_last, uses_answered, uses_called};

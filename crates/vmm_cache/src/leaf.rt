@@ -32,7 +32,7 @@ impl Leaf {
     ghost use Rattle.hist_plain.specs.Plain.{overwritten};
     ghost use Rattle.tower_core.specs.declared.right.Right.{Right as ARight};
     ghost use Rattle.page_messages.specs.Slot.{side_of};
-    ghost use Rattle.coherency_layer.specs.Seen.{no_side};
+    ghost use Rattle.page_messages.specs.Seen.{no_side};
     ghost use Rattle.vmm_cache.specs.Bare.{IsSeenAs};
     ghost use Rattle.vmm_cache.specs.Uses.{oldest, used_last};
     ghost use Rattle.vmm_cache.specs.Leaf.{file_of, frames_of, uses_of, side, held_of, IsLeaf, MayRead, MayWrite, IsUse, IsWrite};

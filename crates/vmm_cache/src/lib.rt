@@ -12,13 +12,9 @@ mod leaf;
 mod taking;
 mod writing;
 
-pub use coherency_layer::NodeErr;
 pub use law::{
     framed_tables_stay_true, messages_list_as_their_steps, uses_follow_the_trail,
     victim_is_least_recently_used,
 };
 pub use leaf::Leaf;
-pub use page_messages::{Asked, Called, PagedFile};
-
-#[cfg(test)]
-mod tests;
+pub use page_messages::{Asked, Called, NodeErr, PagedFile};

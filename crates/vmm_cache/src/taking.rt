@@ -1,7 +1,7 @@
 //! What frames make of a leaf's table.
 
 ghost use Rattle.std.specs.Prelude.{◌≡◌, IfErr, OnOk, OnErr};
-ghost use Rattle.coherency_layer.specs.Seen.{no_side};
+ghost use Rattle.page_messages.specs.Seen.{no_side};
 ghost use Rattle.tower_core.specs.declared.right.Right.{Right as ARight};
 ghost use Rattle.page_messages.specs.After.{after_pager};
 ghost use Rattle.vmm_cache.specs.Uses.{used_last, without};
@@ -9,8 +9,7 @@ ghost use Rattle.vmm_cache.specs.Leaf.{file_of, uses_of, side, MayRead, HasFrame
 
 use crate::frames;
 use crate::leaf::Leaf;
-use coherency_layer::NodeErr;
-use page_messages::{About, Answer, Called, Slot, answer_in, called_in};
+use page_messages::{About, Answer, Called, NodeErr, Slot, answer_in, called_in};
 use pager_channel::Frame;
 use std::alloc::AllocError;
 

@@ -3,7 +3,7 @@
 ghost use Rattle.std.specs.Prelude.{◌≡◌, ◌≢◌, ◌<◌, ◌≤◌, ◌+◌, ◌^◌, OnOk, OnErr, IfErr, IsOk, length, Err};
 ghost use Rattle.marshal_buf.specs.Held.{IsAsBefore};
 ghost use Rattle.pager_channel.specs.Frame.{IsFrame};
-ghost use Rattle.coherency_layer.specs.declared.refusal.NodeErr.{NodeErr as ARefusal};
+ghost use Rattle.page_messages.specs.declared.refusal.NodeErr.{NodeErr as ARefusal};
 ghost use Rattle.page_messages.specs.Paged.{page_about};
 ghost use Rattle.page_messages.specs.Rights.{IsForPage};
 ghost use Rattle.page_messages.specs.Letters.{IsLetter, question, answer, order, reply};
@@ -11,9 +11,8 @@ ghost use Rattle.page_messages.specs.Sealed.{sealed, PutsFrame};
 ghost use Rattle.vmm_cache.specs.Leaf.{file_of, side, MayAskAbout, MayObeyAt, AllowsFirst, IsRefusal, WritesReply};
 
 use crate::leaf::Leaf;
-use coherency_layer::NodeErr;
 use marshal_buf::Buf;
-use page_messages::{About, Asked, Called, Letter, called_in};
+use page_messages::{About, Asked, Called, Letter, NodeErr, called_in};
 use pager_channel::{Frame, Ops};
 use std::alloc::AllocError;
 

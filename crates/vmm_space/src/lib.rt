@@ -6,8 +6,6 @@
 mod laws;
 mod regions;
 mod table;
-#[cfg(test)]
-mod tests;
 mod why;
 
 pub use laws::regions_meet_at_an_address;

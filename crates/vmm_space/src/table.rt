@@ -88,14 +88,6 @@ impl Space {
         })
     }
 
-    /// How many files there are.
-    #[cfg(test)]
-    pub(crate) fn files(&self) -> usize
-        ensures { result ≡ length self.now.files }
-    {
-        self.files.len()
-    }
-
     /// Whether so many first pages of a file can be mapped under a name, from an address on: the answer that `map` would give,
     /// but for memory. It takes no memory.
     pub fn may_map(&self, name: &str, file: u32, address: u64, pages: u32) -> Result<(), SpaceErr>

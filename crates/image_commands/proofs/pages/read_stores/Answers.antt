@@ -2,8 +2,8 @@ use Rattle.std.proofs.Common.{◌≡◌, ℕ, List, length, sym, ap, ◌∙◌}
 use Rattle.file_stores.specs.Keys.{stores_of_file}
 use Rattle.file_stores.specs.Held.{keys_of}
 use Rattle.file_stores.specs.Files.{FileSeen}
-use Rattle.file_ground.specs.Opening.{shape_of_file}
-use Rattle.file_ground.proofs.StoreLaws.{unopened-lasts}
+use Rattle.file_stores.specs.Opening.{shape_of_file}
+use Rattle.file_stores.proofs.StoreLaws.{unopened-lasts}
 use Rattle.image_commands.specs.Read.{unopened}
 use Rattle.image_commands.proofs.SaysLaws.{err-part, ok-fact}
 use Rattle.image_commands.proofs.FileLaws.{read-lasts, read-of, refused-lasts, refused-of, shape-opened}

@@ -1,6 +1,6 @@
 use denote.Exit.{no}
 use denote.Param.Send.{arg_send, param_send}
-use Rattle.file_ground.proofs.Crossing.{ground_send}
+use Rattle.file_stores.proofs.Crossing.{ground_send}
 use Rattle.run_files.proofs.held.close.Goals as goal
 
 pub close-ground-requires-send-G : goal.close-ground-requires-send-G

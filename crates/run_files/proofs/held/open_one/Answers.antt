@@ -1,8 +1,8 @@
 use Rattle.std.proofs.Common.{inl, inr, refl, sym, ap, ◌∙◌}
 use Rattle.run_defs.specs.Stack.{pages_of}
 use Rattle.file_stores.specs.Files.{FileSeen}
-use Rattle.file_ground.proofs.OpenLaws.{opened-number}
-use Rattle.file_ground.proofs.StoreLaws.{unopened-lasts}
+use Rattle.file_stores.proofs.OpenLaws.{opened-number}
+use Rattle.file_stores.proofs.StoreLaws.{unopened-lasts}
 use Rattle.run_files.proofs.TurnLaws.{shut-at-once}
 use Rattle.run_files.proofs.held.open_one.Goals as goal
 

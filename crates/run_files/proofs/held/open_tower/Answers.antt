@@ -2,8 +2,8 @@ use Rattle.std.proofs.Common.{◌≤◌, sym, subst, ◌∙◌}
 use denote.Exit.{no}
 use denote.Param.Send.{arg_send, param_send}
 use Rattle.tower_core.specs.TreeShape.{TreeShape, frames_of}
-use Rattle.file_ground.proofs.Crossing.{ground_send}
-use Rattle.file_ground.proofs.UnderLaws.{counts-under}
+use Rattle.file_stores.proofs.Crossing.{ground_send}
+use Rattle.file_stores.proofs.UnderLaws.{counts-under}
 use Rattle.run_files.proofs.HeldLaws.{few-frames}
 use Rattle.run_files.proofs.held.open_tower.Goals as goal
 

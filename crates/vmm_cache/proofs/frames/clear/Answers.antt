@@ -1,5 +1,5 @@
 use Rattle.std.proofs.Common.{sym, ap, ◌∙◌, replicate, length}
-use Rattle.tower_sides.specs.Side.{Side, written}
+use Rattle.layer_laws.specs.Side.{Side, written}
 use Rattle.vmm_cache.proofs.Entries.{in_place, seen}
 use Rattle.vmm_cache.proofs.frames.clear.Goals as goal
 

@@ -1,6 +1,6 @@
 use Rattle.std.proofs.Common.{sym, ap, ◌∙◌}
 use Rattle.hist_plain.specs.Plain.{overwritten}
-use Rattle.tower_sides.specs.Side.{Side, written}
+use Rattle.layer_laws.specs.Side.{Side, written}
 use Rattle.vmm_cache.proofs.Entries.{in_place, seen}
 use Rattle.vmm_cache.proofs.frames.write.Goals as goal
 

@@ -1,6 +1,6 @@
 use Rattle.std.proofs.Common.{subst, sym, ap, ◌∙◌}
 use Rattle.pager_channel.specs.Flags.{has_data}
-use Rattle.tower_sides.specs.Side.{Side}
+use Rattle.layer_laws.specs.Side.{Side}
 use Rattle.page_messages.specs.Letters.{IsLetter}
 use Rattle.page_messages.specs.Rules.{MayServe}
 use Rattle.coherency_layer.specs.Node.{side}

@@ -1,6 +1,6 @@
 use Rattle.std.proofs.Common.{◌∙◌, ap, sym, refl, length}
 use Rattle.hist_plain.specs.Plain.{overwritten}
-use Rattle.tower_sides.specs.Side.{Side}
+use Rattle.layer_laws.specs.Side.{Side}
 use Rattle.coherency_layer.proofs.Tables.{copy_long, seen, write_kept, write_changes}
 use Rattle.coherency_layer.proofs.node.Node.change.Goals as goal
 

@@ -1,6 +1,6 @@
 use Rattle.std.proofs.Common.{◌≢◌, subst, sym}
 use Rattle.tower_core.specs.declared.right.Right.{Right}
-use Rattle.tower_sides.specs.Side.{Side}
+use Rattle.layer_laws.specs.Side.{Side}
 use Rattle.page_messages.specs.Rules.{NoKidWrites}
 use Rattle.coherency_layer.proofs.node.Node.may_read.Goals as goal
 

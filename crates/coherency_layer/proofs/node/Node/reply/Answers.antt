@@ -1,5 +1,5 @@
 use Rattle.std.proofs.Common.{subst, sym, ap, ◌∙◌}
-use Rattle.tower_sides.specs.Side.{Side}
+use Rattle.layer_laws.specs.Side.{Side}
 use Rattle.page_messages.specs.Letters.{IsLetter}
 use Rattle.page_messages.specs.Rules.{MayObey}
 use Rattle.coherency_layer.specs.Node.{side}

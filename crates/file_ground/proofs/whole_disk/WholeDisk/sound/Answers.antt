@@ -1,5 +1,0 @@
-use Rattle.file_ground.proofs.WholeLaws.{since-opened}
-use Rattle.file_ground.proofs.whole_disk.WholeDisk.sound.Goals as goal
-
-pub returns-clause-since : goal.returns-clause-since
-returns-clause-since g c = rw (← c.self.view_is) (since-opened c.self.inside.disk c.sound.ensures.keeps)

@@ -1,5 +1,0 @@
-pub mod WholeDisk
-pub mod Under
-pub mod Opening
-pub mod Reading
-pub mod Guards

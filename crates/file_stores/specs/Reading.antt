@@ -1,0 +1,45 @@
+-- How the pages of a file are read from what lies under it.
+use Rattle.std.specs.Prelude.{◌≡◌, ℕ, ◌<◌, ◌≤◌, Bool, true, false, List, IfSome}
+use Rattle.disk_format.specs.declared.shape.ImageShape.{ImageShape}
+use Rattle.disk_layer.specs.declared.fault.StoreFault.{StoreFault}
+use Rattle.disk_layer.specs.Disk.{counting}
+use Rattle.disk_layer.specs.Pages.{cut}
+use Rattle.mirror_rules.specs.Tree.{Cell, Store, Seat, In, Out}
+use Rattle.mirror_rules.specs.Claims.{Pairs}
+use Rattle.mirror_rules.specs.Steps.{Named, faulted}
+use Rattle.mirror_layer.specs.Ground.{Ground}
+use Rattle.file_stores.specs.Under.{One, Many, Under, seen_under}
+
+-- a disk while pages are read: only the count of a live one may rise, and does so if a read was refused
+pub data Stays (refused : Bool) : Seat → Seat → Type 0 where
+  stays_out : {b : Bool} {s : Store} → Stays refused (Out b s) (Out b s)
+  stays_left : {c : Cell} → Stays refused (In false c) (In false c)
+  stays_same : {c : Cell} → refused ≡ false → Stays refused (In true c) (In true c)
+  stays_failed : {c : Cell} {n : ℕ} → c.faults < n → Stays refused (In true c) (In true (faulted n c))
+
+-- the disks in mirrors while pages are read
+abbrev pub AllStay : Bool → Ground → Ground → Type 0
+AllStay refused g h = (h ≡ record g { row = h.row }) × Pairs (Stays refused) g.row h.row
+
+-- no read was refused; the one disk of a file is as it was
+abbrev pub Calmly : Under → Under → Type 0
+Calmly (One d) (One e) = e ≡ d
+Calmly (One d) (Many h) = ⊥
+Calmly (Many g) (One e) = ⊥
+Calmly (Many g) (Many h) = AllStay false g h
+
+-- all pages were read: these bytes are, if they are told, the pages, one after another
+abbrev pub ReadsAll : Under → Under → List ℕ → Type 0
+ReadsAll u v bytes = Calmly u v × IfSome (seen_under u).pages (λ ps. ps ≡ cut (seen_under u).page_size (seen_under u).number bytes)
+
+-- a read was refused: each live disk failed in it, of which this is one, with its count after that
+abbrev pub Fails : Under → Under → StoreFault → Type 0
+Fails (One d) (One e) fault = (e ≡ counting e.faults d) × (fault.disk ≡ d.disk) × (d.faults < fault.count) × (fault.count ≤ e.faults)
+Fails (One d) (Many h) fault = ⊥
+Fails (Many g) (One e) fault = ⊥
+Fails (Many g) (Many h) fault = AllStay true g h × Named fault.disk fault.count g.row h.row
+
+-- the shape of the image
+abbrev pub shape_under : Under → ImageShape
+shape_under (One d) = d.shape
+shape_under (Many g) = g.shape

@@ -1,3 +1,0 @@
-pub mod OwnNumbers
-pub mod Missing
-pub mod SoFar

@@ -1,0 +1,9 @@
+pub mod HandOvers
+pub mod StepLaws
+pub mod TrailLaws
+pub mod Ranges
+pub mod Grants
+pub mod Newest
+pub mod Alike
+pub mod Telling
+pub mod Accesses

@@ -1,4 +1,0 @@
-pub mod Holding
-pub mod RowLemmas
-pub mod Passing
-pub mod Crossing

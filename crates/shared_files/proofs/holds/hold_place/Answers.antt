@@ -1,9 +1,0 @@
-use Rattle.shared_tower.specs.Shared.{log_of}
-use Rattle.shared_files.proofs.Holding.{gives_same, same_hold}
-use Rattle.shared_files.proofs.holds.hold_place.Goals as goal
-
-pub give-requires-clause-list : goal.give-requires-clause-list
-give-requires-clause-list g c = gives_same c.args.seat.now c.take-file.new.seat (log_of c.take-file.result) c.take-file.ensures.seat
-
-pub returns-clause-seat : goal.returns-clause-seat
-returns-clause-seat g c = same_hold c.args.seat.now c.take-file.new.seat c.give.new.seat _ _ c.requires.seat.1 c.take-file.ensures.seat c.give.ensures

@@ -1,5 +1,0 @@
-pub mod Passes
-pub mod Holds
-pub mod Calls
-pub mod Rows
-pub mod Sample

@@ -1,8 +1,0 @@
-use Rattle.std.proofs.Common.{subst}
-use Rattle.shared_tower.specs.Shared.{IsPlain, SharedSeen, log_of}
-use Rattle.shared_tower.proofs.Sharing.{plain_later}
-use Rattle.shared_tower.proofs.shared.SharedTower.sound.Goals as goal
-
-pub returns-clause-plain : goal.returns-clause-plain
-returns-clause-plain g c =
-    subst (λ (s : SharedSeen). IsPlain s.began.engine (log_of s)) c.self.view_is (plain_later c.self.inside.began.value.engine c.self.inside.tower.engine c.self.invariant.later)

@@ -1,0 +1,82 @@
+//! The command line, as it is told to `clap`.
+
+ghost use Rattle.std.specs.Prelude.{◌≡◌, false, IfOk};
+ghost use Rattle.clap.specs.Words.{app_of, rule_of, shape_of};
+ghost use Rattle.spr_run.specs.Line.{check, dump, flag, format, idl, line, name, run};
+
+use clap::{Arg, ArgAction, Command};
+use std::alloc::{AllocError, Global};
+
+/// A name that a command needs.
+fn name<'a>(alloc: Global, id: &'a str) -> Arg<'a>
+    ensures rule { rule_of result ≡ name id.entry.now }
+    ensures global { result.global ≡ false }
+{
+    Arg::new(alloc, id).required(true)
+}
+
+/// A flag that a command may have.
+fn flag<'a>(alloc: Global, id: &'a str) -> Arg<'a>
+    ensures rule { rule_of result ≡ flag id.entry.now }
+    ensures global { result.global ≡ false }
+{
+    Arg::new(alloc, id).long(id).action(ArgAction::SetTrue)
+}
+
+/// The command that runs a script.
+fn run<'a>(alloc: Global) -> Result<Command<'a>, AllocError>
+    ensures shape { IfOk result (λ c. shape_of c ≡ run) }
+{
+    Command::new(alloc, "run")
+        .arg(flag(alloc, "trace"))?
+        .arg(name(alloc, "idl"))?
+        .arg(name(alloc, "stack"))?
+        .arg(name(alloc, "script"))
+}
+
+/// The command that tells whether a stack can be mounted.
+fn check<'a>(alloc: Global) -> Result<Command<'a>, AllocError>
+    ensures shape { IfOk result (λ c. shape_of c ≡ check) }
+{
+    Command::new(alloc, "check").arg(name(alloc, "stack"))
+}
+
+/// The command that writes a fresh image on the store of each file.
+fn format<'a>(alloc: Global) -> Result<Command<'a>, AllocError>
+    ensures shape { IfOk result (λ c. shape_of c ≡ format) }
+{
+    Command::new(alloc, "format").arg(name(alloc, "stack"))
+}
+
+/// The command that prints the pages of the image of a file.
+fn dump<'a>(alloc: Global) -> Result<Command<'a>, AllocError>
+    ensures shape { IfOk result (λ c. shape_of c ≡ dump) }
+{
+    Command::new(alloc, "dump")
+        .arg(name(alloc, "stack"))?
+        .arg(name(alloc, "file"))
+}
+
+/// The command that prints the tables of interfaces.
+fn idl<'a>(alloc: Global) -> Result<Command<'a>, AllocError>
+    ensures shape { IfOk result (λ c. shape_of c ≡ idl) }
+{
+    Command::new(alloc, "idl").arg(name(alloc, "idl"))
+}
+
+/// The command line of the program.
+pub(crate) fn line<'a>(alloc: Global) -> Result<Command<'a>, AllocError>
+    ensures shape { IfOk result (λ c. app_of c ≡ line) }
+{
+    Command::new(alloc, "spring")
+        .no_binary_name(true)
+        .disable_help_flag(true)
+        .disable_help_subcommand(true)
+        .disable_version_flag(true)
+        .subcommand_required(true)
+        .subcommand(run(alloc)?)?
+        .subcommand(check(alloc)?)?
+        .subcommand(format(alloc)?)?
+        .subcommand(dump(alloc)?)?
+        .subcommand(idl(alloc)?)
+}

@@ -1,0 +1,220 @@
+//! From words to the command that they ask for.
+
+ghost use Rattle.std.specs.Prelude.{◌≡◌, List, [], ℕ, map, IfOk, Err, None, Some};
+ghost use Rattle.clap.specs.Words.{first_of, found_of, rows_of, subcommand_of, subcommand_rows_of};
+ghost use Rattle.clap.specs.Faults.{fault_of};
+ghost use Rattle.clap.specs.Words.{kind_of};
+ghost use Rattle.spr_run.specs.Line.{line};
+
+use crate::command::line;
+use clap::error::ErrorKind;
+use clap::{ArgMatches, Error};
+use seen_values::Text;
+use std::alloc::{AllocError, Global};
+
+/// A command of the program, with the names that its words give.
+#[derive(Debug, Drop)]
+pub enum Asked {
+    /// Run a script over the files of a stack.
+    Run {
+        /// Whether its messages are traced.
+        trace: bool,
+        /// The name of the text of the interfaces.
+        idl: Text,
+        /// The name of the stack's text.
+        stack: Text,
+        /// The name of the script.
+        script: Text,
+    },
+    /// Tell whether a stack can be mounted, and its tree.
+    Check {
+        /// The name of the stack's text.
+        stack: Text,
+    },
+    /// Write a fresh image on the store of each file of a stack.
+    Format {
+        /// The name of the stack's text.
+        stack: Text,
+    },
+    /// Print the pages of the image of a file of a stack.
+    Dump {
+        /// The name of the stack's text.
+        stack: Text,
+        /// The name of the file.
+        file: Text,
+    },
+    /// Print the tables of interfaces.
+    Idl {
+        /// The name of the text of the interfaces.
+        idl: Text,
+    },
+}
+
+/// Why words gave no command.
+#[derive(Clone, Copy, Debug, PartialEq, Eq)]
+pub enum WordsErr {
+    /// They ask for none of the program's commands.
+    Usage,
+    /// Memory ran out.
+    Memory,
+}
+
+impl From<AllocError> for WordsErr {
+    ghost use Rattle.std.specs.Prelude.{◌≡◌};
+    ghost use Rattle.spr_run.specs.declared.words.WordsErr.TheVariants.{Memory};
+
+    ghost from_gives = { λ _ e. e ≡ Memory };
+
+    fn from(_: AllocError) -> WordsErr {
+        WordsErr::Memory
+    }
+}
+
+ghost use Rattle.spr_run.specs.Asked.{asked, asked_by, asked_in, check_in, dump_in, format_in, idl_in, is_given, run_in};
+
+/// Lends the words.
+fn lend<'a>(alloc: Global, words: &'a [Text]) -> Result<Vec<&'a str>, AllocError>
+    ensures { IfOk result (λ lent. map (λ s. s.now) lent.items ≡ words.now) }
+{
+    let mut lent = Vec::new(alloc);
+    for word in words {
+        lent.push(word.as_str())?;
+    }
+    Ok(lent)
+}
+
+/// What `clap` finds in the words.
+fn parse<'a>(alloc: Global, words: &'a [&'a str]) -> Result<ArgMatches<'a>, WordsErr>
+    ensures taken { IfOk result (λ _. fault_of line (map (λ s. s.now) words.now) ≡ []) }
+    ensures found { IfOk result (λ m. subcommand_rows_of m ≡ subcommand_of line (map (λ s. s.now) words.now)) }
+    ensures usage { result ≡ Err WordsErr.Usage → fault_of line (map (λ s. s.now) words.now) ≡ [] → ⊥ }
+{
+    let line = line(alloc)?;
+    match line.try_get_matches_from(words) {
+        Ok(matches) => Ok(matches),
+        Err(error) => Err(refused(&error)),
+    }
+}
+
+/// Why a parse failed.
+fn refused(error: &Error) -> WordsErr
+    ensures { result ≡ WordsErr.Usage → kind_of error.now ≡ ErrorKind.OutOfMemory → ⊥ }
+{
+    if error.kind() == ErrorKind::OutOfMemory {
+        WordsErr::Memory
+    } else {
+        WordsErr::Usage
+    }
+}
+
+/// The name that was found under an id.
+fn named(alloc: Global, found: &ArgMatches<'_>, id: &str) -> Result<Text, WordsErr>
+    ensures ok { IfOk result (λ t. first_of id.now (rows_of (found_of found.now)) ≡ Some t) }
+    ensures usage { result ≡ Err WordsErr.Usage → first_of id.now (rows_of (found_of found.now)) ≡ None }
+{
+    match found.get_str(id) {
+        Some(name) => Ok(Text::of(alloc, name)?),
+        None => Err(WordsErr::Usage),
+    }
+}
+
+/// Whether a flag was given under an id.
+fn is_given(found: &ArgMatches<'_>, id: &str) -> bool
+    ensures { result ≡ is_given id.now (rows_of (found_of found.now)) }
+{
+    match found.get_str(id) {
+        Some(word) => word == "true",
+        None => false,
+    }
+}
+
+/// A run, with its names.
+fn run_in(alloc: Global, found: &ArgMatches<'_>) -> Result<Asked, WordsErr>
+    ensures ok { IfOk result (λ a. run_in (rows_of (found_of found.now)) ≡ Some a) }
+    ensures usage { result ≡ Err WordsErr.Usage → run_in (rows_of (found_of found.now)) ≡ None }
+{
+    let trace = is_given(found, "trace");
+    let idl = named(alloc, found, "idl")?;
+    let stack = named(alloc, found, "stack")?;
+    let script = named(alloc, found, "script")?;
+    Ok(Asked::Run {
+        trace,
+        idl,
+        stack,
+        script,
+    })
+}
+
+/// A check, with its name.
+fn check_in(alloc: Global, found: &ArgMatches<'_>) -> Result<Asked, WordsErr>
+    ensures ok { IfOk result (λ a. check_in (rows_of (found_of found.now)) ≡ Some a) }
+    ensures usage { result ≡ Err WordsErr.Usage → check_in (rows_of (found_of found.now)) ≡ None }
+{
+    let stack = named(alloc, found, "stack")?;
+    Ok(Asked::Check { stack })
+}
+
+/// A formatting, with its name.
+fn format_in(alloc: Global, found: &ArgMatches<'_>) -> Result<Asked, WordsErr>
+    ensures ok { IfOk result (λ a. format_in (rows_of (found_of found.now)) ≡ Some a) }
+    ensures usage { result ≡ Err WordsErr.Usage → format_in (rows_of (found_of found.now)) ≡ None }
+{
+    let stack = named(alloc, found, "stack")?;
+    Ok(Asked::Format { stack })
+}
+
+/// The printing of a file's pages, with its names.
+fn dump_in(alloc: Global, found: &ArgMatches<'_>) -> Result<Asked, WordsErr>
+    ensures ok { IfOk result (λ a. dump_in (rows_of (found_of found.now)) ≡ Some a) }
+    ensures usage { result ≡ Err WordsErr.Usage → dump_in (rows_of (found_of found.now)) ≡ None }
+{
+    let stack = named(alloc, found, "stack")?;
+    let file = named(alloc, found, "file")?;
+    Ok(Asked::Dump { stack, file })
+}
+
+/// The printing of tables, with its name.
+fn idl_in(alloc: Global, found: &ArgMatches<'_>) -> Result<Asked, WordsErr>
+    ensures ok { IfOk result (λ a. idl_in (rows_of (found_of found.now)) ≡ Some a) }
+    ensures usage { result ≡ Err WordsErr.Usage → idl_in (rows_of (found_of found.now)) ≡ None }
+{
+    let idl = named(alloc, found, "idl")?;
+    Ok(Asked::Idl { idl })
+}
+
+/// The command of a name.
+fn asked_by(alloc: Global, name: &str, found: &ArgMatches<'_>) -> Result<Asked, WordsErr>
+    ensures ok { IfOk result (λ a. asked_by name.now (rows_of (found_of found.now)) ≡ Some a) }
+    ensures usage { result ≡ Err WordsErr.Usage → asked_by name.now (rows_of (found_of found.now)) ≡ None }
+{
+    match name {
+        "run" => run_in(alloc, found),
+        "check" => check_in(alloc, found),
+        "format" => format_in(alloc, found),
+        "dump" => dump_in(alloc, found),
+        "idl" => idl_in(alloc, found),
+        _ => Err(WordsErr::Usage),
+    }
+}
+
+/// The command that was found.
+fn asked_in(alloc: Global, matches: &ArgMatches<'_>) -> Result<Asked, WordsErr>
+    ensures ok { IfOk result (λ a. asked_in (subcommand_rows_of matches.now) ≡ Some a) }
+    ensures usage { result ≡ Err WordsErr.Usage → asked_in (subcommand_rows_of matches.now) ≡ None }
+{
+    match matches.subcommand() {
+        Some((name, found)) => asked_by(alloc, name, found),
+        None => Err(WordsErr::Usage),
+    }
+}
+
+/// The command that the words after the program's name ask for. Usage comes exactly where they ask for none, by what `clap`
+/// reads of the program's command line; the other refusal is want of memory. The commands are this project's own.
+pub fn read_words(alloc: Global, words: &[Text]) -> Result<Asked, WordsErr>
+    ensures ok { IfOk result (λ a. asked words.now ≡ Some a) }
+    ensures usage { result ≡ Err WordsErr.Usage → asked words.now ≡ None }
+{
+    let lent = lend(alloc, words)?;
+    let matches = parse(alloc, &lent)?;
+    asked_in(alloc, &matches)
+}

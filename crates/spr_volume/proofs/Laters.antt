@@ -1,0 +1,320 @@
+-- The same file later on: at the start, after one stretch and another, and after one try.
+use Rattle.std.proofs.Common.{◌≡◌, ◌⊎◌, inl, inr, ℕ, ◌<◌, ◌≤◌, ◌==◌, Bool, true, false, cond, List, [], ◌∷◌, ◌++◌, length, Option, Some, None, IfSome, IsSome, refl, sym, ap, subst, ◌∙◌, arith, append_assoc}
+use Rattle.std.specs.Prelude.{Contains}
+use Rattle.std.specs.List.{AllByRecursion, fold}
+use Rattle.std.proofs.lemmas.List.{append-nil}
+use Rattle.std.proofs.lemmas.List.Sums.{fold-append}
+use Rattle.std.proofs.lemmas.Bool.Decides.{nat_tests}
+use Rattle.hist_plain.specs.declared.event.Event.{Event}
+use Rattle.hist_plain.specs.declared.event.Event.TheVariants as events
+use Rattle.disk_format.specs.Image.{Imaged}
+use Rattle.disk_layer.specs.Seen.{Are, KeptAt, Seen, Turns, faults_in, held_in, live_in, opened_in, pages_in}
+use Rattle.disk_layer.specs.Seen.{kept_in as kept_on}
+use Rattle.tower_core.specs.TreeShape.{TreeShape}
+use Rattle.page_messages.specs.declared.paged.PagedFile.{PagedFile}
+use Rattle.page_exchange.specs.Ground.{IsCalmCall, IsOneCall}
+use Rattle.tower_log.specs.declared.logged.Entry.{Entry}
+use Rattle.tower_log.specs.declared.logged.Logged.{Logged}
+use Rattle.tower_log.specs.declared.logged.Logged.TheVariants.{Entered, Noted}
+use Rattle.tower_log.specs.Log.{trail_of}
+use Rattle.tower_log.specs.Notes.{counts_of}
+use Rattle.tower_log.proofs.LogLaws.{trail_of-append}
+use Rattle.tower_shows.specs.Since.{AreSince, GroundIsSince}
+use Rattle.tower_shows.proofs.Stays.{told_later, told_stays}
+use Rattle.stack_engine.specs.declared.refusal.StepErr.{StepErr}
+use Rattle.stack_engine.specs.declared.refusal.StepErr.TheVariants.{StoreFault, TrailFull, Memory}
+use Rattle.stack_engine.specs.Engine.{EngineSeen, IsSound, events_in, file_in, log_in, sides_in, tree_in}
+use Rattle.stack_engine.specs.Moves.{Enters, Goes, IsRefused}
+use Rattle.stack_engine.specs.Opened.{IsOf, KeepsSince, from_after, last_from}
+use Rattle.stack_engine.proofs.Entering.{at_same, if_some_on, some_image, such_pages}
+use Rattle.stack_engine.proofs.Logs.{counts_of-append}
+use Rattle.spr_volume.specs.Later.{AreLater, IsLater, IsNoteOf, IsOnDisk, IsTurned, KeepsFirst, TurnsFirst}
+
+-- LISTS
+
+pub all-append : {A : Type 0} (P : A → Type 0) (xs ys : List A) → AllByRecursion P xs → AllByRecursion P ys → AllByRecursion P (xs ++ ys)
+all-append P [] ys all more = more
+all-append P (x ∷ xs) ys all more = (all.0, all-append P xs ys all.1 more)
+
+none-append : (xs ys : List ℕ) → xs ++ ys ≡ [] → (xs ≡ []) × (ys ≡ [])
+none-append [] ys e = (refl, e)
+none-append (x ∷ xs) ys e = absurd cc
+
+some_of : (xs : List ℕ) → 0 < length xs → (x : ℕ) × Contains xs x
+some_of [] some = absurd (omega arith)
+some_of (x ∷ xs) some = (x, (0, some, refl))
+
+some_in : (xs : List ℕ) (x : ℕ) → Contains xs x → 0 < length xs
+some_in [] x (k, inside, is) = absurd (omega (arith, inside))
+some_in (y ∷ xs) x found = omega arith
+
+-- a note of one of some disks is of one of more
+notes_of_more : (some all : List ℕ) (log : List Logged) → ((disk : ℕ) → Contains some disk → Contains all disk) → AllByRecursion (IsNoteOf some) log → AllByRecursion (IsNoteOf all) log
+notes_of_more some all [] to h = tt
+notes_of_more some all (Entered entry ∷ log) to h = (tt, notes_of_more some all log to h.1)
+notes_of_more some all (Noted note ∷ log) to h = (to note.disk h.0, notes_of_more some all log to h.1)
+
+-- A GROUND after one call at most
+
+-- after it the disks are later on
+later_once : (more : List Logged) (before after : Seen) → IsOneCall before after → AllByRecursion (IsNoteOf (live_in before.disks)) more → AreLater more before after
+later_once more before after (inl same) notes = subst (AreLater more before) (sym same) (record {
+  disks = refl;
+  up = λ disk. refl;
+  told = λ disk. refl;
+  live = λ disk live. live;
+  some = λ some. some;
+  lost = λ disk live. inl live;
+  faults = λ disk. omega arith;
+  opened = λ disk. refl;
+  notes = notes;
+})
+later_once more before after (inr keeps) notes = record {
+  disks = keeps.same_disks;
+  up = keeps.same_up;
+  told = keeps.same_told;
+  live = keeps.live;
+  some = λ _. keeps.some;
+  lost = keeps.lost;
+  faults = keeps.later;
+  opened = keeps.same_opened;
+  notes = notes;
+}
+
+-- THE ONE LIVE DISK later on
+pub on_later : (disk : ℕ) (more : List Logged) (before after : Seen) → AreLater more before after → IsOnDisk disk before → IsOnDisk disk after
+on_later disk more before after later on =
+    let other = some_of (live_in after.disks) (later.some (some_in (live_in before.disks) disk on.live)) in
+    record {
+      live = subst (Contains (live_in after.disks)) (on.alone other.0 (later.live other.0 other.1)) other.1;
+      alone = λ d live. on.alone d (later.live d live);
+    }
+
+on_disk_once : (before after : Seen) (disk : ℕ) → IsOneCall before after → IsOnDisk disk before → IsOnDisk disk after
+on_disk_once before after disk call on = on_later disk [] before after (later_once [] before after call tt) on
+
+calm_on : (before after : Seen) (disk : ℕ) → IsOneCall before after → IsOnDisk disk before → IsCalmCall before after → faults_in after.disks disk ≡ faults_in before.disks disk
+calm_on before after disk call on (inl same) = ap (λ (s : Seen). faults_in s.disks disk) same
+calm_on before after disk call on (inr calm) =
+    let is = (on_disk_once before after disk call on).alone calm.disk calm.live in
+    subst (λ (d : ℕ). faults_in after.disks d ≡ faults_in before.disks d) is calm.same
+
+-- what it keeps is as it was, or is the ground's pages
+kept_once : (P : Option (Option (List (List ℕ))) → Type 0) (before after : Seen) (disk : ℕ) → IsOneCall before after → Contains (live_in after.disks) disk
+    → P (pages_in (kept_on before.disks disk)) → (KeptAt (kept_on after.disks disk) before.pages → P (pages_in (kept_on after.disks disk))) → P (pages_in (kept_on after.disks disk))
+kept_once P before after disk (inl same) live was is = subst (λ (s : Seen). P (pages_in (kept_on s.disks disk))) (sym same) was
+kept_once P before after disk (inr keeps) live was is = elim (keeps.kept disk live) [
+  | inl e ↦ subst P (sym e) was
+  | inr at ↦ is at
+]
+
+-- THE LAST SYNC: if none was completed up to a place, none was up to an earlier one
+
+after-none : (found : Option ℕ) (event : Event) → from_after found event ≡ None → found ≡ None
+after-none found (events.Synced caller number node from keep) e = absurd cc
+after-none found event e = e
+
+none-before : (found : Option ℕ) (more : List Event) → fold from_after found more ≡ None → found ≡ None
+none-before found [] e = e
+none-before found (event ∷ more) e = after-none found event (none-before (from_after found event) more e)
+
+last-none : (trail more : List Event) → last_from (trail ++ more) ≡ None → last_from trail ≡ None
+last-none trail more e = none-before (last_from trail) more (sym (fold-append from_after None trail more) ∙ e)
+
+-- ONE TRY: it may call the ground once, and adds these things to the log
+pub record IsTry (more : List Logged) (old new : EngineSeen) : Type 0 where
+  pub goes : Goes old new
+  pub log : log_in new ≡ log_in old ++ more
+  pub notes : AllByRecursion (IsNoteOf (live_in old.ground.disks)) more
+  pub calm : (disk : ℕ) → IsOnDisk disk old.ground → counts_of disk more ≡ [] → faults_in new.ground.disks disk ≡ faults_in old.ground.disks disk
+
+-- pages of a told ground are from the first place on
+since_start : (shape : TreeShape) (size pages : ℕ) (opening : List ℕ) (trail : List Event) → GroundIsSince shape size pages opening trail 0
+since_start shape size pages opening trail page place inside le upto = record { place = place; not_before = omega arith; not_after = upto; is = refl }
+
+module _ (more : List Logged) (old new : EngineSeen) (sound : IsSound old) (sound_new : IsSound new) (move : IsTry more old new) where
+  pub tried_events : events_in new ≡ events_in old ++ trail_of more
+  tried_events = ap trail_of move.log ∙ trail_of-append (log_in old) more
+
+  module _ (opening : List ℕ) (first : Option (Option Imaged)) (disk : ℕ) (of : IsOf opening old) (live : Contains (live_in new.ground.disks) disk) where
+    -- pages as they were at some place of the longer trail
+    abbrev Since : Option (Option (List (List ℕ))) → Type 0
+    Since kept = IfSome kept (λ pages. (ps : List (List ℕ)) × (pages ≡ Some ps) × AreSince (tree_in old) (file_in old).page_size opening (events_in old ++ trail_of more) 0 ps)
+
+    longer : (kept : Option (Option (List (List ℕ)))) → IfSome kept (λ pages. (ps : List (List ℕ)) × (pages ≡ Some ps) × AreSince (tree_in old) (file_in old).page_size opening (events_in old) 0 ps) → Since kept
+    longer None h = tt
+    longer (Some pages) h = (h.0, h.1, told_later (tree_in old) (file_in old).page_size opening (events_in old) (trail_of more) 0 h.0 h.2)
+
+    was_kept : (kept : Option (Option Imaged)) → (pages_in kept ≡ pages_in first) ⊎ KeepsSince (tree_in old) (file_in old).page_size opening (events_in old) 0 kept → (pages_in kept ≡ pages_in first) ⊎ Since (pages_in kept)
+    was_kept kept (inl e) = inl e
+    was_kept kept (inr h) = inr (longer (pages_in kept) h)
+
+    of_ground : (kept : Option (Option Imaged)) (pages : Option (List (List ℕ))) → KeptAt kept pages → IfSome pages (AreSince (tree_in old) (file_in old).page_size opening (events_in old) 0) → IsSome pages → Since (pages_in kept)
+    of_ground None pages at since some = tt
+    of_ground (Some image) None at since some = absurd (let both : false ≡ true = some in cc)
+    of_ground (Some image) (Some ps) at since some = (ps, at, told_later (tree_in old) (file_in old).page_size opening (events_in old) (trail_of more) 0 ps since)
+
+    kept_now : (pages_in (kept_on old.ground.disks disk) ≡ pages_in first) ⊎ KeepsSince (tree_in old) (file_in old).page_size opening (events_in old) 0 (kept_on old.ground.disks disk)
+        → (pages_in (kept_on new.ground.disks disk) ≡ pages_in first) ⊎ Since (pages_in (kept_on new.ground.disks disk))
+    kept_now was = kept_once (λ kept. (kept ≡ pages_in first) ⊎ Since kept) old.ground new.ground disk move.goes.call live
+        (was_kept (kept_on old.ground.disks disk) was)
+        (λ at. inr (of_ground (kept_on new.ground.disks disk) old.ground.pages at
+        (told_stays (tree_in old) (file_in old).page_size (file_in old).pages opening (events_in old) (sides_in old) old.ground.pages 0 sound.true_to of.began
+        (since_start (tree_in old) (file_in old).page_size (file_in old).pages opening (events_in old)))
+        of.began.is_told))
+
+    keeps_first : KeepsFirst opening first old disk → KeepsFirst opening first new disk
+    keeps_first was none =
+        at_same (λ (t : TreeShape) (f : PagedFile). (pages_in (kept_on new.ground.disks disk) ≡ pages_in first) ⊎ KeepsSince t f.page_size opening (events_in new) 0 (kept_on new.ground.disks disk)) old.tables new.tables move.goes.file
+        (subst (λ (es : List Event). (pages_in (kept_on new.ground.disks disk) ≡ pages_in first) ⊎ KeepsSince (tree_in old) (file_in old).page_size opening es 0 (kept_on new.ground.disks disk)) (sym tried_events)
+        (kept_now (was (last-none (events_in old) (trail_of more) (sym (ap last_from tried_events) ∙ none)))))
+
+  -- the image of a disk
+  module _ (opening : List ℕ) (first : Option Imaged) (disk : ℕ) (of : IsOf opening old) where
+    abbrev Now : List (List ℕ) → Type 0
+    Now ps = AreSince (tree_in new) (file_in new).page_size opening (events_in new) 0 ps
+
+    now_since : (ps : List (List ℕ)) → AreSince (tree_in old) (file_in old).page_size opening (events_in old) 0 ps → Now ps
+    now_since ps since = at_same (λ (t : TreeShape) (f : PagedFile). AreSince t f.page_size opening (events_in new) 0 ps) old.tables new.tables move.goes.file
+        (subst (λ (es : List Event). AreSince (tree_in old) (file_in old).page_size opening es 0 ps) (sym tried_events)
+        (told_later (tree_in old) (file_in old).page_size opening (events_in old) (trail_of more) 0 ps since))
+
+    old_ground : IfSome old.ground.pages Now
+    old_ground = if_some_on (AreSince (tree_in old) (file_in old).page_size opening (events_in old) 0) Now old.ground.pages now_since
+        (told_stays (tree_in old) (file_in old).page_size (file_in old).pages opening (events_in old) (sides_in old) old.ground.pages 0 sound.true_to of.began
+        (since_start (tree_in old) (file_in old).page_size (file_in old).pages opening (events_in old)))
+
+    new_ground : IfSome new.ground.pages Now
+    new_ground = told_stays (tree_in new) (file_in new).page_size (file_in new).pages opening (events_in new) (sides_in new) new.ground.pages 0 sound_new.true_to (move.goes.of opening of).began
+        (since_start (tree_in new) (file_in new).page_size (file_in new).pages opening (events_in new))
+
+    of_either : (ps : List (List ℕ)) → Are old.ground.pages ps ⊎ Are new.ground.pages ps → Now ps
+    of_either ps (inl at) = such_pages Now old.ground.pages ps of.began.is_told old_ground at
+    of_either ps (inr at) = such_pages Now new.ground.pages ps (move.goes.of opening of).began.is_told new_ground at
+
+    step_of : IsOneCall old.ground new.ground → (held_in new.ground.disks disk ≡ held_in old.ground.disks disk) ⊎ Turns old.ground.pages new.ground.pages (held_in old.ground.disks disk) (held_in new.ground.disks disk)
+    step_of (inl same) = inl (ap (λ (s : Seen). held_in s.disks disk) same)
+    step_of (inr keeps) = keeps.turned disk
+
+    turns_on : (then now : Option Imaged) → (now ≡ then) ⊎ Turns old.ground.pages new.ground.pages then now → (then ≡ first) ⊎ IsTurned opening first then old → (now ≡ first) ⊎ IsTurned opening first now new
+    turns_on then now (inl same) (inl was) = inl (same ∙ was)
+    turns_on then now (inl same) (inr t) = inr (record { old = t.old; new = t.new; was = t.was; is = same ∙ t.is; later = t.later; since = now_since t.new.pages t.since })
+    turns_on then now (inr m) (inl was) = inr (record { old = m.old; new = m.new; was = sym was ∙ m.was; is = m.is; later = m.later; since = of_either m.new.pages m.pages })
+    turns_on then now (inr m) (inr t) =
+        let same : t.new ≡ m.old = some_image t.new m.old (sym t.is ∙ m.was) in
+        let first_level : t.old.generation ≤ m.old.generation = subst (λ (v : Imaged). t.old.generation ≤ v.generation) same t.later in
+        let next_level : m.old.generation ≤ m.new.generation = m.later in
+        inr (record { old = t.old; new = m.new; was = t.was; is = m.is; later = omega (arith, first_level, next_level); since = of_either m.new.pages m.pages })
+
+    turns_first : TurnsFirst opening first old disk → TurnsFirst opening first new disk
+    turns_first was = turns_on (held_in old.ground.disks disk) (held_in new.ground.disks disk) (step_of move.goes.call) was
+
+  pub later_try : IsLater old new
+  later_try = record {
+    file = move.goes.file;
+    of = move.goes.of;
+    more = more;
+    log = move.log;
+    disks = later_once more old.ground new.ground move.goes.call move.notes;
+    calm = move.calm;
+    kept = λ opening first disk of live. keeps_first opening first disk of live;
+    turned = λ opening first disk of. turns_first opening first disk of;
+  }
+
+-- an event was entered without a fault
+pub try_entered : (entry : Entry) (old new : EngineSeen) → Enters entry old new → IsTry (Entered entry ∷ []) old new
+try_entered entry old new enters = record {
+  goes = enters.goes;
+  log = enters.log;
+  notes = (tt, tt);
+  calm = λ disk on none. calm_on old.ground new.ground disk enters.goes.call on enters.calm;
+}
+
+-- what a refused call leaves in the log: a note of a store that failed
+abbrev pub noted_by : ℕ → StepErr → List Logged
+noted_by caller (StoreFault disk count) = Noted (record { caller = caller; disk = disk; count = count }) ∷ []
+noted_by caller TrailFull = []
+noted_by caller Memory = []
+
+own_note : (a b : ℕ) → a ≡ b → (a == b) ≡ true
+own_note a b e = grind (arith, nat_tests)
+
+one_note : (t : Bool) (count : ℕ) → t ≡ true → cond t (count ∷ []) [] ≡ [] → ⊥
+one_note true count is e = absurd cc
+one_note false count is e = absurd cc
+
+pub try_refused : (caller : ℕ) (old new : EngineSeen) (err : StepErr) → IsRefused caller old new err → IsTry (noted_by caller err) old new
+try_refused caller old new (StoreFault disk count) refused = record {
+  goes = refused.goes;
+  log = refused.why.0;
+  notes = (refused.why.1.named, tt);
+  calm = λ d on none. absurd (one_note (disk == d) count (own_note disk d (on.alone disk refused.why.1.named)) none);
+}
+try_refused caller old new TrailFull refused = record {
+  goes = refused.goes;
+  log = refused.why.0 ∙ sym (append-nil (log_in old));
+  notes = tt;
+  calm = λ d on none. ap (λ (s : Seen). faults_in s.disks d) refused.why.2;
+}
+try_refused caller old new Memory refused = record {
+  goes = refused.goes;
+  log = refused.why.0 ∙ sym (append-nil (log_in old));
+  notes = tt;
+  calm = λ d on none. calm_on old.ground new.ground d refused.goes.call on refused.why.2;
+}
+
+-- nothing was done
+pub try_none : (old new : EngineSeen) → new ≡ old → IsTry [] old new
+try_none old new same = subst (IsTry [] old) (sym same) (record {
+  goes = record { file = record { tree = refl; file = refl }; call = inl refl; of = λ opening of. of };
+  log = sym (append-nil (log_in old));
+  notes = tt;
+  calm = λ disk on none. refl;
+})
+
+-- AT THE START, AND ON AND ON
+
+pub later_refl : (e : EngineSeen) → IsLater e e
+later_refl e = record {
+  file = record { tree = refl; file = refl };
+  of = λ opening of. of;
+  more = [];
+  log = sym (append-nil (log_in e));
+  disks = later_once [] e.ground e.ground (inl refl) tt;
+  calm = λ disk on none. refl;
+  kept = λ opening first disk of live was. was;
+  turned = λ opening first disk of was. was;
+}
+
+disks_on : (xs ys : List Logged) (a b c : Seen) → AreLater xs a b → AreLater ys b c → AreLater (xs ++ ys) a c
+disks_on xs ys a b c p q = record {
+  disks = q.disks ∙ p.disks;
+  up = λ disk. q.up disk ∙ p.up disk;
+  told = λ disk. q.told disk ∙ p.told disk;
+  live = λ disk live. p.live disk (q.live disk live);
+  some = λ some. q.some (p.some some);
+  lost = λ disk live. elim (p.lost disk live) [
+    | inl stays ↦ elim (q.lost disk stays) [
+      | inl still ↦ inl still
+      | inr rose ↦ inr (omega (arith, p.faults disk, rose))
+    ]
+    | inr rose ↦ inr (omega (arith, q.faults disk, rose))
+  ];
+  faults = λ disk. omega (arith, p.faults disk, q.faults disk);
+  opened = λ disk. q.opened disk ∙ p.opened disk;
+  notes = all-append (IsNoteOf (live_in a.disks)) xs ys p.notes (notes_of_more (live_in b.disks) (live_in a.disks) ys p.live q.notes);
+}
+
+pub later_trans : (a b c : EngineSeen) → IsLater a b → IsLater b c → IsLater a c
+later_trans a b c p q = record {
+  file = record { tree = q.file.tree ∙ p.file.tree; file = q.file.file ∙ p.file.file };
+  of = λ opening of. q.of opening (p.of opening of);
+  more = p.more ++ q.more;
+  log = q.log ∙ ap (λ (l : List Logged). l ++ q.more) p.log ∙ append_assoc (log_in a) p.more q.more;
+  disks = disks_on p.more q.more a.ground b.ground c.ground p.disks q.disks;
+  calm = λ disk on none.
+      let both = none-append (counts_of disk p.more) (counts_of disk q.more) (sym (counts_of-append disk p.more q.more) ∙ none) in
+      q.calm disk (on_later disk p.more a.ground b.ground p.disks on) both.1 ∙ p.calm disk on both.0;
+  kept = λ opening first disk of live was. q.kept opening first disk (p.of opening of) live (p.kept opening first disk of (q.disks.live disk live) was);
+  turned = λ opening first disk of was. q.turned opening first disk (p.of opening of) (p.turned opening first disk of was);
+}

@@ -1,0 +1,11 @@
+use Rattle.std.proofs.Common.{subst, sym}
+use Rattle.stack_engine.specs.Tower.{TowerSeen}
+use Rattle.spr_volume.specs.Later.{IsLater}
+use Rattle.spr_volume.proofs.Laters.{later_refl}
+use Rattle.spr_volume.proofs.shared_tower.SharedTower.new.Goals as goal
+
+pub invariant_of-result : goal.invariant_of-result
+invariant_of-result g c = record {
+  later = subst (λ (t : TowerSeen). IsLater t.engine c.args.tower.engine) (sym c.of-began.ensures) (later_refl c.args.tower.engine);
+  long = c.log_len-logged.ensures;
+}

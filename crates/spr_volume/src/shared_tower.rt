@@ -1,0 +1,159 @@
+//! A tower as its callers share it.
+
+ghost use Rattle.std.specs.Prelude.{◌≡◌, ◌≤◌, [], IfOk, IsTrue, length};
+ghost use Rattle.hist_plain.specs.declared.event.Answer.TheVariants.{Done as ADone};
+ghost use Rattle.hist_plain.specs.Event.{fits_page};
+ghost use Rattle.hist_plain.specs.Plain.{asked_by};
+ghost use Rattle.tower_core.specs.TreeShape.{IsUpper, nodes};
+ghost use Rattle.tower_log.specs.Log.{place_of};
+ghost use Rattle.stack_engine.specs.Engine.{IsSound, file_in, tree_in};
+ghost use Rattle.stack_engine.specs.Tower.{IsDone};
+ghost use Rattle.spr_volume.specs.TowerCalls.{IfBusy, IsBefore, Tries, access_of, sync_of};
+ghost use Rattle.spr_volume.specs.Later.{IsLater};
+ghost use Rattle.spr_volume.specs.TowerShared.{IsPlain, log_of, shared};
+
+use disk_layer::Ground;
+use hist_lock::Storied;
+use hist_plain::{Keep, Op};
+use stack_engine::{Logged, Moved, StepErr, Tower};
+use std::marker::Model;
+use std::snapshot::Snapshot;
+
+/// A tower as its callers share it: it is the tower that was handed in, later on. What it was then stays known.
+pub struct SharedTower<G: Ground> {
+    tower: Tower<G>,
+    began: Snapshot<Tower<G>>,
+    /// How many things the tower's log has.
+    logged: u64,
+}
+
+impl<G: Ground> Model for SharedTower<G> {
+    ghost use Rattle.spr_volume.specs.TowerShared.{IsShared, SharedSeen};
+
+    ghost Value = { SharedSeen };
+
+    ghost view = { λ s. record { began = s.began.value; tower = s.tower } };
+
+    ghost invariant = { λ s. IsShared s.began.value.engine s.tower.engine s.logged };
+}
+
+impl<G: Ground> Storied for SharedTower<G> {
+    ghost use Rattle.spr_volume.specs.TowerShared.{by, log_of};
+
+    type Entry = Logged;
+
+    type Fixed = Tower<G>;
+
+    ghost entries = { log_of };
+
+    ghost caller = { by };
+
+    ghost fixed = { λ s. s.began };
+
+    fn len(&self) -> u64 {
+        self.logged
+    }
+}
+
+impl<G: Ground> SharedTower<G> {
+    /// The tower, from now on shared.
+    pub fn new(tower: Tower<G>) -> SharedTower<G>
+        ensures { result ≡ shared tower }
+    {
+        let began = Snapshot::of(&tower);
+        let logged = tower.log_len();
+        SharedTower {
+            tower,
+            began,
+            logged,
+        }
+    }
+
+    /// The tower, which is shared no more.
+    pub fn into_tower(self) -> Tower<G>
+        ensures value { result ≡ self.tower }
+        ensures later { IsLater self.began.engine self.tower.engine }
+        ensures sound { IsSound self.tower.engine }
+    {
+        let SharedTower {
+            tower,
+            began: _began,
+            logged: _logged,
+        } = self;
+        tower.sound();
+        tower
+    }
+
+    /// What holds of every shared tower: it is the one that was handed in, later on, and its answers are the plain file's.
+    pub fn sound(&self)
+        ensures later { IsLater self.now.began.engine self.now.tower.engine }
+        ensures plain { IsPlain self.now.began.engine (log_of self.now) }
+    {
+        self.tower.sound();
+    }
+
+    /// How many events there are: the place of the next one.
+    pub fn place(&self) -> u64
+        ensures { result ≡ place_of (log_of self.now) }
+    {
+        self.tower.len()
+    }
+
+    /// How many nodes the tree of the layers has, the ground among them.
+    pub fn nodes(&self) -> u32
+        ensures { result ≡ nodes (tree_in self.now.began.engine) }
+    {
+        self.tower.tree().nodes()
+    }
+
+    /// Tries an access of a caller at a layer, of a life of it, with the caller's next number. If it is allowed it is made, and
+    /// the bytes that it reads are then in `out`. If not, the message is sent that comes next for it, unless another caller is
+    /// before this one.
+    pub fn try_access(
+        &mut self,
+        caller: u32,
+        node: u32,
+        life: u32,
+        op: &Op,
+        out: &mut [u8],
+    ) -> Result<Moved, StepErr>
+        requires upper { IsUpper (tree_in self.old.began.engine) node }
+        requires fits { IsTrue (fits_page (file_in self.old.began.engine).page_size (file_in self.old.began.engine).pages op.now) }
+        requires out { length out.old ≡ asked_by op.now }
+        ensures began { self.new.began ≡ self.old.began }
+        ensures tries { Tries caller (access_of caller node life op.now) (log_of self.old) (log_of self.new) out.new result }
+        ensures waits { IfOk result (λ moved. IfBusy moved (IsBefore caller op.now self.old.tower.turns)) }
+    {
+        let number = self.tower.number(caller);
+        self.tower.sound();
+        let result = self.tower.advance(caller, number, node, life, op, out);
+        self.tower.sound();
+        self.logged = self.tower.log_len();
+        result
+    }
+
+    /// Tries a sync of a caller at a layer, from a place of the trail on, with the caller's next number. If every page is settled
+    /// from there, the ground is made to keep its pages and the sync is done. If not, the lowest that is not is pushed one layer
+    /// further.
+    pub fn try_sync(
+        &mut self,
+        caller: u32,
+        node: u32,
+        from: u64,
+        keep: Keep,
+    ) -> Result<Moved, StepErr>
+        requires upper { IsUpper (tree_in self.old.began.engine) node }
+        requires from { from ≤ place_of (log_of self.old) }
+        ensures began { self.new.began ≡ self.old.began }
+        ensures tries { Tries caller (sync_of caller node from keep) (log_of self.old) (log_of self.new) [] result }
+        ensures done { IfOk result (λ moved. (answer : _) → IsDone answer moved → answer ≡ ADone) }
+        ensures waits { IfOk result (λ moved. IfBusy moved (λ holder. ⊥)) }
+    {
+        let number = self.tower.number(caller);
+        self.tower.sound();
+        let result = self.tower.advance_sync(caller, number, node, from, keep);
+        self.tower.sound();
+        self.logged = self.tower.log_len();
+        result
+    }
+}

@@ -1,6 +1,0 @@
-pub mod Ranges
-pub mod Grants
-pub mod Newest
-pub mod Alike
-pub mod Telling
-pub mod Accesses

@@ -1,8 +1,0 @@
-use Rattle.tower_pages.proofs.Grants.{never_granted, granted_before}
-use Rattle.tower_pages.proofs.law.no_access_before_grant.Goals as goal
-
-pub returns-clause-rights : goal.returns-clause-rights
-returns-clause-rights c = never_granted
-
-pub returns-clause-access : goal.returns-clause-access
-returns-clause-access c = granted_before

@@ -1,3 +1,0 @@
-pub mod HandOvers
-pub mod StepLaws
-pub mod TrailLaws

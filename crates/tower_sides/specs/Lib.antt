@@ -1,4 +1,0 @@
-pub mod Side
-pub mod Shown
-pub mod Sent
-pub mod Tables

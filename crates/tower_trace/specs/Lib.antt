@@ -1,4 +1,0 @@
-pub mod Exchange
-pub mod Heads
-pub mod Names
-pub mod Letters

@@ -1,0 +1,63 @@
+//! What the words of the command line ask for.
+
+use crate::say::{plain, say};
+use seen_values::Text;
+use spr_run::{Asked, WordsErr, read_words};
+use std::alloc::{AllocError, Global};
+
+/// `command WORD ..`: the command that the words ask for.
+pub fn step(alloc: Global, words: &[&str], answer: &mut String) -> Result<(), AllocError> {
+    let mut texts = Vec::new(alloc);
+    for word in words {
+        texts.push(Text::of(alloc, plain(word))?)?;
+    }
+    match read_words(alloc, &texts) {
+        Ok(asked) => say_asked(answer, &asked),
+        Err(WordsErr::Usage) => say(answer, "usage"),
+        Err(WordsErr::Memory) => say(answer, "memory"),
+    }
+}
+
+/// Appends a name that a command has; `''` stands for the empty one.
+fn say_named(answer: &mut String, what: &str, name: &Text) -> Result<(), AllocError> {
+    let name = if name.as_str() == "" {
+        "''"
+    } else {
+        name.as_str()
+    };
+    writeln!(answer, "{what} {name}")
+}
+
+/// Appends a command and its names.
+fn say_asked(answer: &mut String, asked: &Asked) -> Result<(), AllocError> {
+    match asked {
+        Asked::Run {
+            trace,
+            idl,
+            stack,
+            script,
+        } => {
+            say(answer, if *trace { "traced run" } else { "run" })?;
+            say_named(answer, "idl", idl)?;
+            say_named(answer, "stack", stack)?;
+            say_named(answer, "script", script)
+        }
+        Asked::Check { stack } => {
+            say(answer, "check")?;
+            say_named(answer, "stack", stack)
+        }
+        Asked::Format { stack } => {
+            say(answer, "format")?;
+            say_named(answer, "stack", stack)
+        }
+        Asked::Dump { stack, file } => {
+            say(answer, "dump")?;
+            say_named(answer, "stack", stack)?;
+            say_named(answer, "file", file)
+        }
+        Asked::Idl { idl } => {
+            say(answer, "tables")?;
+            say_named(answer, "idl", idl)
+        }
+    }
+}

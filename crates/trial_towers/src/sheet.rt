@@ -1,0 +1,109 @@
+//! A tree's sheet of rights and places, whose events are entered one by one.
+
+ghost use Rattle.std.specs.Prelude.{◌≡◌, ◌<◌, IsTrue};
+ghost use Rattle.tower_core.specs.TreeShape.{nodes};
+ghost use Rattle.tower_core.specs.Sheet.{nodes_of, pages_of};
+
+use crate::events::{event_of, is_in_pages, page_shown};
+use crate::halt::{Halt, number};
+use crate::trees::tree_of;
+use hist_plain::{Event, MAX_EVENTS, MAX_PAGES};
+use std::alloc::{AllocError, Global};
+use tower_core::{Right, Sheet, Tree};
+
+/// A tree, and the sheet of its events.
+#[derive(Drop)]
+pub struct Entered {
+    tree: Tree,
+    sheet: Sheet,
+    ghost same_tree: { nodes_of sheet ≡ nodes tree },
+}
+
+/// Appends a node's right and the place of its copy.
+fn put_cell(right: Right, at: u64, answer: &mut String) -> Result<(), AllocError> {
+    match right {
+        Right::Nothing => answer.push('-'),
+        Right::Read => write!(answer, "read@{at}"),
+        Right::Write => write!(answer, "write@{at}"),
+    }
+}
+
+impl Entered {
+    /// The sheet with no event, of a file of so many pages: `PAGES pages, parents PARENT .. frames FRAMES ..`.
+    pub fn new(alloc: Global, words: &[&str]) -> Result<Entered, Halt> {
+        let [pages, "pages,", "parents", rest @ ..] = words else {
+            return Err(Halt::Unread);
+        };
+        let pages = number(pages)?;
+        if pages > MAX_PAGES {
+            return Err(Halt::Impossible);
+        }
+        let tree = tree_of(alloc, rest)?;
+        let sheet = Sheet::new(alloc, &tree, pages)?;
+        Ok(Entered { tree, sheet })
+    }
+
+    /// Enters the event if it is allowed, and tells whether it is.
+    fn enter(&mut self, event: &Event) -> bool {
+        if !is_in_pages(event, self.sheet.pages()) || self.sheet.len() >= MAX_EVENTS {
+            return false;
+        }
+        if !self.sheet.allowed(&self.tree, event) {
+            return false;
+        }
+        self.sheet.take(&self.tree, event);
+        true
+    }
+
+    /// Appends a page's rights and places by node.
+    fn put_page(&self, page: u32, answer: &mut String) -> Result<(), Halt> {
+        if page >= self.sheet.pages() {
+            return Err(Halt::Impossible);
+        }
+        for node in 0..self.tree.nodes() {
+            if node > 0 {
+                answer.push(' ')?;
+            }
+            let (right, at) = (self.sheet.right(node, page), self.sheet.at(node, page));
+            put_cell(right, at, answer)?;
+        }
+        Ok(answer.push('\n')?)
+    }
+
+    /// Appends the life of a node, how many pages it has a right on, and which of them it used longest ago.
+    fn put_node(&self, node: u32, answer: &mut String) -> Result<(), Halt> {
+        if node >= self.tree.nodes() {
+            return Err(Halt::Impossible);
+        }
+        let (life, held) = (self.sheet.life(node), self.sheet.held(node));
+        write!(answer, "life {life}, holds {held}")?;
+        match self.sheet.oldest(node) {
+            Some(page) => writeln!(answer, ", page {page} for the longest time")?,
+            None => answer.push('\n')?,
+        }
+        Ok(())
+    }
+
+    /// Does a step: an event is answered with the rights on its page, or is refused.
+    pub fn step(&mut self, alloc: Global, words: &[&str], answer: &mut String) -> Result<(), Halt> {
+        match words {
+            ["length"] => writeln!(answer, "{} events", self.sheet.len())?,
+            ["newest", page] => {
+                let page = number(page)?;
+                if page >= self.sheet.pages() {
+                    return Err(Halt::Impossible);
+                }
+                writeln!(answer, "place {}", self.sheet.newest(page))?;
+            }
+            ["node", node] => self.put_node(number(node)?, answer)?,
+            _ => {
+                let event = event_of(alloc, words)?;
+                if self.enter(&event) {
+                    return self.put_page(page_shown(&event), answer);
+                }
+                answer.push_str("refused\n")?;
+            }
+        }
+        Ok(())
+    }
+}
