@@ -3,6 +3,7 @@ use Rattle.std.proofs.Common.{◌≡◌, ℕ, List, [], ◌∷◌, ◌++◌, len
 use Rattle.std.specs.Option.{is_none}
 use Rattle.std.proofs.lemmas.List.{set-get_or}
 use Rattle.spr_io.specs.Memory.{Mem, fits_shape}
+use Rattle.spr_io.specs.Content.{all_kept}
 use Rattle.spr_io.specs.MemoryBay.{Slot, is_slot, slot_of, in_slot, is_out, refuses_shape, taken_store, SetsSlot}
 use Rattle.spr_io.proofs.Found.{finds_none}
 use Rattle.spr_io.proofs.Keyed.{key_at, key_passes, names_of, key_sets, key_adds, key_place_added}
@@ -73,5 +74,5 @@ refuses_of slot s store size blocks is has = rw is (with_store s.disk s.file s.s
   with_store : (disk file : List ℕ) (o : Option Mem) (count : ℕ) → o ≡ Some store → refuses_shape size blocks (Some (record { disk = disk; file = file; store = o; count = count })) ≡ not (fits_shape size blocks store)
   with_store disk file o count e = rw e refl
 
-pub lies_there : (slot : Option Slot) (s : Slot) (store : Mem) (size blocks : ℕ) → slot ≡ Some s → s.store ≡ Some store → taken_store size blocks (in_slot slot) ≡ store
+pub lies_there : (slot : Option Slot) (s : Slot) (store : Mem) (size blocks : ℕ) → slot ≡ Some s → s.store ≡ Some store → taken_store size blocks (in_slot slot) ≡ record store { content = all_kept store.content }
 lies_there slot s store size blocks is has = rw (is, has) refl

@@ -1,7 +1,7 @@
 -- What a bay has under a name: a store, a store that was taken, or none.
 use Rattle.std.specs.Prelude.{◌≡◌, ℕ, List, Option, Some, None, Bool, true, false}
 use Rattle.std.specs.Option.{option_map}
-use Rattle.spr_io.specs.Content.{Content, zeros}
+use Rattle.spr_io.specs.Content.{Content, zeros, all_kept}
 
 -- what lies there, if it is told: nothing, or a content; whether its store was taken and not given back;
 -- and the count of faults of its store, as it was when it was taken last or given back last
@@ -10,11 +10,11 @@ pub record Berth : Type 0 where
   pub out : Bool
   pub faults : ℕ
 
--- what a store that is taken holds: what lay there, or zeros if nothing did
+-- what a store that is taken holds: what lay there as it was read, all of it kept, or zeros if nothing lay there
 abbrev pub Opens : ℕ → ℕ → Option (Option Content) → Option Content → Type 0
 Opens size number None content = Unit {0}
 Opens size number (Some None) content = content ≡ Some (zeros size number)
-Opens size number (Some (Some held)) content = content ≡ Some held
+Opens size number (Some (Some held)) content = content ≡ Some (all_kept held)
 
 -- the berth after its store was taken
 abbrev pub taken : Berth → Berth

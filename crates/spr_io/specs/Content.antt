@@ -32,6 +32,14 @@ ReadsBlock content block out = IfSome content (λ c. slice_get c.blocks block �
 abbrev pub written : ℕ → List ℕ → Option Content → Option Content
 written block bytes content = option_map {T = Content} (λ c. record c { blocks = slice_set c.blocks block bytes }) content
 
+-- a content of which every block is kept as it is read
+abbrev pub all_kept : Content → Content
+all_kept c = record c { kept = c.blocks }
+
+-- nothing is pending: every block is kept as it is read, if that is told
+abbrev pub HasNothingPending : Option Content → Type 0
+HasNothingPending content = IfSome content (λ c. c.kept ≡ c.blocks)
+
 -- the content after a flush
 abbrev pub flushed : Option Content → Option Content
 flushed content = option_map {T = Content} (λ c. record c { kept = c.blocks }) content

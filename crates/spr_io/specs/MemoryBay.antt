@@ -3,6 +3,7 @@ use Rattle.std.specs.Prelude.{ℕ, ◌≡◌, List, [], Option, Some, None, Bool
 use Rattle.std.specs.Str.{bytes_eq}
 use Rattle.spr_io.specs.Calls.{Calls, is_next_to_fail}
 use Rattle.spr_io.specs.Berth.{Berth}
+use Rattle.spr_io.specs.Content.{all_kept}
 use Rattle.spr_io.specs.Memory.{Mem, new_store, fits_shape}
 
 -- a place for the store of a disk and a file: it is empty while the store is out; and that store's count of faults
@@ -74,7 +75,7 @@ take_fails bay disk file size blocks = is_next_to_fail bay.takes || refuses_shap
 abbrev pub give_fails : Bay → List ℕ → List ℕ → Bool
 give_fails bay disk file = is_next_to_fail bay.gives || not (is_out (slot_of bay.slots disk file))
 
--- the store that a take gives: the one that lies there, or zeros
+-- the store that a take gives: the one that lies there, with all that it reads kept, or zeros
 abbrev pub taken_store : ℕ → ℕ → Option Mem → Mem
 taken_store size blocks None = new_store size blocks [] [] []
-taken_store size blocks (Some store) = store
+taken_store size blocks (Some store) = record store { content = all_kept store.content }

@@ -24,6 +24,3 @@ pub use memory_texts::{MemShelf, MemSink};
 pub use outside::{Bay, BayErr, Failed, Gate, OpenGate, Shelf, ShelfErr, Sink, Store};
 pub use ram_file::RamFile;
 pub use raw::RawFile;
-
-#[cfg(test)]
-mod tests;

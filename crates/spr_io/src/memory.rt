@@ -3,7 +3,7 @@
 ghost use Rattle.std.specs.Prelude.{◌≡◌, ◌<◌, IsTrue, IfOk, OnOk, OnErr, IsErr, is_err, length, slice_get, Some};
 ghost use Rattle.spr_io.specs.Causes.{Counts};
 ghost use Rattle.spr_io.specs.Calls.{fails, one_more, count_after};
-ghost use Rattle.spr_io.specs.Content.{HasShape, KeepsShape};
+ghost use Rattle.spr_io.specs.Content.{HasShape, KeepsShape, all_kept};
 ghost use Rattle.spr_io.specs.Memory.{new_store, after_read, after_write, after_flush, fits_shape};
 
 use crate::blocks::Blocks;
@@ -79,6 +79,13 @@ impl MemStore {
     {
         self.held.kept(block)
     }
+
+    /// Keeps every block as it is read; this is no call of the store, so it cannot fail and is not counted.
+    pub(crate) fn settle(&mut self)
+        ensures { self.new ≡ record self.old { content = all_kept self.old.content } }
+    {
+        self.held.flush();
+    }
 }
 
 /// Whether a call fails, which is then counted.
@@ -149,7 +156,7 @@ impl Store for MemStore {
         if refuses(&mut self.flushes, &mut self.count) {
             return Err(Failed);
         }
-        self.held.flush();
+        self.settle();
         Ok(())
     }
 

@@ -4,7 +4,7 @@ ghost use Rattle.std.specs.Prelude.{◌≡◌, ◌≢◌, ◌↔◌, ◌∷◌, 
 ghost use Rattle.std.specs.Option.{option_copied};
 ghost use Rattle.spr_io.specs.Causes.{HasCause};
 ghost use Rattle.spr_io.specs.Calls.{is_next_to_fail, one_more, no_calls, one_fault};
-ghost use Rattle.spr_io.specs.Content.{HasShape, KeepsShape};
+ghost use Rattle.spr_io.specs.Content.{HasShape, KeepsShape, HasNothingPending};
 ghost use Rattle.spr_io.specs.Berth.{Opens, taken, given, lost, SameElsewhere, SameBerths};
 ghost use Rattle.spr_io.specs.Memory.{fits_shape};
 ghost use Rattle.spr_io.specs.MemoryBay.{is_slot, slot_of, stored, in_slot, berth_of, SetsSlot, is_out, refuses_shape, take_fails, give_fails, taken_store};
@@ -188,7 +188,10 @@ fn take(
         Some(at) => {
             let slot = &mut slots[at];
             match slot.take(size, blocks) {
-                Some(store) => Ok(store),
+                Some(mut store) => {
+                    store.settle();
+                    Ok(store)
+                }
                 None => Err(BayErr::Failed),
             }
         }
@@ -287,6 +290,7 @@ impl Bay for MemBay {
         ensures faults { self.new.faults ≡ (if take_fails self.old disk.now file.now size blocks then one_fault self.old.faults else self.old.faults) }
         ensures shape { IfOk result (λ store. KeepsShape size blocks store.size (length store.content.blocks) (Some store.content)) }
         ensures content { IfOk result (λ store. Opens size blocks (berth_of self.old disk.now file.now).holds (Some store.content)) }
+        ensures settled { IfOk result (λ store. HasNothingPending (Some store.content)) }
         ensures count { IfOk result (λ store. store.count ≡ (berth_of self.old disk.now file.now).faults) }
         ensures was_in { OnOk result ((berth_of self.old disk.now file.now).out ≡ false) }
         ensures taken { OnOk result (berth_of self.new disk.now file.now ≡ taken (berth_of self.old disk.now file.now)) }

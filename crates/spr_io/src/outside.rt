@@ -4,7 +4,7 @@
 
 ghost use Rattle.std.specs.Prelude.{◌≡◌, ◌<◌, ◌≤◌, ℕ, List, Option, IfOk, OnOk, OnErr, IsErr, length, take, true, false};
 ghost use Rattle.spr_io.specs.Causes.{Rose, HasCause, Counts};
-ghost use Rattle.spr_io.specs.Content.{Content, ReadsBlock, IsShaped, KeepsShape, written, flushed};
+ghost use Rattle.spr_io.specs.Content.{Content, ReadsBlock, IsShaped, KeepsShape, HasNothingPending, written, flushed};
 ghost use Rattle.spr_io.specs.Berth.{Berth, Berths, BaySeen, Opens, taken, given, lost, SameElsewhere, SameBerths};
 ghost use Rattle.spr_io.specs.Texts.{ShelfSeen, SinkSeen, Appends, after_write};
 
@@ -125,6 +125,7 @@ pub trait Bay {
 
     /// Takes the store of a disk and a file, of `size` bytes a block; one that is not there starts as zeros.
     ///
+    /// What the store reads is kept: nothing that was written before it was taken waits for a flush.
     /// A store of another shape is a fault, and so is one that is out. After an error the bay is as before but
     /// for its count.
     fn take(
@@ -136,6 +137,7 @@ pub trait Bay {
     ) -> Result<Self::Store, BayErr>
         ensures shape { IfOk result (λ store. KeepsShape size blocks (Self.Store.size store) (Self.Store.number store) (Self.Store.content store)) }
         ensures content { IfOk result (λ store. Opens size blocks ((told self.old).berths disk.now file.now).holds (Self.Store.content store)) }
+        ensures settled { IfOk result (λ store. HasNothingPending (Self.Store.content store)) }
         ensures count { IfOk result (λ store. Self.Store.faults store ≡ ((told self.old).berths disk.now file.now).faults) }
         ensures was_in { OnOk result (((told self.old).berths disk.now file.now).out ≡ false) }
         ensures taken { OnOk result ((told self.new).berths disk.now file.now ≡ taken ((told self.old).berths disk.now file.now)) }

@@ -14,12 +14,12 @@ pub returns-in-Some-take-clause-store : goal.returns-in-Some-take-clause-store
 returns-in-Some-take-clause-store c =
     let at : position (is_slot c.args.disk.now c.args.file.now) c.args.slots.now.items ≡ Some c.in-Some.at = rw c.deref.ensures.value at (sym c.in-Some.ensures) in
     let slot = slot_at c.args.disk.now c.args.file.now c.args.slots.now.items c.in-Some.at c.index_mut-slot.result.now at c.index_mut-slot.ensures.value in
-    sym (lies_there (slot_of c.args.slots.now.items c.args.disk.now c.args.file.now) c.index_mut-slot.result.now c.in-Some-take.store c.args.size c.args.blocks slot c.in-Some-take.ensures.some.0)
+    rw c.settle.ensures (sym (lies_there (slot_of c.args.slots.now.items c.args.disk.now c.args.file.now) c.index_mut-slot.result.now c.in-Some-take.store c.args.size c.args.blocks slot c.in-Some-take.ensures.some.0))
 
 pub returns-in-Some-take-clause-slots : goal.returns-in-Some-take-clause-slots
 returns-in-Some-take-clause-slots c =
     let at : position (is_slot c.args.disk.now c.args.file.now) c.args.slots.now.items ≡ Some c.in-Some.at = rw c.deref.ensures.value at (sym c.in-Some.ensures) in
-    rw c.in-Some-take.ensures.some.2 (sets c.args.disk.now c.args.file.now c.args.slots.now.items c.in-Some.at c.index_mut-slot.result.now None c.in-Some-take.store.count at c.index_mut-slot.ensures.value)
+    rw (c.settle.ensures, c.in-Some-take.ensures.some.2) (sets c.args.disk.now c.args.file.now c.args.slots.now.items c.in-Some.at c.index_mut-slot.result.now None c.in-Some-take.store.count at c.index_mut-slot.ensures.value)
 
 pub returns-in-None-take-clause-failed : goal.returns-in-None-take-clause-failed
 returns-in-None-take-clause-failed c failed =
