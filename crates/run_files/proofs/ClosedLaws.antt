@@ -1,13 +1,11 @@
--- A file whose closing sync is done: nothing changed it behind the place that the sync is from, so its disk keeps the file as it is now.
-use Rattle.std.proofs.Common.{◌≡◌, ℕ, ◌≤◌, Bool, true, false, List, [], ◌∷◌, ◌++◌, length, Option, Some, None, IfSome, refl, sym, ap, subst, ◌∙◌, arith, append_assoc}
+-- A file whose closing sync is done: nothing changed it behind the place that the sync is from, so pages from there on are those that it has now.
+use Rattle.std.proofs.Common.{◌≡◌, ℕ, ◌≤◌, Bool, true, false, List, [], ◌∷◌, ◌++◌, length, Option, Some, None, refl, sym, ap, subst, ◌∙◌, arith, append_assoc}
+use Rattle.std.specs.Prelude.{max, unwrap_or}
 use Rattle.std.specs.List.{AllByRecursion}
 use Rattle.hist_plain.specs.declared.event.Event.{Event}
 use Rattle.hist_plain.specs.declared.event.Event.TheVariants.{Synced}
 use Rattle.hist_plain.specs.Event.{caller_of}
 use Rattle.hist_lock.specs.Ranges.{Each, Quiet, in_range, may_add}
-use Rattle.disk_format.specs.Image.{Imaged}
-use Rattle.disk_layer.specs.Seen.{pages_in}
-use Rattle.disk_layer.specs.Seen.{kept_in as kept_on}
 use Rattle.tower_core.specs.Legal.{file_after}
 use Rattle.tower_core.specs.TreeShape.{TreeShape}
 use Rattle.tower_log.specs.declared.logged.Logged.{Logged}
@@ -17,7 +15,7 @@ use Rattle.tower_log.proofs.LogLaws.{trail_of-append}
 use Rattle.tower_shows.specs.Began.{ArePagesOf}
 use Rattle.tower_shows.specs.Since.{AreSince, IsSince}
 use Rattle.stack_engine.specs.Engine.{events_in, file_in, log_in, tree_in}
-use Rattle.stack_engine.specs.Opened.{KeepsSince, last_from}
+use Rattle.stack_engine.specs.Opened.{last_from}
 use Rattle.stack_engine.specs.Tower.{TowerSeen}
 use Rattle.stack_engine.proofs.Logs.{last_from-entered}
 use Rattle.spr_volume.specs.TowerShared.{by}
@@ -64,22 +62,13 @@ since-more tree size opening trail least from ps le since = λ page bytes is.
     let low = at.not_before in
     record { place = at.place; not_before = omega (arith, le, low); not_after = at.not_after; is = at.is }
 
--- what was kept since a place is, where nothing changed the file behind it, the file as it is now
-kept-now : (tree : TreeShape) (size : ℕ) (opening : List ℕ) (events trail more : List Event) (from : ℕ) (kept : Option (Option Imaged)) → events ≡ trail ++ more → AllByRecursion IsIdle more → length trail ≤ from
-    → KeepsSince tree size opening events from kept
-    → IfSome (pages_in kept) (λ pages. (ps : List (List ℕ)) × (pages ≡ Some ps) × ArePagesOf size (length ps) (file_after tree size opening events).bytes ps)
-kept-now tree size opening events trail more from kept is idle le since = by_pages (pages_in kept) since
-  where
-    now : (ps : List (List ℕ)) → AreSince tree size opening events from ps → ArePagesOf size (length ps) (file_after tree size opening events).bytes ps
-    now ps are =
-        subst (λ (es : List Event). ArePagesOf size (length ps) (file_after tree size opening es).bytes ps) (sym is)
-        (pages_end tree size opening trail more idle (length ps) ps refl
-        (subst (λ (es : List Event). AreSince tree size opening es (length trail) ps) is (since-more tree size opening events (length trail) from ps le are)))
-
-    by_pages : (o : Option (Option (List (List ℕ)))) → IfSome o (λ pages. (ps : List (List ℕ)) × (pages ≡ Some ps) × AreSince tree size opening events from ps)
-        → IfSome o (λ pages. (ps : List (List ℕ)) × (pages ≡ Some ps) × ArePagesOf size (length ps) (file_after tree size opening events).bytes ps)
-    by_pages None h = tt
-    by_pages (Some pages) h = (h.0, h.1, now h.0 h.2)
+-- pages since a place are, where nothing changed the file behind it, those that it has now
+pages-now : (tree : TreeShape) (size : ℕ) (opening : List ℕ) (events trail more : List Event) (from : ℕ) (ps : List (List ℕ)) → events ≡ trail ++ more → AllByRecursion IsIdle more → length trail ≤ from
+    → AreSince tree size opening events from ps → ArePagesOf size (length ps) (file_after tree size opening events).bytes ps
+pages-now tree size opening events trail more from ps is idle le are =
+    subst (λ (es : List Event). ArePagesOf size (length ps) (file_after tree size opening es).bytes ps) (sym is)
+    (pages_end tree size opening trail more idle (length ps) ps refl
+    (subst (λ (es : List Event). AreSince tree size opening es (length trail) ps) is (since-more tree size opening events (length trail) from ps le are)))
 
 -- a file that a caller's sync ended, of whose callers nobody did anything behind the place that the sync is from
 pub closed-now : (end closer : ℕ) (t : TowerSeen) → EndsQuietly 0 end closer (log_in t.engine) → Each (λ x. may_add 0 end (by x)) (log_in t.engine) → IsClosed closer t
@@ -95,10 +84,14 @@ closed-now end closer t q made =
     (last-part (MayBe end) (trail_of q.start) more (subst (λ (es : List Event). AllByRecursion (MayBe end) es) events_are (events-may end (log_in e) made))) in
     let idle : AllByRecursion IsIdle more =
     all-append IsIdle (trail_of rest) last (all_idle (trail_of rest) (quiet-events end rest q.quietly.quiet may)) ((λ shape file. refl), tt) in
-    let from : last_from (events_in e) ≡ Some q.from = ap last_from q.is ∙ last_from-entered (trail_of q.before) (Synced closer q.number q.node q.from q.keep) in
+    let latest : ℕ = max (unwrap_or (last_from (trail_of q.before)) 0) q.from in
+    let last_is : last_from (events_in e) ≡ Some latest = ap last_from q.is ∙ last_from-entered (trail_of q.before) (Synced closer q.number q.node q.from q.keep) in
     record {
       ends = record { before = trail_of q.before; number = q.number; node = q.node; from = q.from; keep = q.keep; is = q.is };
-      now = λ opening disk of live.
-          kept-now (tree_in e) (file_in e).page_size opening (events_in e) (trail_of q.start) more q.from (kept_on e.ground.disks disk) events_are idle q.from_is
-          ((of.synced q.from from).disks disk live);
+      whole = record {
+        from = latest;
+        last = last_is;
+        now = λ opening ps since.
+            let low = q.from_is in pages-now (tree_in e) (file_in e).page_size opening (events_in e) (trail_of q.start) more latest ps events_are idle (omega (arith, low)) since;
+      };
     }

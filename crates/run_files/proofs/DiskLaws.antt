@@ -11,7 +11,7 @@ use Rattle.disk_format.specs.declared.shape.ImageShape.{ImageShape}
 use Rattle.disk_format.specs.Shape.{blocks_of}
 use Rattle.disk_format.specs.Image.{Imaged, image, pages_of as pages_in_blocks}
 use Rattle.disk_format.proofs.MapLaws.{sizes-all}
-use Rattle.disk_layer.specs.Disk.{Disk, kept_on, pages_on}
+use Rattle.disk_layer.specs.Disk.{Disk, HasImage, kept_on, pages_on}
 use Rattle.disk_layer.specs.Seen.{live_in, numbers_in, opened_in, faults_in, pages_in as told_in}
 use Rattle.disk_layer.specs.Seen.{kept_in as kept_by}
 use Rattle.disk_layer.specs.Calls as disks
@@ -24,9 +24,9 @@ use Rattle.file_stores.specs.State.{StoreState}
 use Rattle.file_stores.specs.Held.{StoreSeen, IsFit}
 use Rattle.file_stores.specs.Opening.{under}
 use Rattle.file_stores.specs.WholeDisk.{seen_whole}
-use Rattle.run_files.specs.Play.{KeepsNow}
-use Rattle.run_files.specs.Run.{pages_in, IsKept, IsTold, Leaves}
-use Rattle.run_files.proofs.EngineLaws.{EngineRun, along-of, calm-of, disks-later, kept-of, rises-of, same-number, same-size, still-told}
+use Rattle.run_files.specs.Play.{IsWhole}
+use Rattle.run_files.specs.Run.{pages_in, Holds, IsAll, IsFrom, IsKept, IsTold, Leaves, StandFor, synced_from}
+use Rattle.run_files.proofs.EngineLaws.{EngineRun, all-of, along-of, calm-of, disks-later, kept-of, rises-of, same-number, same-size, shows-last, shows-of, still-told}
 use Rattle.run_files.proofs.PageLaws.{ArePaged, image-paged, joined-are, length-of}
 use Rattle.file_stores.proofs.WholeLaws.{kept-under, faults-under, opened-under, is-live}
 use Rattle.run_files.proofs.WholeLaws.{on-disk, same-number-under}
@@ -49,7 +49,7 @@ content-of d told is = by d.content is
 
 -- the disk and the engine of a file, from its opening to its end
 module _ (mount : Mount) (s : StoreSeen) (d0 d1 : Disk) (e0 e1 : EngineSeen) (closing : List Reply) (over : disks.Opened (under mount s) d0) (run : EngineRun mount s.key.file (seen_whole d0) (seen_whole d1) e0 e1)
-    (whole : slice_get closing s.key.file ≡ Some Done → KeepsNow e1) where
+    (whole : slice_get closing s.key.file ≡ Some Done → IsWhole e1) (has : HasImage d1) where
   abbrev shape : ImageShape
   shape = image_shape mount s.key
 
@@ -80,6 +80,27 @@ module _ (mount : Mount) (s : StoreSeen) (d0 d1 : Disk) (e0 e1 : EngineSeen) (cl
       (ap told_in (kept-under d0 d0.disk refl ∙ kept-told d0 shape old over.shape before))
       (kept-under d1 d0.disk same-disk ∙ kept-told d1 shape new same-shape after) whole
 
+  -- what it reads as is an image of the pages that it shows
+  stands : (P : List (List ℕ) → Type 0) (new : Content) → d1.content ≡ Some new → IfSome (pages_on d1) P → StandFor shape P new.blocks
+  stands P new after shown =
+      let found : Imaged = record { generation = d1.generation; pages = pages_in_blocks d1.shape.page_size new.blocks d1.entries } in
+      let here : image d1.shape new.blocks ≡ Some found =
+      subst (λ (o : Option Content). IfSome o (λ k. image d1.shape k.blocks ≡ Some (let x : Imaged = record { generation = d1.generation; pages = pages_in_blocks d1.shape.page_size k.blocks d1.entries } in x))) after has in (
+        found,
+        ap (λ (v : ImageShape). image v new.blocks) (sym same-shape) ∙ here,
+        subst (λ (o : Option Content). IfSome (option_map {T = Content} (λ k. pages_in_blocks d1.shape.page_size k.blocks d1.entries) o) P) after shown,
+      )
+
+  reads : (opening : List ℕ) (new : Content) → IsOf opening e0 → d1.content ≡ Some new → IsFrom mount s.key opening (log_in e1) (synced_from (log_in e1)) new.blocks
+  reads opening new of after =
+      stands (Holds mount opening (log_in e1) (synced_from (log_in e1))) new after (shows-last mount s.key.file (seen_whole d0) (seen_whole d1) e0 e1 run opening of)
+
+  reads-all : (opening : List ℕ) (new : Content) → IsOf opening e0 → d1.content ≡ Some new → slice_get closing s.key.file ≡ Some Done → IsAll mount s.key opening (log_in e1) new.blocks
+  reads-all opening new of after done =
+      let w = whole done in
+      all-of mount s.key.file (seen_whole d0) (seen_whole d1) e0 e1 run w s.key opening new.blocks
+      (stands (Holds mount opening (log_in e1) w.from) new after (shows-of mount s.key.file (seen_whole d0) (seen_whole d1) e0 e1 run opening w.from of w.last))
+
   -- the store of a disk that told its content
   told : (content : Option Content) → d0.content ≡ content → IsShaped mount.page_size (blocks_of shape) content → IfSome content (λ c. IsTold mount closing (log_in e1) s.key c d1.content)
   told None is fits = tt
@@ -102,6 +123,8 @@ module _ (mount : Mount) (s : StoreSeen) (d0 d1 : Disk) (e0 e1 : EngineSeen) (cl
         new = last.0;
         still = last.1;
         kept = kept opening c last.0 of is last.1;
+        reads = reads opening last.0 of last.1;
+        reads_all = reads-all opening last.0 of last.1;
       }
 
   pub leaves-of : (n : StoreState) → n.content ≡ d1.content → n.faults ≡ d1.faults → IsFit mount s → Leaves mount closing (log_in e1) s.key s.state n

@@ -1,6 +1,6 @@
 -- What the engine of a file left of the file, and of the disks under it.
 use Rattle.std.proofs.Common.{◌≡◌, ◌⊎◌, inl, inr, ⊎_elim, ℕ, ◌*◌, ◌<◌, ◌≤◌, List, [], ◌∷◌, ◌++◌, length, Option, Some, None, IfSome, IsSome, refl, sym, ap, subst, ◌∙◌, arith}
-use Rattle.std.specs.Prelude.{Contains, slice_get}
+use Rattle.std.specs.Prelude.{Contains, slice_get, unwrap_or}
 use Rattle.std.specs.List.{AllByRecursion}
 use Rattle.std.specs.Option.{option_map}
 use Rattle.script_text.specs.declared.script.Reply.{Reply}
@@ -11,7 +11,7 @@ use Rattle.disk_format.specs.Image.{Imaged, image}
 use Rattle.disk_layer.specs.Seen.{AreBehind, Seen, held_in, faults_in, live_in, opened_in, pages_in as told_in}
 use Rattle.disk_layer.specs.Seen.{kept_in as kept_by}
 use Rattle.tower_core.specs.Legal.{FitsFile, IsLegal, file_after}
-use Rattle.tower_core.specs.Trail.{IsRun, start}
+use Rattle.tower_core.specs.Trail.{IsRun, start, state_of}
 use Rattle.tower_core.specs.TreeShape.{TreeShape}
 use Rattle.page_messages.specs.declared.paged.PagedFile.{PagedFile}
 use Rattle.tower_log.specs.declared.logged.Logged.{Logged}
@@ -24,14 +24,15 @@ use Rattle.tower_shows.proofs.Stays.{told_stays}
 use Rattle.stack_engine.specs.Engine.{EngineSeen, IsSound, events_in, file_in, log_in, sides_in, tree_in}
 use Rattle.stack_engine.specs.Opened.{AreAnswers, IsOf, KeepsSince, last_from}
 use Rattle.stack_engine.specs.Start as engines
-use Rattle.spr_volume.specs.Later.{AreLater, IsLater, IsNoteOf, IsOnDisk, KeepsFirst, TurnsFirst}
+use Rattle.spr_volume.specs.Later.{AreAnswered, AreLater, IsLater, IsNoteOf, IsOnDisk, KeepsFirst, TurnsFirst}
 use Rattle.run_defs.specs.declared.store.StoreKey.{StoreKey}
 use Rattle.run_defs.specs.Stack.{pages_of}
 use Rattle.file_stores.specs.Keys.{image_shape}
 use Rattle.file_stores.proofs.Lists.{some-is}
 use Rattle.run_files.specs.Held.{paged}
-use Rattle.run_files.specs.Play.{KeepsNow}
-use Rattle.run_files.specs.Run.{IsOfDisks, IsOfFile, StandFor, pages_in, IsAlong, Holds, HoldsAll, IsKept}
+use Rattle.run_files.specs.Play.{IsWhole}
+use Rattle.run_files.specs.Run.{IsOfDisks, IsOfFile, StandFor, pages_in, IsAlong, Holds, HoldsAll, IsAll, IsFrom, IsKept, synced_from}
+use Rattle.run_files.proofs.AnswerLaws.{answers-but-bytes}
 use Rattle.run_files.proofs.PageLaws.{image-many}
 
 -- the file that these pages began, if what lies under it tells them
@@ -93,6 +94,11 @@ module _ (mount : Mount) (file : ℕ) (before after : Seen) (e0 e1 : EngineSeen)
       ap (λ (g : Seen). faults_in g.disks disk) run.ground
       ∙ (run.later.calm disk (subst (IsOnDisk disk) (sym run.opens.ground_is) on) (ap (λ (l : List Logged). counts_of disk l) log-is ∙ quiet) ∙ ap (λ (g : Seen). faults_in g.disks disk) run.opens.ground_is)
 
+  answered-is : AreAnswered mount.tree start (log_in e1)
+  answered-is = subst (λ (l : List Logged). AreAnswered mount.tree start l) log-is
+      (subst (λ (t : TreeShape). AreAnswered t start run.later.more) run.opens.tree_is
+      (subst (λ (l : List Logged). AreAnswered (tree_in e0) (state_of (tree_in e0) (trail_of l)) run.later.more) run.opens.no_log run.later.answered))
+
   -- its log is the file's
   pub of-file : (disks : ℕ) → disks ≡ length mount.disks → ((disk : ℕ) → Contains (live_in before.disks) disk → disk < disks) → IsOfFile mount file (log_in e1)
   of-file disks same few = record {
@@ -100,6 +106,7 @@ module _ (mount : Mount) (file : ℕ) (before after : Seen) (e0 e1 : EngineSeen)
     fits = at-mount (λ t f. AllByRecursion (FitsFile f.page_size f.pages) (events_in e1)) run.sound.true_to.fits;
     few = run.sound.few;
     notes = subst (λ n. AllByRecursion (IsOfDisks n) (log_in e1)) same (notes-of (log_in e1) disks-later.notes);
+    answers = λ opening. answers-but-bytes mount.tree mount.page_size (pages_of mount file) opening (log_in e1) (at-mount (λ t f. IsRun t f.pages start (events_in e1)) run.sound.true_to.run) answered-is;
   }
     where
       notes-of : (log : List Logged) → AllByRecursion (IsNoteOf (live_in before.disks)) log → AllByRecursion (IsOfDisks disks) log
@@ -133,6 +140,44 @@ module _ (mount : Mount) (file : ℕ) (before after : Seen) (e0 e1 : EngineSeen)
       (at-mount (λ t f. IfSome e1.ground.pages (AreSince t f.page_size opening (events_in e1) from))
       (told_stays (tree_in e1) (file_in e1).page_size (file_in e1).pages opening (events_in e1) (sides_in e1) e1.ground.pages from run.sound.true_to now.began (now.synced from last).ground))
 
+  -- before any sync they are those of the file at some place
+  pub shows-first : (opening : List ℕ) → IsOf opening e0 → IfSome after.pages (Holds mount opening (log_in e1) 0)
+  shows-first opening of =
+      let now : IsOf opening e1 = run.later.of opening of in
+      subst (λ (g : Seen). IfSome g.pages (Holds mount opening (log_in e1) 0)) (sym run.ground)
+      (at-mount (λ t f. IfSome e1.ground.pages (AreSince t f.page_size opening (events_in e1) 0))
+      (told_stays (tree_in e1) (file_in e1).page_size (file_in e1).pages opening (events_in e1) (sides_in e1) e1.ground.pages 0 run.sound.true_to now.began
+      (λ page place inside low high. record { place = place; not_before = omega arith; not_after = high; is = refl })))
+
+  -- so they are from the last completed sync on, if there was one
+  pub shows-last : (opening : List ℕ) → IsOf opening e0 → IfSome after.pages (Holds mount opening (log_in e1) (synced_from (log_in e1)))
+  shows-last opening of = by (last_from (events_in e1)) refl
+    where
+      by : (o : Option ℕ) → last_from (events_in e1) ≡ o → IfSome after.pages (Holds mount opening (log_in e1) (unwrap_or o 0))
+      by None is = shows-first opening of
+      by (Some from) is = shows-of opening from of is
+
+  -- where nothing changed the file behind a sync, pages from there on are those that it has now
+  now-of : (w : IsWhole e1) (opening : List ℕ) (ps : List (List ℕ)) → Holds mount opening (log_in e1) w.from ps → ArePagesOf mount.page_size (length ps) (file_after mount.tree mount.page_size opening (events_in e1)).bytes ps
+  now-of w opening ps =
+      at-mount (λ t f. AreSince t f.page_size opening (events_in e1) w.from ps → ArePagesOf f.page_size (length ps) (file_after t f.page_size opening (events_in e1)).bytes ps) (w.now opening ps)
+
+  -- and an image of it from there on is one of the whole file
+  pub all-of : (w : IsWhole e1) (key : StoreKey) (opening : List ℕ) (blocks : List (List ℕ)) → IsFrom mount key opening (log_in e1) w.from blocks → IsAll mount key opening (log_in e1) blocks
+  all-of w key opening blocks (found, is, since) =
+      (found, is, subst (λ n. ArePagesOf mount.page_size n (file_after mount.tree mount.page_size opening (events_in e1)).bytes found.pages) (image-many (image_shape mount key) blocks found is) (now-of w opening found.pages since))
+
+  -- the pages of the ground are then those of the whole file
+  pub shows-all : (w : IsWhole e1) (opening : List ℕ) → IsOf opening e0 → IfSome after.pages (HoldsAll mount file opening (log_in e1))
+  shows-all w opening of =
+      let now : IsOf opening e1 = run.later.of opening of in
+      let many : IfSome e1.ground.pages (λ ps. length ps ≡ pages_of mount file) = at-mount (λ t f. IfSome e1.ground.pages (λ ps. length ps ≡ f.pages)) now.began.many in
+      by after.pages (subst (λ (g : Seen). IfSome g.pages (λ ps. length ps ≡ pages_of mount file)) (sym run.ground) many) (shows-of opening w.from of w.last)
+    where
+      by : (o : Option (List (List ℕ))) → IfSome o (λ ps. length ps ≡ pages_of mount file) → IfSome o (Holds mount opening (log_in e1) w.from) → IfSome o (HoldsAll mount file opening (log_in e1))
+      by None many since = tt
+      by (Some ps) many since = subst (λ n. ArePagesOf mount.page_size n (file_after mount.tree mount.page_size opening (events_in e1)).bytes ps) many (now-of w opening ps since)
+
   -- and what has other pages is behind
   pub reached-of : (opening : List ℕ) (from : ℕ) → IsOf opening e0 → last_from (events_in e1) ≡ Some from → from ≤ length (events_in e1)
   reached-of opening from of last = ((run.later.of opening of).synced from last).reached
@@ -159,7 +204,7 @@ module _ (mount : Mount) (file : ℕ) (before after : Seen) (e0 e1 : EngineSeen)
 
   -- what a live disk keeps of a file that began with these bytes
   pub kept-of : (key : StoreKey) (closing : List Reply) (opening : List ℕ) (disk : ℕ) (first : Option (List (List ℕ))) (kept : List (List ℕ)) → key.file ≡ file → IsOf opening e0 → Contains (live_in after.disks) disk
-      → told_in (kept_by before.disks disk) ≡ Some first → kept_by after.disks disk ≡ Some (image (image_shape mount key) kept) → (slice_get closing key.file ≡ Some Done → KeepsNow e1)
+      → told_in (kept_by before.disks disk) ≡ Some first → kept_by after.disks disk ≡ Some (image (image_shape mount key) kept) → (slice_get closing key.file ≡ Some Done → IsWhole e1)
       → IsKept mount closing (log_in e1) key opening first kept
   kept-of key closing opening disk first kept own of live was is whole =
       let shape : ImageShape = image_shape mount key in
@@ -180,12 +225,7 @@ module _ (mount : Mount) (file : ℕ) (before after : Seen) (e0 e1 : EngineSeen)
             (λ (told : KeepsSince (tree_in e1) (file_in e1).page_size opening (events_in e1) 0 (kept_by e1.ground.disks disk)). inr (since 0 told))
             (from_start none);
         synced = λ from last. since from ((now.synced from last).disks disk live1);
-        whole = λ done.
-            all-held key opening (log_in e1) kept
-            (stands shape kept (λ ps. ArePagesOf mount.page_size (length ps) (file_after mount.tree mount.page_size opening (events_in e1)).bytes ps) (kept_by e1.ground.disks disk) kept1
-            (at-mount
-            (λ t f. IfSome (told_in (kept_by e1.ground.disks disk)) (λ pages. (ps : List (List ℕ)) × (pages ≡ Some ps) × ArePagesOf f.page_size (length ps) (file_after t f.page_size opening (events_in e1)).bytes ps))
-            (whole done opening disk now live1)));
+        whole = λ done. let w = whole done in all-of w key opening kept (since w.from ((now.synced w.from w.last).disks disk live1));
       }
     where
       -- what is told of what a disk kept, said of the blocks
@@ -197,10 +237,3 @@ module _ (mount : Mount) (file : ℕ) (before after : Seen) (e0 e1 : EngineSeen)
           by : (o : Option Imaged) → image shape blocks ≡ o → (ps : List (List ℕ)) × (option_map {T = Imaged} (λ v. v.pages) o ≡ Some ps) × P ps → StandFor shape P blocks
           by None e (ps, same, p) = absurd cc
           by (Some found) e (ps, same, p) = (found, e, subst P (sym (some-is found.pages ps same)) p)
-
-      -- pages of the file as it is now, in an image, are all of its pages
-      all-held : (key : StoreKey) (opening : List ℕ) (log : List Logged) (blocks : List (List ℕ))
-          → StandFor (image_shape mount key) (λ ps. ArePagesOf mount.page_size (length ps) (file_after mount.tree mount.page_size opening (trail_of log)).bytes ps) blocks
-          → StandFor (image_shape mount key) (HoldsAll mount key.file opening log) blocks
-      all-held key opening log blocks (found, is, are) =
-          (found, is, subst (λ n. ArePagesOf mount.page_size n (file_after mount.tree mount.page_size opening (trail_of log)).bytes found.pages) (image-many (image_shape mount key) blocks found is) are)

@@ -8,9 +8,10 @@ pub mod MirrorLaws
 pub mod TurnLaws
 pub mod EndedLaws
 pub mod TowerLaws
+pub mod AnswerLaws
 pub mod ClosedLaws
 pub mod HeldLaws
 pub mod PlayLaws
 pub mod StopLaws
 pub mod RunLaws
-pub mod TestLaws
+pub mod HeadlineLaws

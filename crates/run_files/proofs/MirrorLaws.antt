@@ -1,5 +1,5 @@
 -- What became of the stores of a file on disks in mirrors.
-use Rattle.std.proofs.Common.{◌≡◌, ◌⊎◌, inl, inr, ℕ, zero, suc, ◌*◌, ◌<◌, ◌≤◌, Bool, true, false, ◌&&◌, List, [], ◌∷◌, length, map, Option, Some, None, IfSome, refl, sym, ap, subst, ◌∙◌, arith}
+use Rattle.std.proofs.Common.{◌≡◌, ◌⊎◌, inl, inr, ℕ, zero, suc, ◌+◌, ◌*◌, ◌<◌, ◌≤◌, Bool, true, false, ◌&&◌, List, [], ◌∷◌, length, map, Option, Some, None, IfSome, refl, sym, ap, subst, ◌∙◌, arith}
 use Rattle.std.specs.Prelude.{Contains, is_some, slice_get, unwrap_or, IsSome}
 use Rattle.std.specs.List.Sorted.{IsPermutation}
 use Rattle.std.specs.List.{concat}
@@ -27,7 +27,7 @@ use Rattle.tower_log.specs.declared.logged.Logged.{Logged}
 use Rattle.tower_log.specs.Notes.{Rises, counts_of}
 use Rattle.stack_engine.specs.Engine.{EngineSeen, log_in}
 use Rattle.stack_engine.specs.Opened.{IsOf}
-use Rattle.spr_volume.specs.Later.{AreLater}
+use Rattle.spr_volume.specs.Later.{AreLater, notes_in}
 use Rattle.run_defs.specs.declared.store.StoreKey.{StoreKey}
 use Rattle.run_defs.specs.Stack.{pages_of}
 use Rattle.file_stores.specs.Keys.{EachAt, image_shape}
@@ -44,9 +44,9 @@ use Rattle.file_stores.proofs.GroundLists.{get-within}
 use Rattle.file_stores.proofs.StoreLaws.{AllLast}
 use Rattle.file_stores.proofs.SpotLaws.{After, Before, after-at, before-at, live-few, live-some, numbers-seen}
 use Rattle.file_stores.proofs.UnderLaws.{counts-under}
-use Rattle.run_files.specs.Play.{KeepsNow}
+use Rattle.run_files.specs.Play.{IsWhole}
 use Rattle.run_files.specs.Run.{AreTold, LeavesMirrors, Store, live_of, versions}
-use Rattle.run_files.proofs.EngineLaws.{EngineRun, along-of, behind-of, kept-of, reached-of, rises-of, same-number, same-size, shows-of, turned-of}
+use Rattle.run_files.proofs.EngineLaws.{EngineRun, along-of, behind-of, kept-of, reached-of, rises-of, same-number, same-size, shows-all, shows-of, turned-of}
 use Rattle.run_files.proofs.PromiseLaws.{TellsAt, guards-closed, guards-held, held-on}
 use Rattle.run_files.proofs.GivenLaws.{given-paged, lies-told, row-tree}
 use Rattle.run_files.proofs.PageLaws.{ArePaged, joined-are, length-of}
@@ -136,6 +136,14 @@ module _ (mount : Mount) (more : List Logged) (f g : FileSeen) (a z : Ground) (t
         | inr up ↦ inr (omega (arith, up, next, last))
       ]
 
+  -- each disk that is live failed once at least for each note
+  pub paid : (k : ℕ) (old new : StoreSeen) → Store f g k old new → Contains (live_of z) k → old.state.faults + notes_in more ≤ new.state.faults
+  paid k old new at live =
+      let first = since k old at.0 in
+      let next = turn.later.paid k live in
+      let last = (after k new at.1).faults in
+      omega (arith, first, next, last)
+
   -- some disk is live
   pub some : 0 < length (live_of z)
   some = turn.later.some (live-some a.beside a.row turn.sound.0.counts turn.sound.0.live)
@@ -155,7 +163,7 @@ pages-shown false pages F e is = absurd cc
 
 -- WHAT BECAME OF THE STORES
 module _ (mount : Mount) (f g : FileSeen) (a z : Ground) (e0 e1 : EngineSeen) (closing : List Reply) (run : EngineRun mount f.file (seen_of a) (seen_of z) e0 e1) (turn : Turn mount (log_in e1) f g a z)
-    (whole : slice_get closing f.file ≡ Some Done → KeepsNow e1) where
+    (whole : slice_get closing f.file ≡ Some Done → IsWhole e1) where
   rises : (k : ℕ) (old new : StoreSeen) → Store f g k old new → Rises old.state.faults new.state.faults (counts_of k (log_in e1))
   rises k old new at =
       subst (λ n. Rises n new.state.faults (counts_of k (log_in e1))) (before mount (log_in e1) f g a z turn k old at.0).opened
@@ -233,6 +241,7 @@ module _ (mount : Mount) (f g : FileSeen) (a z : Ground) (e0 e1 : EngineSeen) (c
           began = joined-are shape F are;
           along = along-of mount f.file (seen_of a) (seen_of z) e0 e1 run opening of;
           shows = λ from last. shows-of mount f.file (seen_of a) (seen_of z) e0 e1 run opening from of last;
+          shows_all = λ done. shows-all mount f.file (seen_of a) (seen_of z) e0 e1 run (whole done) opening of;
           reached = λ from last. reached-of mount f.file (seen_of a) (seen_of z) e0 e1 run opening from of last;
           guards = λ from last low.
               guards-closed mount opening (log_in e1) from shape g.stores z turn.back turn.still last-shape-is low (behind-of mount f.file (seen_of a) (seen_of z) e0 e1 run opening from of last)
@@ -286,6 +295,9 @@ module _ (mount : Mount) (f g : FileSeen) (a z : Ground) (e0 e1 : EngineSeen) (c
     back = turn.back;
     some = some mount (log_in e1) f g a z turn;
     live = turn.later.live;
+    same = turn.later.disks;
+    up = turn.later.up;
+    paid = paid mount (log_in e1) f g a z turn;
     fell = fell mount (log_in e1) f g a z turn;
     rises = rises;
     told = λ tells. told-of tells;

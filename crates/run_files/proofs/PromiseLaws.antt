@@ -1,6 +1,11 @@
 -- What the disks of a file in mirrors guard when it is closed, and from one run to the next.
 use Rattle.std.proofs.Common.{◌≡◌, ◌⊎◌, inl, inr, ℕ, zero, suc, min, ◌+◌, ◌-◌, ◌^◌, ◌<◌, ◌≤◌, Bool, true, false, List, [], ◌∷◌, length, map, Option, Some, None, IfSome, IsSome, refl, sym, ap, subst, ◌∙◌, arith}
-use Rattle.std.specs.Prelude.{Contains, slice_get}
+use Rattle.std.specs.Prelude.{Contains, max, slice_get, unwrap_or}
+use Rattle.std.specs.List.{fold}
+use Rattle.hist_plain.specs.declared.event.Event.{Event}
+use Rattle.hist_plain.specs.declared.event.Event.TheVariants.{Synced}
+use Rattle.hist_plain.specs.declared.event.Keep.{Keep}
+use Rattle.stack_engine.specs.Opened.{from_after}
 use Rattle.stack_accept.specs.Mount.{Mount}
 use Rattle.spr_io.specs.Content.{Content}
 use Rattle.disk_format.specs.declared.shape.ImageShape.{ImageShape}
@@ -16,6 +21,9 @@ use Rattle.tower_shows.specs.Since.{IsSince}
 use Rattle.tower_log.specs.declared.logged.Logged.{Logged}
 use Rattle.tower_log.specs.Log.{trail_of}
 use Rattle.script_text.specs.declared.script.Reply.{Reply}
+use Rattle.script_text.specs.declared.script.Reply.TheVariants.{Done}
+use Rattle.run_defs.specs.declared.store.StoreKey.{StoreKey}
+use Rattle.file_stores.specs.Keys.{image_shape}
 use Rattle.file_stores.specs.Held.{StoreSeen}
 use Rattle.file_stores.specs.Files.{FileSeen}
 use Rattle.file_stores.proofs.Lists.{some-is}
@@ -25,8 +33,8 @@ use Rattle.file_stores.proofs.GroundHeldLaws.{AreHeld}
 use Rattle.file_stores.proofs.ImageLaws.{image-at, live-held}
 use Rattle.file_stores.proofs.GroundLists.{get-within}
 use Rattle.run_files.proofs.EngineLaws.{IsTurnedIn}
-use Rattle.run_files.specs.Promise.{Finds, LastsOn, LastsToNext, SinceSync, since_ran, since_synced, TellsAll}
-use Rattle.run_files.specs.Run.{AreLower, Holds, LeavesMirrors, live_of, versions}
+use Rattle.run_files.specs.Promise.{BeganWith, DiskLastsOn, EachSyncCounts, Finds, NextBegins, SinceSyncOnDisk, disk_ran, disk_synced, LastsOn, LastsToNext, SinceSync, since_ran, since_synced, TellsAll}
+use Rattle.run_files.specs.Run.{AreLower, Holds, HoldsAll, IsFrom, IsTold, LeavesMirrors, StandFor, live_of, synced_from, versions}
 
 -- PAGES of the file from a place on are among its versions, and the other way round
 among-of : (mount : Mount) (opening : List ℕ) (log : List Logged) (from : ℕ) (ps : List (List ℕ)) → Holds mount opening log from ps → AreAmong (versions mount opening log from ∷ []) ps
@@ -231,3 +239,62 @@ guards-since mount file (since_ran {Vs = Vs} {disks = disks} {disk = disk} {log 
 
 pub lasts-on : LastsOn
 lasts-on mount file Vs disks disk closing log left f g since finds next tells found up = given-pages mount closing log f g next tells Vs disks disk (found-guards mount file Vs disks left f finds (guards-since mount file since)) found up
+
+-- EACH SYNC
+-- the latest place never falls
+grown : (trail : List Event) (found : ℕ) → (latest : ℕ) × (fold from_after (Some found) trail ≡ Some latest) × (found ≤ latest)
+grown [] found = (found, refl, omega arith)
+grown (Synced caller number node from keep ∷ trail) found =
+    let rest = grown trail (max found from) in let up = rest.2 in (rest.0, rest.1, omega (arith, up))
+grown (event ∷ trail) found = grown trail found
+
+each-from : (trail : List Event) (found : Option ℕ) (place caller number node from : ℕ) (keep : Keep) → slice_get trail place ≡ Some (Synced caller number node from keep) → (latest : ℕ) × (fold from_after found trail ≡ Some latest) × (from ≤ latest)
+each-from [] found place caller number node from keep at = absurd cc
+each-from (event ∷ trail) found zero caller number node from keep at =
+    let same : event ≡ Synced caller number node from keep = some-is event (Synced caller number node from keep) at in
+    let rest = grown trail (max (unwrap_or found 0) from) in
+    let up = rest.2 in
+    (rest.0, ap (λ (e : Event). fold from_after (from_after found e) trail) same ∙ rest.1, omega (arith, up))
+each-from (event ∷ trail) found (suc place) caller number node from keep at = each-from trail (from_after found event) place caller number node from keep at
+
+pub each-sync : EachSyncCounts
+each-sync trail place caller number node from keep at = each-from trail None place caller number node from keep at
+
+-- A FILE ON ONE DISK
+same-imaged : (shape : ImageShape) (blocks : List (List ℕ)) (i j : Imaged) → image shape blocks ≡ Some i → image shape blocks ≡ Some j → i ≡ j
+same-imaged shape blocks i j a b = some-is i j (sym a ∙ b)
+
+-- what is so of the image that a run left is so of the pages that the next one began with
+begins : (mount : Mount) (closing : List Reply) (log : List Logged) (key : StoreKey) (old : Content) (after : Option Content) (next : IsTold mount closing log key old after) (P : List (List ℕ) → Type 0)
+    → StandFor (image_shape mount key) P old.blocks → BeganWith mount key next.opening P
+begins mount closing log key old after next P (found, is, holds) =
+    let first = next.began in
+    let same : found ≡ first.0 = same-imaged (image_shape mount key) old.blocks found first.0 is first.1 in
+    ((first.0).pages, first.2, subst (λ (i : Imaged). P i.pages) same holds)
+
+both : (mount : Mount) (key : StoreKey) (blocks : List (List ℕ)) (P Q : List (List ℕ) → Type 0) (done : Type 0) → StandFor (image_shape mount key) P blocks → (done → StandFor (image_shape mount key) Q blocks)
+    → StandFor (image_shape mount key) (λ pages. P pages × (done → Q pages)) blocks
+both mount key blocks P Q done (found, is, holds) all =
+    (found, is, (holds, λ d. let a = all d in subst (λ (i : Imaged). Q i.pages) (same-imaged (image_shape mount key) blocks a.0 found a.1 is) a.2))
+
+pub next-begins : NextBegins
+next-begins mount closing closing' log log' key old after after' run next =
+    begins mount closing' log' key run.new after' next
+    (λ pages. Holds mount run.opening log (synced_from log) pages × (slice_get closing key.file ≡ Some Done → HoldsAll mount key.file run.opening log pages))
+    (both mount key run.new.blocks (Holds mount run.opening log (synced_from log)) (HoldsAll mount key.file run.opening log) (slice_get closing key.file ≡ Some Done) run.reads run.reads_all)
+
+among-image : (mount : Mount) (key : StoreKey) (opening : List ℕ) (log : List Logged) (from : ℕ) (blocks : List (List ℕ)) → IsFrom mount key opening log from blocks → StandFor (image_shape mount key) (AreAmong (versions mount opening log from ∷ [])) blocks
+among-image mount key opening log from blocks (found, is, since) = (found, is, among-of mount opening log from found.pages since)
+
+lower : (mount : Mount) (opening : List ℕ) (log : List Logged) (from : ℕ) (ps : List (List ℕ)) → Holds mount opening log from ps → Holds mount opening log 0 ps
+lower mount opening log from ps since page bytes at = let s = since page bytes at in record { place = s.place; not_before = omega arith; not_after = s.not_after; is = s.is }
+
+guarded-on-disk : (mount : Mount) (key : StoreKey) {Vs : List (ℕ → ℕ → List ℕ)} {c : Content} → SinceSyncOnDisk mount key Vs c → StandFor (image_shape mount key) (AreAmong Vs) c.blocks
+guarded-on-disk mount key (disk_synced {log = log} {from = from} run last) =
+    among-image mount key run.opening log from run.new.blocks (subst (λ (o : Option ℕ). IsFrom mount key run.opening log (unwrap_or o 0) run.new.blocks) last run.reads)
+guarded-on-disk mount key (disk_ran {Vs = Vs} {log = log} since run) =
+    let now = run.reads in
+    (now.0, now.1, first-among (versions mount run.opening log 0) Vs (now.0).pages (among-of mount run.opening log 0 (now.0).pages (lower mount run.opening log (synced_from log) (now.0).pages now.2)))
+
+pub disk-lasts-on : DiskLastsOn
+disk-lasts-on mount key Vs left closing log after since next = begins mount closing log key left after next (AreAmong Vs) (guarded-on-disk mount key since)

@@ -46,7 +46,7 @@ use Rattle.file_stores.proofs.ReturnLaws.{returned-of}
 use Rattle.file_stores.specs.Under.{Under, seen_under}
 use Rattle.run_files.specs.Ended.{status_of}
 use Rattle.run_files.specs.Held.{AreFiles, IsTaken, Opens, OpensEach, IsShut, AreShut}
-use Rattle.run_files.specs.Play.{IsClosed, IsUnwritten, ArePlayed, KeepsNow, unnamed}
+use Rattle.run_files.specs.Play.{IsClosed, IsUnwritten, ArePlayed, IsWhole, unnamed}
 use Rattle.run_files.specs.Run.{IsOfFile, AreOfFiles, LeavesFile, start_of, Played, SaysRun, reported, ran_out}
 use Rattle.run_files.specs.Told.{Tells}
 use Rattle.run_files.proofs.HeldLaws.{opens-length, opens-at, shut-length, shut-at, length-logs}
@@ -153,7 +153,7 @@ module _ (mount : Mount) (after : List TowerSeen) (k : ℕ) (f g : FileSeen) (r 
       turn-pairs mount (log_in e1) f g u0 u1 r.is (r.shut.file_is ∙ sym r.file) (r.shut.keys ∙ ap (λ m. stores_of_file (length g.stores) m) (sym r.shut.file_is)) turn
 
   -- what became of the file's stores
-  file-left : (closing : List Reply) → (slice_get closing f.file ≡ Some Done → KeepsNow e1) → LeavesFile mount closing (log_of (logs after) k) f g
+  file-left : (closing : List Reply) → (slice_get closing f.file ≡ Some Done → IsWhole e1) → LeavesFile mount closing (log_of (logs after) k) f g
   file-left closing whole = subst (λ (l : List Logged). LeavesFile mount closing l f g) log-at (leaves-of mount f g closing u0 u1 r.t0.engine e1 r.is engine-run turn whole)
 
   -- its log
@@ -180,7 +180,7 @@ module _ (mount : Mount) (closer : ℕ) (before after : List TowerSeen) (olds ne
   leaves : (file : ℕ) (f g : FileSeen) → slice_get olds file ≡ Some f → slice_get news file ≡ Some g → LeavesFile mount closing (log_of (logs after) file) f g
   leaves file f g was is =
       let r = file-run mount before after olds news file f g run was is in
-      file-left mount after file f g r closing (λ done. (closed file r.t1 (ap (λ n. slice_get closing n) (sym r.file) ∙ done) r.there1).now)
+      file-left mount after file f g r closing (λ done. (closed file r.t1 (ap (λ n. slice_get closing n) (sym r.file) ∙ done) r.there1).whole)
 
   -- the logs of the files
   of-files : length closing ≡ length mount.files → AreOfFiles mount closer closing (logs after)
@@ -251,6 +251,7 @@ played-over mount script before mid after towers towers_after names olds news lo
       olds = olds;
       news = news;
       of = run.of;
+      same = record { many = number-news mount towers towers_after olds news run; pairs = over-pairs mount towers towers_after olds news run };
       stores = are-back mount (length script.clients) towers towers_after olds news closing run played.closed before mid after lost taken given;
       leaves = leaves mount (length script.clients) towers towers_after olds news closing run played.closed;
       files = of-files mount (length script.clients) towers towers_after olds news closing run played.closed played.closing_each;

@@ -158,6 +158,7 @@ module _ (mount : Mount) (stop : Stop) (olds news : List FileSeen) (of : AreFile
         olds = olds;
         news = news;
         of = of;
+        same = record { many = halted.many; pairs = pairs };
         stores = subst (λ (ks : List StoreKey). Returned mount before after ks lost (StandsAt (stores_in olds) (stores_in news))) taken.which
             (returned-of mount before mid after (stores_in olds) (stores_in news) lost (StandsAt (stores_in olds) (stores_in news)) taken.out (omega (arith, calm)) (became-files olds news halted.many pairs) given);
         number = halted.number;

@@ -33,7 +33,7 @@ use Rattle.file_stores.proofs.StoreLaws.{AllLast, in-pairs, lasts-one, same-keys
 use Rattle.file_stores.proofs.WholeLaws.{kept-under, faults-under, whole-content, whole-count}
 use Rattle.file_stores.proofs.SpotLaws.{numbers-seen}
 use Rattle.run_files.specs.Held.{Closes, closes_one, closes_many}
-use Rattle.run_files.specs.Play.{KeepsNow}
+use Rattle.run_files.specs.Play.{IsWhole}
 use Rattle.run_files.specs.Run.{LeavesFile, leaves_one, leaves_many}
 use Rattle.run_files.proofs.DiskLaws.{leaves-of as disk-leaves}
 use Rattle.run_files.proofs.EngineLaws.{EngineRun}
@@ -42,7 +42,7 @@ use Rattle.run_files.proofs.WholeLaws.{on-disk, same-number-under}
 
 -- the only store of a file, or its stores on disks in mirrors
 pub data UnderTurn (mount : Mount) (more : List Logged) (f g : FileSeen) : Under → Under → Type 0 where
-  turn_one : {d0 d1 : Disk} {old new : StoreSeen} → f.stores ≡ old ∷ [] → disks.Opened (under mount old) d0 → AreLater more (seen_whole d0) (seen_whole d1) → g.stores ≡ new ∷ [] → new.state ≡ record { content = d1.content; faults = d1.faults }
+  turn_one : {d0 d1 : Disk} {old new : StoreSeen} → f.stores ≡ old ∷ [] → disks.Opened (under mount old) d0 → AreLater more (seen_whole d0) (seen_whole d1) → g.stores ≡ new ∷ [] → new.state ≡ record { content = d1.content; faults = d1.faults } → HasImage d1
       → UnderTurn mount more f g (One d0) (One d1)
   turn_many : {a z : Ground} → 1 < length f.stores → Turn mount more f g a z → UnderTurn mount more f g (Many a) (Many z)
 
@@ -64,7 +64,7 @@ apart (b ∷ c ∷ bs) d differ e = by differ.0 (ap first e) (ap second e)
     by (every_more p q) one two = p (two ∙ sym one)
 
 pub turn-of : (mount : Mount) (more : List Logged) (f g : FileSeen) (u0 u1 : Under) → IsFile mount f → IsOpened mount f u0 → IsSound u0 → AreLater more (seen_under u0) (seen_under u1) → IsLeft u1 g → IsSound u1 → UnderTurn mount more f g u0 u1
-turn-of mount more f g (One d0) (One d1) is over sound later left still = turn_one over.1 over.2 later left.1 left.2
+turn-of mount more f g (One d0) (One d1) is over sound later left still = turn_one over.1 over.2 later left.1 left.2 still.0
 turn-of mount more f g (Many a) (Many z) is over sound later back still = turn_many over.0 (record { is = is; over = over.1; sound = sound; later = later; back = back; still = still })
 turn-of mount more f g (One d0) (Many z) is over sound later back still = absurd (apart z.beside d0.disk still.0.differ (sym (numbers-seen still.0.counts) ∙ later.disks))
 turn-of mount more f g (Many a) (One d1) is over sound later left still = absurd (apart a.beside d1.disk sound.0.differ (sym (numbers-seen sound.0.counts) ∙ sym later.disks))
@@ -75,7 +75,7 @@ still-told (Some c) y e = e
 
 -- no count falls, and what tells goes on telling
 pub turn-lasts : (mount : Mount) (more : List Logged) (f g : FileSeen) (u0 u1 : Under) → UnderTurn mount more f g u0 u1 → AllLast f.stores g.stores
-turn-lasts mount more f g _ _ (turn_one {d0} {d1} {old} {new} was over later left state) =
+turn-lasts mount more f g _ _ (turn_one {d0} {d1} {old} {new} was over later left state has) =
     let same : d0.disk ≡ d1.disk = same-number-under d0 d1 later.disks in
     let up = later.faults d0.disk in
     let first = faults-under d0 d0.disk refl in
@@ -100,6 +100,7 @@ later-same a b same = subst (AreLater [] a) (sym same) (record {
   faults = λ disk. omega arith;
   opened = λ disk. refl;
   notes = tt;
+  paid = λ disk live. omega arith;
 })
 
 -- a disk that was opened holds an image
@@ -115,7 +116,7 @@ same-state a b c f = λ i. record { content = c i; faults = f i }
 
 -- a file that was opened, and closed again as it was
 pub turn-closes : (mount : Mount) (more : List Logged) (f g : FileSeen) (u0 u1 : Under) → seen_under u1 ≡ seen_under u0 → UnderTurn mount more f g u0 u1 → Closes mount f g
-turn-closes mount more f g _ _ same (turn_one {d0} {d1} {old} {new} was over later left state) =
+turn-closes mount more f g _ _ same (turn_one {d0} {d1} {old} {new} was over later left state has) =
     closes_one was left (holds-image d0 (image_shape mount old.key) old.state.content over.shape over.content over.image)
     (same-state new.state old.state (ap (λ (s : StoreState). s.content) state ∙ (whole-content d1 d0 same ∙ over.content)) (ap (λ (s : StoreState). s.faults) state ∙ (whole-count d1 d0 same ∙ over.calm)))
 turn-closes mount more f g _ _ same (turn_many {a} {z} some turn) = closes_many a z some turn.over same turn.back
@@ -127,25 +128,25 @@ turn-pairs mount more f g u0 u1 is file keys turn =
     in-pairs f.stores g.stores (same-keys mount f g is (keys ∙ ap (λ n. stores_of_file (length g.stores) n) file) all.many) all
 
 -- the key of a file's only store
-file-key : (mount : Mount) (f : FileSeen) → IsFile mount f → (old : StoreSeen) → f.stores ≡ old ∷ [] → old.key ≡ record { file = f.file; disk = 0 }
+pub file-key : (mount : Mount) (f : FileSeen) → IsFile mount f → (old : StoreSeen) → f.stores ≡ old ∷ [] → old.key ≡ record { file = f.file; disk = 0 }
 file-key mount f is old was =
     (in-disks (length mount.disks) f.file 0 old.key
     (ap (λ (ks : List StoreKey). slice_get ks 0) (sym is.keys) ∙ to-map (λ (s : StoreSeen). s.key) f.stores 0 old (ap (λ (ss : List StoreSeen). slice_get ss 0) was))).0
 
 -- WHAT BECAME OF THE STORES
 pub leaves-of : (mount : Mount) (f g : FileSeen) (closing : List Reply) (u0 u1 : Under) (e0 e1 : EngineSeen) → IsFile mount f → EngineRun mount f.file (seen_under u0) (seen_under u1) e0 e1 → UnderTurn mount (log_in e1) f g u0 u1
-    → (slice_get closing f.file ≡ Some Done → KeepsNow e1) → LeavesFile mount closing (log_in e1) f g
-leaves-of mount f g closing _ _ e0 e1 is run (turn_one {d0} {d1} {old} {new} was over later left state) whole =
+    → (slice_get closing f.file ≡ Some Done → IsWhole e1) → LeavesFile mount closing (log_in e1) f g
+leaves-of mount f g closing _ _ e0 e1 is run (turn_one {d0} {d1} {old} {new} was over later left state has) whole =
     let at : slice_get f.stores 0 ≡ Some old = ap (λ (ss : List StoreSeen). slice_get ss 0) was in
     let key : old.key.file ≡ f.file = ap (λ (k : StoreKey). k.file) (file-key mount f is old was) in
     let own : EngineRun mount old.key.file (seen_whole d0) (seen_whole d1) e0 e1 = subst (λ n. EngineRun mount n (seen_whole d0) (seen_whole d1) e0 e1) (sym key) run in
     leaves_one was left
-    (disk-leaves mount old d0 d1 e0 e1 closing over own (λ done. whole (ap (λ n. slice_get closing n) (sym key) ∙ done)) new.state (ap (λ (s : StoreState). s.content) state) (ap (λ (s : StoreState). s.faults) state) (is.fits 0 old at))
+    (disk-leaves mount old d0 d1 e0 e1 closing over own (λ done. whole (ap (λ n. slice_get closing n) (sym key) ∙ done)) has new.state (ap (λ (s : StoreState). s.content) state) (ap (λ (s : StoreState). s.faults) state) (is.fits 0 old at))
 leaves-of mount f g closing _ _ e0 e1 is run (turn_many {a} {z} some turn) whole = leaves_many some (mirrors-left mount f g a z e0 e1 closing run turn whole)
 
 -- the live disks have numbers of the file's stores
 pub few-disks : (mount : Mount) (more : List Logged) (f g : FileSeen) (u0 u1 : Under) → IsFile mount f → UnderTurn mount more f g u0 u1 → (disk : ℕ) → Contains (live_in (seen_under u0).disks) disk → disk < length f.stores
-few-disks mount more f g _ _ is (turn_one {d0} {d1} {old} {new} was over later left state) disk live =
+few-disks mount more f g _ _ is (turn_one {d0} {d1} {old} {new} was over later left state has) disk live =
     let one = (on-disk d0).alone disk live in
     let number = over.disk in
     let first = ap (λ (k : StoreKey). k.disk) (file-key mount f is old was) in

@@ -14,7 +14,7 @@ use Rattle.file_stores.specs.declared.stop.Stop.{Stop}
 use Rattle.file_stores.specs.declared.stop.Stop.TheVariants as stops
 use Rattle.file_stores.specs.Keys.{EachAt, image_shape, stores_of_file}
 use Rattle.file_stores.specs.Held.{StoreSeen, keys_of, AreOut}
-use Rattle.file_stores.specs.Files.{ArePairs, FileSeen, IsFile, Lasts}
+use Rattle.file_stores.specs.Files.{AreFilePairs, ArePairs, FileSeen, IsFile, Lasts}
 use Rattle.file_stores.specs.Stops.{HoldsImage}
 use Rattle.mirror_layer.specs.Ground.{Ground, seen_of}
 use Rattle.mirror_layer.specs.Bringing.{OpenedOver}
@@ -32,6 +32,11 @@ pub record IsTaken (mount : Mount) (before now : BaySeen) (keys : List StoreKey)
 pub record AreFiles (mount : Mount) (files : List FileSeen) : Type 0 where
   pub number : length files ≡ length mount.files
   pub each : EachAt (λ at f. (f.file ≡ at) × IsFile mount f) files
+
+-- the files after as before: as many, each with the stores of the same names, of which no count fell and each that told tells still
+pub record AreSameFiles (olds news : List FileSeen) : Type 0 where
+  pub many : length news ≡ length olds
+  pub pairs : AreFilePairs Lasts olds news
 
 -- the file of a number, as its messages name it
 abbrev pub paged : Mount → ℕ → PagedFile

@@ -5,3 +5,4 @@ pub mod Room
 pub mod Run
 pub mod Told
 pub mod Promise
+pub mod Headline

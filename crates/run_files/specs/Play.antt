@@ -1,5 +1,5 @@
 -- What a script over the files did.
-use Rattle.std.specs.Prelude.{◌≡◌, ℕ, suc, List, [], length, slice_get, Some, IfSome, Contains}
+use Rattle.std.specs.Prelude.{◌≡◌, ℕ, suc, List, [], length, slice_get, Some}
 use Rattle.std.specs.List.{AllByRecursion}
 use Rattle.hist_plain.specs.History.{IsNumbered}
 use Rattle.script_text.specs.declared.script.Script.{Script}
@@ -7,18 +7,17 @@ use Rattle.script_text.specs.declared.script.Said.{Said}
 use Rattle.script_text.specs.declared.script.Reply.{Reply}
 use Rattle.script_text.specs.declared.script.Reply.TheVariants.{Done}
 use Rattle.stack_accept.specs.Mount.{Mount}
-use Rattle.disk_layer.specs.Seen.{live_in, pages_in}
-use Rattle.disk_layer.specs.Seen.{kept_in as kept_on}
 use Rattle.tower_core.specs.Legal.{file_after}
 use Rattle.tower_log.specs.declared.logged.Logged.{Logged}
 use Rattle.tower_log.specs.Log.{trail_of}
 use Rattle.tower_shows.specs.Began.{ArePagesOf}
+use Rattle.tower_shows.specs.Since.{AreSince}
 use Rattle.name_context.specs.History.{NamesSeen, IsStory}
 use Rattle.client_objects.specs.Views.{names_at_start}
 use Rattle.run_defs.specs.Log.{EndsSynced, Histories, items}
 use Rattle.run_defs.specs.Fits.{FitsScript, EachAnswered, IsEntryUpTo, IsUpTo}
 use Rattle.stack_engine.specs.Engine.{EngineSeen, events_in, file_in, log_in, tree_in}
-use Rattle.stack_engine.specs.Opened.{IsOf}
+use Rattle.stack_engine.specs.Opened.{last_from}
 use Rattle.stack_engine.specs.Tower.{TowerSeen}
 use Rattle.spr_volume.specs.Passes.{AreBack, Knows, as_known, known, logs}
 use Rattle.spr_client.specs.Calls.{histories}
@@ -50,16 +49,17 @@ pub record IsPlayed (mount : Mount) (script : Script) (p q : Knows) (said : List
   pub said_each : length said ≡ length script.clients
   pub closing_each : length closing ≡ length mount.files
 
--- each live disk keeps pages of the file as it is now, if they are told
-abbrev pub KeepsNow : EngineSeen → Type 0
-KeepsNow e = (opening : List ℕ) (disk : ℕ) → IsOf opening e → Contains (live_in e.ground.disks) disk
-    → IfSome (pages_in (kept_on e.ground.disks disk)) (λ pages. (ps : List (List ℕ)) × (pages ≡ Some ps)
-    × ArePagesOf (file_in e).page_size (length ps) (file_after (tree_in e) (file_in e).page_size opening (events_in e)).bytes ps)
+-- nothing changed a file behind the place of its last completed sync: pages that are its own from there on are those that it has now
+pub record IsWhole (e : EngineSeen) : Type 0 where
+  pub from : ℕ
+  pub last : last_from (events_in e) ≡ Some from
+  pub now : (opening : List ℕ) (ps : List (List ℕ)) → AreSince (tree_in e) (file_in e).page_size opening (events_in e) from ps
+      → ArePagesOf (file_in e).page_size (length ps) (file_after (tree_in e) (file_in e).page_size opening (events_in e)).bytes ps
 
--- a file that a caller's sync ended: its live disks keep the file as it is now
+-- a file that a caller's sync ended, and that nothing changed behind the place that the sync is from
 pub record IsClosed (caller : ℕ) (t : TowerSeen) : Type 0 where
   pub ends : EndsSynced caller (events_in t.engine)
-  pub now : KeepsNow t.engine
+  pub whole : IsWhole t.engine
 
 -- the logs and the answers fit the script, each line has its answer, and a file whose closing sync is done is closed
 pub record ArePlayed (mount : Mount) (script : Script) (before after : List TowerSeen) (names : NamesSeen) (said : List (List Said)) (closing : List Reply) : Type 0 where

@@ -1,8 +1,15 @@
--- The promise of mirrors from one run to the next.
-use Rattle.std.specs.Prelude.{◌≡◌, ℕ, List, [], ◌∷◌, map, Option, Some, IsSome, Contains}
+-- What a sync made lasting, from one run to the next: of a file on one disk, and on disks in mirrors.
+use Rattle.std.specs.Prelude.{◌≡◌, ℕ, ◌≤◌, List, [], ◌∷◌, map, slice_get, Option, Some, IsSome, Contains}
+use Rattle.hist_plain.specs.declared.event.Event.{Event}
+use Rattle.hist_plain.specs.declared.event.Event.TheVariants.{Synced}
+use Rattle.hist_plain.specs.declared.event.Keep.{Keep}
 use Rattle.script_text.specs.declared.script.Reply.{Reply}
+use Rattle.script_text.specs.declared.script.Reply.TheVariants.{Done}
 use Rattle.stack_accept.specs.Mount.{Mount}
+use Rattle.run_defs.specs.declared.store.StoreKey.{StoreKey}
+use Rattle.run_defs.specs.Stack.{pages_of}
 use Rattle.spr_io.specs.Content.{Content}
+use Rattle.tower_shows.specs.Began.{ArePagesOf}
 use Rattle.tower_log.specs.declared.logged.Logged.{Logged}
 use Rattle.tower_log.specs.Log.{trail_of}
 use Rattle.stack_engine.specs.Opened.{last_from}
@@ -11,7 +18,33 @@ use Rattle.file_stores.specs.Held.{StoreSeen}
 use Rattle.file_stores.specs.Files.{FileSeen}
 use Rattle.file_stores.specs.Guards.{AreAmong, HoldImages, IsUp}
 use Rattle.file_stores.specs.Opening.{shape_of_file}
-use Rattle.run_files.specs.Run.{AreLower, Holds, LeavesMirrors, live_of, versions}
+use Rattle.run_files.specs.Run.{AreLower, Holds, HoldsAll, IsTold, LeavesMirrors, live_of, synced_from, versions}
+
+-- the pages that a file on one disk began with, in a run
+abbrev pub BeganWith : Mount → StoreKey → List ℕ → (List (List ℕ) → Type 0) → Type 0
+BeganWith mount key opening P = (pages : List (List ℕ)) × ArePagesOf mount.page_size (pages_of mount key.file) opening pages × P pages
+
+-- A FILE ON ONE DISK FROM ONE RUN TO THE NEXT: a run over the store that another left begins, page by page, with the file as it was at the last
+-- sync that the other one completed, or later; and if its closing sync was done, with the whole file.
+abbrev pub NextBegins : Type 0
+NextBegins = (mount : Mount) (closing closing' : List Reply) (log log' : List Logged) (key : StoreKey) (old : Content) (after after' : Option Content) (run : IsTold mount closing log key old after) (next : IsTold mount closing' log' key run.new after')
+    → BeganWith mount key next.opening (λ pages. Holds mount run.opening log (synced_from log) pages × (slice_get closing key.file ≡ Some Done → HoldsAll mount key.file run.opening log pages))
+
+-- RUNS OF A FILE ON ONE DISK SINCE A SYNC: its histories since then, and what its store holds
+pub data SinceSyncOnDisk (mount : Mount) (key : StoreKey) : List (ℕ → ℕ → List ℕ) → Content → Type 0 where
+  disk_synced : {closing : List Reply} {log : List Logged} {old : Content} {after : Option Content} {from : ℕ} (run : IsTold mount closing log key old after) → last_from (trail_of log) ≡ Some from
+      → SinceSyncOnDisk mount key (versions mount run.opening log from ∷ []) run.new
+  disk_ran : {Vs : List (ℕ → ℕ → List ℕ)} {closing : List Reply} {log : List Logged} {left : Content} {after : Option Content} → SinceSyncOnDisk mount key Vs left → (run : IsTold mount closing log key left after)
+      → SinceSyncOnDisk mount key (versions mount run.opening log 0 ∷ Vs) run.new
+
+-- OVER ANY NUMBER OF RUNS: each begins the file with pages of those histories
+abbrev pub DiskLastsOn : Type 0
+DiskLastsOn = (mount : Mount) (key : StoreKey) (Vs : List (ℕ → ℕ → List ℕ)) (left : Content) (closing : List Reply) (log : List Logged) (after : Option Content) → SinceSyncOnDisk mount key Vs left → (next : IsTold mount closing log key left after)
+    → BeganWith mount key next.opening (AreAmong Vs)
+
+-- EACH SYNC COUNTS: the place that a completed sync is from is not behind the latest, from which on a disk keeps and shows the file
+abbrev pub EachSyncCounts : Type 0
+EachSyncCounts = (trail : List Event) (place caller number node from : ℕ) (keep : Keep) → slice_get trail place ≡ Some (Synced caller number node from keep) → (latest : ℕ) × (last_from trail ≡ Some latest) × (from ≤ latest)
 
 -- what a file's stores hold, if it is told, one for each disk
 abbrev pub contents_of : FileSeen → List (Option Content)

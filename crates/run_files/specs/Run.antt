@@ -1,5 +1,5 @@
 -- What a run does to the files of a stack and their stores, and what it writes.
-use Rattle.std.specs.Prelude.{◌≡◌, ◌⊎◌, ℕ, min, ◌+◌, ◌*◌, ◌^◌, ◌<◌, ◌≤◌, List, [], ◌∷◌, map, length, slice_get, unwrap_or, Option, Some, None, IfSome, IsSome, Contains, Bool, false, if◌then◌else◌}
+use Rattle.std.specs.Prelude.{◌≡◌, ◌⊎◌, ℕ, min, ◌+◌, ◌*◌, ◌^◌, ◌<◌, ◌≤◌, List, [], ◌∷◌, map, length, take, slice_get, unwrap_or, Option, Some, None, IfSome, IsSome, Contains, Bool, false, if◌then◌else◌}
 use Rattle.std.specs.List.{AllByRecursion}
 use Rattle.std.specs.Option.{option_map}
 use Rattle.hist_plain.specs.declared.TheConstants.{MAX_EVENTS}
@@ -8,17 +8,21 @@ use Rattle.script_text.specs.declared.script.Said.{Said}
 use Rattle.script_text.specs.declared.script.Reply.{Reply}
 use Rattle.script_text.specs.declared.script.Reply.TheVariants as replies
 use Rattle.stack_accept.specs.Mount.{Mount}
-use Rattle.tower_core.specs.Legal.{FitsFile, IsLegal, file_after}
+use Rattle.hist_plain.specs.Plain.{Told, reply}
+use Rattle.tower_core.specs.Legal.{FitsFile, IsLegal, file_after, plain_shape}
+use Rattle.tower_core.specs.TreeShape.{TreeShape}
 use Rattle.tower_core.specs.Trail.{IsRun, start}
 use Rattle.pager_channel.specs.declared.numbers.Ops.{Ops}
 use Rattle.tower_log.specs.declared.logged.Logged.{Logged}
 use Rattle.tower_log.specs.declared.logged.Logged.TheVariants.{Entered, Noted}
-use Rattle.tower_log.specs.Log.{place_of, trail_of}
+use Rattle.tower_log.specs.declared.logged.Entry.{Entry}
+use Rattle.tower_log.specs.Log.{entries_of, place_of, trail_of}
 use Rattle.tower_log.specs.Notes.{Rises, counts_of}
 use Rattle.layer_laws.specs.PlacesShown.{page_shown}
 use Rattle.tower_shows.specs.Began.{ArePagesOf}
 use Rattle.tower_shows.specs.Since.{AreSince}
 use Rattle.stack_engine.specs.Opened.{AreAnswers, last_from}
+use Rattle.spr_volume.specs.Later.{notes_in}
 use Rattle.run_defs.specs.declared.store.StoreKey.{StoreKey}
 use Rattle.run_defs.specs.Stack.{pages_of}
 use Rattle.client_objects.specs.Views.{names_at_start}
@@ -31,7 +35,7 @@ use Rattle.disk_format.specs.Image.{Imaged, image}
 use Rattle.spr_report.specs.declared.status.Status.{Status}
 use Rattle.spr_report.specs.declared.status.Status.TheVariants as statuses
 use Rattle.spr_report.specs.Report.{report}
-use Rattle.disk_layer.specs.Seen.{is_up_in, kept_in, live_in}
+use Rattle.disk_layer.specs.Seen.{is_up_in, kept_in, live_in, numbers_in}
 use Rattle.disk_layer.specs.Seen.{pages_in as told_in}
 use Rattle.mirror_layer.specs.Ground.{Ground, IsGround, seen_of}
 use Rattle.mirror_layer.specs.Bringing.{OpenedOver}
@@ -42,7 +46,7 @@ use Rattle.file_stores.specs.Held.{StoreSeen}
 use Rattle.file_stores.specs.Files.{FileSeen, StandsAt, stores_in}
 use Rattle.file_stores.specs.Guards.{AreAmong, AreGuarded, HasImage, HoldImages, IsUp}
 use Rattle.file_stores.specs.Opening.{content_of, faults_of, shape_of_file}
-use Rattle.run_files.specs.Held.{AreFiles, Closes, IsUnheld}
+use Rattle.run_files.specs.Held.{AreFiles, AreSameFiles, Closes, IsUnheld}
 use Rattle.file_stores.specs.declared.stop.Stop.{Stop}
 use Rattle.file_stores.specs.declared.stop.Stop.TheVariants as stops
 use Rattle.file_stores.specs.Stop.{lost_text, stop_text, stop_status}
@@ -58,13 +62,21 @@ abbrev pub IsOfDisks : ℕ → Logged → Type 0
 IsOfDisks disks (Entered entry) = Unit {0}
 IsOfDisks disks (Noted note) = note.disk < disks
 
+-- each answer of a log is the plain file's at its place, but for the bytes of a read: a read is answered by bytes, an open by the life of its
+-- node, a call of an earlier life by the life now, and a write, a clear and a sync by `done`; a page message has no answer
+abbrev pub AreAnswersButBytes : TreeShape → ℕ → List ℕ → List Logged → Type 0
+AreAnswersButBytes shape size opening log = (place : ℕ) (entry : Entry) → slice_get (entries_of log) place ≡ Some entry
+    → entry.answer ≡ option_map {T = Told} (λ told. told.answer) (reply (plain_shape shape size) (file_after shape size opening (take place (trail_of log))) entry.event)
+
 -- A file's log, whatever its store tells: each event stays in the file and was allowed where it stands, so that one writer or
--- many readers had each page at each layer; there are no more events than a file may have; and each note is of a disk of the stack.
+-- many readers had each page at each layer; there are no more events than a file may have; each note is of a disk of the stack; and, whatever bytes
+-- the file began with, each answer is the plain file's at its place, but for the bytes of a read.
 pub record IsOfFile (mount : Mount) (file : ℕ) (log : List Logged) : Type 0 where
   pub run : IsRun mount.tree (pages_of mount file) start (trail_of log)
   pub fits : AllByRecursion (FitsFile mount.page_size (pages_of mount file)) (trail_of log)
   pub few : place_of log ≤ MAX_EVENTS
   pub notes : AllByRecursion (IsOfDisks (length mount.disks)) log
+  pub answers : (opening : List ℕ) → AreAnswersButBytes mount.tree mount.page_size opening log
 
 -- the files' logs, one for each; one whose closing sync is done ends with it
 pub record AreOfFiles (mount : Mount) (closer : ℕ) (closing : List Reply) (logs : List (List Logged)) : Type 0 where
@@ -95,17 +107,31 @@ abbrev pub HoldsAll : Mount → ℕ → List ℕ → List Logged → List (List 
 HoldsAll mount file opening log pages =
     ArePagesOf mount.page_size (pages_of mount file) (file_after mount.tree mount.page_size opening (trail_of log)).bytes pages
 
+-- an image that has, page by page, the file as it was at some place from this one on
+abbrev pub IsFrom : Mount → StoreKey → List ℕ → List Logged → ℕ → List (List ℕ) → Type 0
+IsFrom mount key opening log from = StandFor (image_shape mount key) (Holds mount opening log from)
+
+-- an image of the whole file, as it was at the end
+abbrev pub IsAll : Mount → StoreKey → List ℕ → List Logged → List (List ℕ) → Type 0
+IsAll mount key opening log = StandFor (image_shape mount key) (HoldsAll mount key.file opening log)
+
+-- the place of a log from which on the last completed sync has written the file: its beginning, where none was completed
+abbrev pub synced_from : List Logged → ℕ
+synced_from log = unwrap_or (last_from (trail_of log)) 0
+
 -- WHAT A DISK KEEPS whose store tells its content, by the log of its file and the answer of the closing sync; when the file was opened it had
 -- kept these pages.
 pub record IsKept (mount : Mount) (closing : List Reply) (log : List Logged) (key : StoreKey) (opening : List ℕ) (first : Option (List (List ℕ))) (kept : List (List ℕ)) : Type 0 where
   -- until a sync was completed: the pages that it had kept, or an image that has, page by page, the file as it was at some place
-  pub unsynced : last_from (trail_of log) ≡ None → (pages_in (image_shape mount key) kept ≡ first) ⊎ StandFor (image_shape mount key) (Holds mount opening log 0) kept
+  pub unsynced : last_from (trail_of log) ≡ None → (pages_in (image_shape mount key) kept ≡ first) ⊎ IsFrom mount key opening log 0 kept
   -- then an image that has, page by page, the file as it was at some place from the last completed sync on
-  pub synced : (from : ℕ) → last_from (trail_of log) ≡ Some from → StandFor (image_shape mount key) (Holds mount opening log from) kept
+  pub synced : (from : ℕ) → last_from (trail_of log) ≡ Some from → IsFrom mount key opening log from kept
   -- and if the closing sync is done, an image of the whole file
-  pub whole : slice_get closing key.file ≡ Some replies.Done → StandFor (image_shape mount key) (HoldsAll mount key.file opening log) kept
+  pub whole : slice_get closing key.file ≡ Some replies.Done → IsAll mount key opening log kept
 
--- a store told its content: the image that it held began the file, and it keeps what it is to keep. It tells its content still.
+-- a store told its content: the image that it held began the file, and it keeps what it is to keep, and reads as what a later run is to find:
+-- an image that has, page by page, the file as it was at some place from the last completed sync on, and if the closing sync is done, an image of
+-- the whole file. It tells its content still.
 pub record IsTold (mount : Mount) (closing : List Reply) (log : List Logged) (key : StoreKey) (old : Content) (after : Option Content) : Type 0 where
   pub opening : List ℕ
   pub began : StandFor (image_shape mount key) (ArePagesOf mount.page_size (pages_of mount key.file) opening) old.blocks
@@ -113,6 +139,8 @@ pub record IsTold (mount : Mount) (closing : List Reply) (log : List Logged) (ke
   pub new : Content
   pub still : after ≡ Some new
   pub kept : IsKept mount closing log key opening (pages_in (image_shape mount key) old.kept) new.kept
+  pub reads : IsFrom mount key opening log (synced_from log) new.blocks
+  pub reads_all : slice_get closing key.file ≡ Some replies.Done → IsAll mount key opening log new.blocks
 
 -- What became of a file's only store.
 pub record Leaves (mount : Mount) (closing : List Reply) (log : List Logged) (key : StoreKey) (old new : StoreState) : Type 0 where
@@ -148,7 +176,9 @@ pub record AreTold (mount : Mount) (closing : List Reply) (log : List Logged) (f
   pub along : IsAlong mount f.file opening log
   -- behind a completed sync the pages of the ground are, page by page, the file as it was at some place from that sync on
   pub shows : (from : ℕ) → last_from (trail_of log) ≡ Some from → IfSome (seen_of closed).pages (Holds mount opening log from)
-  -- and then the disks that are live at the end guard the pages as they were from that sync on
+  -- and if the closing sync is done, they are those of the whole file
+  pub shows_all : slice_get closing f.file ≡ Some replies.Done → IfSome (seen_of closed).pages (HoldsAll mount f.file opening log)
+  -- and behind a completed sync the disks that are live at the end guard the pages as they were from that sync on
   pub reached : (from : ℕ) → last_from (trail_of log) ≡ Some from → from ≤ length (trail_of log)
   pub guards : (from : ℕ) → last_from (trail_of log) ≡ Some from → AreLower (shape_of_file mount f.file) closed g.stores
       → AreGuarded (shape_of_file mount f.file) (versions mount opening log from ∷ []) (live_of closed) g.stores
@@ -167,6 +197,11 @@ pub record LeavesMirrors (mount : Mount) (closing : List Reply) (log : List Logg
   pub some : 0 < length (live_of closed)
   pub live : (disk : ℕ) → Contains (live_of closed) disk → Contains (live_of opened) disk
   pub fell : (disk : ℕ) (old new : StoreSeen) → Store f g disk old new → Contains (live_of closed) disk ⊎ (old.state.faults < new.state.faults)
+  -- they are the same disks, and those are told as opened that were
+  pub same : numbers_in (seen_of closed).disks ≡ numbers_in (seen_of opened).disks
+  pub up : (disk : ℕ) → is_up_in (seen_of closed).disks disk ≡ is_up_in (seen_of opened).disks disk
+  -- the store of each disk that is live at the end failed once at least for each note of the file: a fault that another disk masked is not told
+  pub paid : (disk : ℕ) (old new : StoreSeen) → Store f g disk old new → Contains (live_of closed) disk → old.state.faults + notes_in log ≤ new.state.faults
   -- the counts of a disk's notes are among those of its store's faults in this run
   pub rises : (disk : ℕ) (old new : StoreSeen) → Store f g disk old new → Rises old.state.faults new.state.faults (counts_of disk log)
   pub told : EachAt (λ at s. IsSome s.state.content) f.stores → AreTold mount closing log f g opened closed
@@ -196,6 +231,7 @@ pub record Played (mount : Mount) (script : Script) (before after : BaySeen) (h 
   pub olds : List FileSeen
   pub news : List FileSeen
   pub of : AreFiles mount olds
+  pub same : AreSameFiles olds news
   pub stores : Returned mount before after (stores_of mount) lost (StandsAt (stores_in olds) (stores_in news))
   pub leaves : (file : ℕ) (old new : FileSeen) → slice_get olds file ≡ Some old → slice_get news file ≡ Some new → LeavesFile mount closing (log_of h.logs file) old new
   pub files : AreOfFiles mount (length script.clients) closing h.logs
@@ -208,6 +244,7 @@ pub record NotRun (mount : Mount) (before after : BaySeen) (lost : List StoreKey
   pub olds : List FileSeen
   pub news : List FileSeen
   pub of : AreFiles mount olds
+  pub same : AreSameFiles olds news
   pub stores : Returned mount before after (stores_of mount) lost (StandsAt (stores_in olds) (stores_in news))
   pub number : ℕ
   pub opened : (file : ℕ) (old new : FileSeen) → file < number → slice_get olds file ≡ Some old → slice_get news file ≡ Some new → Closes mount old new

@@ -10,8 +10,5 @@ mod promise;
 mod room;
 mod run;
 
-pub use promise::synced_pages_last;
+pub use promise::{each_sync_counts, headline, synced_pages_begin_the_next_run, synced_pages_last};
 pub use run::run_files;
-
-#[cfg(test)]
-mod tests;

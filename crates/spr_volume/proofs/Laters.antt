@@ -1,5 +1,5 @@
 -- The same file later on: at the start, after one stretch and another, and after one try.
-use Rattle.std.proofs.Common.{◌≡◌, ◌⊎◌, inl, inr, ℕ, ◌<◌, ◌≤◌, ◌==◌, Bool, true, false, cond, List, [], ◌∷◌, ◌++◌, length, Option, Some, None, IfSome, IsSome, refl, sym, ap, subst, ◌∙◌, arith, append_assoc}
+use Rattle.std.proofs.Common.{◌≡◌, ◌⊎◌, inl, inr, ℕ, ◌+◌, ◌<◌, ◌≤◌, ◌==◌, Bool, true, false, cond, List, [], ◌∷◌, ◌++◌, length, Option, Some, None, IfSome, IsSome, refl, sym, ap, subst, ◌∙◌, arith, append_assoc}
 use Rattle.std.specs.Prelude.{Contains}
 use Rattle.std.specs.List.{AllByRecursion, fold}
 use Rattle.std.proofs.lemmas.List.{append-nil}
@@ -8,9 +8,11 @@ use Rattle.std.proofs.lemmas.Bool.Decides.{nat_tests}
 use Rattle.hist_plain.specs.declared.event.Event.{Event}
 use Rattle.hist_plain.specs.declared.event.Event.TheVariants as events
 use Rattle.disk_format.specs.Image.{Imaged}
-use Rattle.disk_layer.specs.Seen.{Are, KeptAt, Seen, Turns, faults_in, held_in, live_in, opened_in, pages_in}
+use Rattle.disk_layer.specs.Seen.{Are, KeptAt, Seen, Turns, faults_in, held_in, live_in, pages_in}
 use Rattle.disk_layer.specs.Seen.{kept_in as kept_on}
+use Rattle.tower_core.specs.Trail.{State, start, state_after, state_of}
 use Rattle.tower_core.specs.TreeShape.{TreeShape}
+use Rattle.hist_plain.specs.Event.{caller_of}
 use Rattle.page_messages.specs.declared.paged.PagedFile.{PagedFile}
 use Rattle.page_exchange.specs.Ground.{IsCalmCall, IsOneCall}
 use Rattle.tower_log.specs.declared.logged.Entry.{Entry}
@@ -23,12 +25,12 @@ use Rattle.tower_shows.specs.Since.{AreSince, GroundIsSince}
 use Rattle.tower_shows.proofs.Stays.{told_later, told_stays}
 use Rattle.stack_engine.specs.declared.refusal.StepErr.{StepErr}
 use Rattle.stack_engine.specs.declared.refusal.StepErr.TheVariants.{StoreFault, TrailFull, Memory}
-use Rattle.stack_engine.specs.Engine.{EngineSeen, IsSound, events_in, file_in, log_in, sides_in, tree_in}
+use Rattle.stack_engine.specs.Engine.{EngineSeen, IsSound, events_in, file_in, log_in, sides_in, state_in, tree_in}
 use Rattle.stack_engine.specs.Moves.{Enters, Goes, IsRefused}
 use Rattle.stack_engine.specs.Opened.{IsOf, KeepsSince, from_after, last_from}
 use Rattle.stack_engine.proofs.Entering.{at_same, if_some_on, some_image, such_pages}
 use Rattle.stack_engine.proofs.Logs.{counts_of-append}
-use Rattle.spr_volume.specs.Later.{AreLater, IsLater, IsNoteOf, IsOnDisk, IsTurned, KeepsFirst, TurnsFirst}
+use Rattle.spr_volume.specs.Later.{AreAnswered, AreLater, IsLater, IsNoteOf, IsOnDisk, IsTurned, KeepsFirst, TurnsFirst, answer_by, notes_in}
 
 -- LISTS
 
@@ -54,11 +56,55 @@ notes_of_more some all [] to h = tt
 notes_of_more some all (Entered entry ∷ log) to h = (tt, notes_of_more some all log to h.1)
 notes_of_more some all (Noted note ∷ log) to h = (to note.disk h.0, notes_of_more some all log to h.1)
 
+notes_in-append : (xs ys : List Logged) → notes_in (xs ++ ys) ≡ notes_in xs + notes_in ys
+notes_in-append [] ys = omega arith
+notes_in-append (Entered entry ∷ xs) ys = notes_in-append xs ys
+notes_in-append (Noted note ∷ xs) ys = let rest = notes_in-append xs ys in omega (arith, rest)
+
+-- each disk that is live after these things of the log failed once at least for each note
+abbrev IsPaid : List Logged → Seen → Seen → Type 0
+IsPaid more before after = (disk : ℕ) → Contains (live_in after.disks) disk → faults_in before.disks disk + notes_in more ≤ faults_in after.disks disk
+
+-- what is answered by the lives so far, and what then goes on to be
+answered_on : (tree : TreeShape) (s : State) (xs ys : List Logged) → AreAnswered tree s xs → AreAnswered tree (fold (state_after tree) s (trail_of xs)) ys → AreAnswered tree s (xs ++ ys)
+answered_on tree s [] ys h more = more
+answered_on tree s (Entered entry ∷ xs) ys h more = (h.0, answered_on tree (state_after tree s entry.event) xs ys h.1 more)
+answered_on tree s (Noted note ∷ xs) ys h more = answered_on tree s xs ys h more
+
+-- an event of no caller has no answer
+pub unanswered : (s : State) (event : Event) → caller_of event ≡ None → None ≡ answer_by s event
+unanswered s (events.Access caller number node life op) e = absurd cc
+unanswered s (events.DestroyCache caller number node) e = absurd cc
+unanswered s (events.DonePager caller number node) e = absurd cc
+unanswered s (events.Synced caller number node from keep) e = absurd cc
+unanswered s (events.PageIn node page write) e = refl
+unanswered s (events.ZeroFill node page write) e = refl
+unanswered s (events.PageOut node page) e = refl
+unanswered s (events.WriteOut node page) e = refl
+unanswered s (events.SyncOut node page) e = refl
+unanswered s (events.FlushBack node page) e = refl
+unanswered s (events.DenyWrites node page) e = refl
+unanswered s (events.WriteBack node page) e = refl
+unanswered s (events.DeleteRange node page) e = refl
+
 -- A GROUND after one call at most
 
+-- no disk gets live, and no count falls
+live_once : (before after : Seen) (disk : ℕ) → IsOneCall before after → Contains (live_in after.disks) disk → Contains (live_in before.disks) disk
+live_once before after disk (inl same) live = subst (λ (s : Seen). Contains (live_in s.disks) disk) same live
+live_once before after disk (inr keeps) live = keeps.live disk live
+
+faults_once : (before after : Seen) (disk : ℕ) → IsOneCall before after → faults_in before.disks disk ≤ faults_in after.disks disk
+faults_once before after disk (inl same) = let e = ap (λ (s : Seen). faults_in s.disks disk) same in omega (arith, e)
+faults_once before after disk (inr keeps) = keeps.later disk
+
+-- where nothing is noted nothing is to be paid
+unnoted : (more : List Logged) (before after : Seen) → IsOneCall before after → notes_in more ≡ 0 → IsPaid more before after
+unnoted more before after call none disk live = let later = faults_once before after disk call in omega (arith, later, none)
+
 -- after it the disks are later on
-later_once : (more : List Logged) (before after : Seen) → IsOneCall before after → AllByRecursion (IsNoteOf (live_in before.disks)) more → AreLater more before after
-later_once more before after (inl same) notes = subst (AreLater more before) (sym same) (record {
+later_once : (more : List Logged) (before after : Seen) → IsOneCall before after → AllByRecursion (IsNoteOf (live_in before.disks)) more → IsPaid more before after → AreLater more before after
+later_once more before after (inl same) notes paid = subst (AreLater more before) (sym same) (record {
   disks = refl;
   up = λ disk. refl;
   told = λ disk. refl;
@@ -68,8 +114,9 @@ later_once more before after (inl same) notes = subst (AreLater more before) (sy
   faults = λ disk. omega arith;
   opened = λ disk. refl;
   notes = notes;
+  paid = subst (λ (s : Seen). IsPaid more before s) same paid;
 })
-later_once more before after (inr keeps) notes = record {
+later_once more before after (inr keeps) notes paid = record {
   disks = keeps.same_disks;
   up = keeps.same_up;
   told = keeps.same_told;
@@ -79,6 +126,7 @@ later_once more before after (inr keeps) notes = record {
   faults = keeps.later;
   opened = keeps.same_opened;
   notes = notes;
+  paid = paid;
 }
 
 -- THE ONE LIVE DISK later on
@@ -91,7 +139,7 @@ on_later disk more before after later on =
     }
 
 on_disk_once : (before after : Seen) (disk : ℕ) → IsOneCall before after → IsOnDisk disk before → IsOnDisk disk after
-on_disk_once before after disk call on = on_later disk [] before after (later_once [] before after call tt) on
+on_disk_once before after disk call on = on_later disk [] before after (later_once [] before after call tt (unnoted [] before after call refl)) on
 
 calm_on : (before after : Seen) (disk : ℕ) → IsOneCall before after → IsOnDisk disk before → IsCalmCall before after → faults_in after.disks disk ≡ faults_in before.disks disk
 calm_on before after disk call on (inl same) = ap (λ (s : Seen). faults_in s.disks disk) same
@@ -126,6 +174,8 @@ pub record IsTry (more : List Logged) (old new : EngineSeen) : Type 0 where
   pub goes : Goes old new
   pub log : log_in new ≡ log_in old ++ more
   pub notes : AllByRecursion (IsNoteOf (live_in old.ground.disks)) more
+  pub paid : IsPaid more old.ground new.ground
+  pub answered : AreAnswered (tree_in old) (state_in old) more
   pub calm : (disk : ℕ) → IsOnDisk disk old.ground → counts_of disk more ≡ [] → faults_in new.ground.disks disk ≡ faults_in old.ground.disks disk
 
 -- pages of a told ground are from the first place on
@@ -215,18 +265,21 @@ module _ (more : List Logged) (old new : EngineSeen) (sound : IsSound old) (soun
     of = move.goes.of;
     more = more;
     log = move.log;
-    disks = later_once more old.ground new.ground move.goes.call move.notes;
+    disks = later_once more old.ground new.ground move.goes.call move.notes move.paid;
+    answered = move.answered;
     calm = move.calm;
     kept = λ opening first disk of live. keeps_first opening first disk of live;
     turned = λ opening first disk of. turns_first opening first disk of;
   }
 
 -- an event was entered without a fault
-pub try_entered : (entry : Entry) (old new : EngineSeen) → Enters entry old new → IsTry (Entered entry ∷ []) old new
-try_entered entry old new enters = record {
+pub try_entered : (entry : Entry) (old new : EngineSeen) → Enters entry old new → entry.answer ≡ answer_by (state_in old) entry.event → IsTry (Entered entry ∷ []) old new
+try_entered entry old new enters is = record {
   goes = enters.goes;
   log = enters.log;
   notes = (tt, tt);
+  paid = unnoted (Entered entry ∷ []) old.ground new.ground enters.goes.call refl;
+  answered = (is, tt);
   calm = λ disk on none. calm_on old.ground new.ground disk enters.goes.call on enters.calm;
 }
 
@@ -248,18 +301,24 @@ try_refused caller old new (StoreFault disk count) refused = record {
   goes = refused.goes;
   log = refused.why.0;
   notes = (refused.why.1.named, tt);
+  paid = λ d live. let rose = refused.why.1.all d (live_once old.ground new.ground d refused.goes.call live) in omega (arith, rose);
+  answered = tt;
   calm = λ d on none. absurd (one_note (disk == d) count (own_note disk d (on.alone disk refused.why.1.named)) none);
 }
 try_refused caller old new TrailFull refused = record {
   goes = refused.goes;
   log = refused.why.0 ∙ sym (append-nil (log_in old));
   notes = tt;
+  paid = unnoted [] old.ground new.ground refused.goes.call refl;
+  answered = tt;
   calm = λ d on none. ap (λ (s : Seen). faults_in s.disks d) refused.why.2;
 }
 try_refused caller old new Memory refused = record {
   goes = refused.goes;
   log = refused.why.0 ∙ sym (append-nil (log_in old));
   notes = tt;
+  paid = unnoted [] old.ground new.ground refused.goes.call refl;
+  answered = tt;
   calm = λ d on none. calm_on old.ground new.ground d refused.goes.call on refused.why.2;
 }
 
@@ -269,6 +328,8 @@ try_none old new same = subst (IsTry [] old) (sym same) (record {
   goes = record { file = record { tree = refl; file = refl }; call = inl refl; of = λ opening of. of };
   log = sym (append-nil (log_in old));
   notes = tt;
+  paid = unnoted [] old.ground old.ground (inl refl) refl;
+  answered = tt;
   calm = λ disk on none. refl;
 })
 
@@ -280,7 +341,8 @@ later_refl e = record {
   of = λ opening of. of;
   more = [];
   log = sym (append-nil (log_in e));
-  disks = later_once [] e.ground e.ground (inl refl) tt;
+  disks = later_once [] e.ground e.ground (inl refl) tt (unnoted [] e.ground e.ground (inl refl) refl);
+  answered = tt;
   calm = λ disk on none. refl;
   kept = λ opening first disk of live was. was;
   turned = λ opening first disk of was. was;
@@ -303,6 +365,7 @@ disks_on xs ys a b c p q = record {
   faults = λ disk. omega (arith, p.faults disk, q.faults disk);
   opened = λ disk. q.opened disk ∙ p.opened disk;
   notes = all-append (IsNoteOf (live_in a.disks)) xs ys p.notes (notes_of_more (live_in b.disks) (live_in a.disks) ys p.live q.notes);
+  paid = λ disk live. let first = p.paid disk (q.live disk live) in let next = q.paid disk live in let all = notes_in-append xs ys in omega (arith, first, next, all);
 }
 
 pub later_trans : (a b c : EngineSeen) → IsLater a b → IsLater b c → IsLater a c
@@ -312,9 +375,13 @@ later_trans a b c p q = record {
   more = p.more ++ q.more;
   log = q.log ∙ ap (λ (l : List Logged). l ++ q.more) p.log ∙ append_assoc (log_in a) p.more q.more;
   disks = disks_on p.more q.more a.ground b.ground c.ground p.disks q.disks;
+  answered = answered_on (tree_in a) (state_in a) p.more q.more p.answered (subst (λ (s : State). AreAnswered (tree_in a) s q.more) state_is (subst (λ (t : TreeShape). AreAnswered t (state_of t (events_in b)) q.more) p.file.tree q.answered));
   calm = λ disk on none.
       let both = none-append (counts_of disk p.more) (counts_of disk q.more) (sym (counts_of-append disk p.more q.more) ∙ none) in
       q.calm disk (on_later disk p.more a.ground b.ground p.disks on) both.1 ∙ p.calm disk on both.0;
   kept = λ opening first disk of live was. q.kept opening first disk (p.of opening of) live (p.kept opening first disk of (q.disks.live disk live) was);
   turned = λ opening first disk of was. q.turned opening first disk (p.of opening of) (p.turned opening first disk of was);
 }
+  where
+    state_is : state_of (tree_in a) (events_in b) ≡ fold (state_after (tree_in a)) (state_in a) (trail_of p.more)
+    state_is = ap (state_of (tree_in a)) (ap trail_of p.log ∙ trail_of-append (log_in a) p.more) ∙ fold-append (state_after (tree_in a)) start (events_in a) (trail_of p.more)

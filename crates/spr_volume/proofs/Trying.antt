@@ -12,14 +12,14 @@ use Rattle.stack_engine.specs.declared.moved.Moved.{Moved}
 use Rattle.stack_engine.specs.declared.moved.Moved.TheVariants.{Busy, Done, Stepped}
 use Rattle.stack_engine.specs.declared.refusal.StepErr.{StepErr}
 use Rattle.stack_engine.specs.declared.refusal.StepErr.TheVariants.{StoreFault, TrailFull, Memory}
-use Rattle.stack_engine.specs.Engine.{EngineSeen, IsSound, events_in, log_in}
+use Rattle.stack_engine.specs.Engine.{EngineSeen, IsSound, events_in, log_in, state_in}
 use Rattle.stack_engine.specs.Messages.{IsPageMessage}
 use Rattle.stack_engine.specs.Moves.{FindsZeros, IsRefused, Sends, StandsFor, bytes_to}
 use Rattle.stack_engine.specs.Tower.{Advances, AdvancesSync, Fails, IsDone, TowerSeen}
 use Rattle.stack_engine.proofs.Planning.{plan_kind, sync_kind}
 use Rattle.spr_volume.specs.TowerCalls.{Moves, Refuses, Tries, access_of, sync_of}
 use Rattle.spr_volume.specs.Later.{IsLater}
-use Rattle.spr_volume.proofs.Laters.{IsTry, later_trans, later_try, noted_by, try_entered, try_none, try_refused}
+use Rattle.spr_volume.proofs.Laters.{IsTry, later_trans, later_try, noted_by, try_entered, try_none, try_refused, unanswered}
 
 -- MESSAGES are nobody's
 
@@ -51,7 +51,7 @@ module _ (caller : ℕ) (event : Event) (old new : EngineSeen) (out : List ℕ) 
   sent : (asked message : Event) → IsPageMessage asked → Sends asked old new message → IsTried caller event old new out (Ok (Stepped message))
   sent asked message kind sends = record {
     last = _;
-    is_try = try_entered _ old new sends.enters;
+    is_try = try_entered _ old new sends.enters (unanswered (state_in old) message (stands_quiet old new asked message kind sends.stands));
     moves = (_, refl, refl, stands_quiet old new asked message kind sends.stands);
   }
 
@@ -69,7 +69,7 @@ module _ (caller number node life : ℕ) (op : Op) (old new : TowerSeen) (out : 
       → IfErr r (Fails caller old new) → IsTried caller (access_of caller node life op (events_in old.engine)) old.engine new.engine out r
   tried_access (Ok (Done answer)) hits bytes fails = record {
     last = _;
-    is_try = try_entered _ old.engine new.engine hits.makes.enters;
+    is_try = try_entered _ old.engine new.engine hits.makes.enters (ap Some hits.makes.is);
     moves = (_, refl, record { event_is = ap (λ (n : ℕ). events.Access caller n node life op) number_is; answer_is = refl; bytes = λ read. sym (bytes read) });
   }
   tried_access (Ok (Stepped message)) steps bytes fails =
@@ -83,7 +83,7 @@ module _ (caller number node from : ℕ) (keep : Keep) (old new : TowerSeen) (nu
       → IsTried caller (sync_of caller node from keep (events_in old.engine)) old.engine new.engine [] r
   tried_sync (Ok (Done answer)) syncs fails = record {
     last = _;
-    is_try = try_entered _ old.engine new.engine syncs.enters;
+    is_try = try_entered _ old.engine new.engine syncs.enters refl;
     moves = (_, refl, record { event_is = ap (λ (n : ℕ). events.Synced caller n node from keep) number_is; answer_is = ap Some (sym syncs.is); bytes = λ read. refl });
   }
   tried_sync (Ok (Stepped message)) settles fails =

@@ -1,15 +1,22 @@
 -- The same file later on.
-use Rattle.std.specs.Prelude.{◌≡◌, ◌⊎◌, ℕ, ◌<◌, ◌≤◌, List, [], ◌++◌, length, is_some, Option, Some, None, IfSome, Contains}
+use Rattle.std.specs.Prelude.{◌≡◌, ◌⊎◌, ℕ, ◌+◌, ◌<◌, ◌≤◌, List, [], ◌∷◌, ◌++◌, length, is_some, Option, Some, None, Contains}
 use Rattle.std.specs.List.{AllByRecursion}
+use Rattle.hist_plain.specs.declared.event.Answer.{Answer}
+use Rattle.hist_plain.specs.declared.event.Answer.TheVariants as answers
+use Rattle.hist_plain.specs.declared.event.Event.{Event}
+use Rattle.hist_plain.specs.declared.event.Event.TheVariants as events
 use Rattle.disk_format.specs.Image.{Imaged}
 use Rattle.disk_layer.specs.Seen.{Seen, faults_in, held_in, is_up_in, live_in, numbers_in, opened_in, pages_in}
 use Rattle.disk_layer.specs.Seen.{kept_in as kept_on}
+use Rattle.tower_core.specs.Trail.{State, state_after}
+use Rattle.tower_core.specs.TreeShape.{TreeShape}
 use Rattle.tower_log.specs.declared.logged.Logged.{Logged}
 use Rattle.tower_log.specs.declared.logged.Logged.TheVariants.{Entered, Noted}
 use Rattle.tower_log.specs.Notes.{counts_of}
 use Rattle.page_exchange.specs.Tables.{IsSameFile}
 use Rattle.tower_shows.specs.Since.{AreSince}
-use Rattle.stack_engine.specs.Engine.{EngineSeen, events_in, file_in, log_in, tree_in}
+use Rattle.stack_engine.specs.Engine.{EngineSeen, events_in, file_in, log_in, state_in, tree_in}
+use Rattle.stack_engine.specs.Moves.{answer_to}
 use Rattle.stack_engine.specs.Opened.{IsOf, KeepsSince, last_from}
 
 -- this disk alone is live
@@ -22,8 +29,15 @@ abbrev pub IsNoteOf : List ℕ → Logged → Type 0
 IsNoteOf disks (Entered entry) = Unit {0}
 IsNoteOf disks (Noted note) = Contains disks note.disk
 
+-- how many notes there are
+abbrev pub notes_in : List Logged → ℕ
+notes_in [] = 0
+notes_in (Entered entry ∷ log) = notes_in log
+notes_in (Noted note ∷ log) = notes_in log + 1
+
 -- THE DISKS LATER ON, after these things of the log. They are the same ones, those were opened that were, and what they kept is told if it was. No disk gets live, some
 -- disk is live if one was, and one that is so no more has failed since. The counts of faults rise, and each note is of a disk that was live.
+-- Each disk that is live at the end failed once at least for each note: a fault that another disk masked is not told.
 pub record AreLater (more : List Logged) (old new : Seen) : Type 0 where
   pub disks : numbers_in new.disks ≡ numbers_in old.disks
   pub up : (disk : ℕ) → is_up_in new.disks disk ≡ is_up_in old.disks disk
@@ -34,6 +48,7 @@ pub record AreLater (more : List Logged) (old new : Seen) : Type 0 where
   pub faults : (disk : ℕ) → faults_in old.disks disk ≤ faults_in new.disks disk
   pub opened : (disk : ℕ) → opened_in new.disks disk ≡ opened_in old.disks disk
   pub notes : AllByRecursion (IsNoteOf (live_in old.disks)) more
+  pub paid : (disk : ℕ) → Contains (live_in new.disks) disk → faults_in old.disks disk + notes_in more ≤ faults_in new.disks disk
 
 -- what a disk keeps until a sync is completed: what it kept when this was told, or pages as they were at some place since
 abbrev pub KeepsFirst : List ℕ → Option (Option Imaged) → EngineSeen → ℕ → Type 0
@@ -53,6 +68,21 @@ pub record IsTurned (opening : List ℕ) (first now : Option Imaged) (e : Engine
 abbrev pub TurnsFirst : List ℕ → Option Imaged → EngineSeen → ℕ → Type 0
 TurnsFirst opening first e disk = (held_in e.ground.disks disk ≡ first) ⊎ IsTurned opening first (held_in e.ground.disks disk) e
 
+-- what an event is answered where the lives of the nodes are these, without the bytes of a read: an access by the life of its node, a page
+-- message not at all, and every other event by `done`
+abbrev pub answer_by : State → Event → Option Answer
+answer_by s (events.Access caller number node life op) = Some (answer_to (s.life node) life op)
+answer_by s (events.DestroyCache caller number node) = Some answers.Done
+answer_by s (events.DonePager caller number node) = Some answers.Done
+answer_by s (events.Synced caller number node from keep) = Some answers.Done
+answer_by s event = None
+
+-- each of these things of the log, which follow a state, is answered so
+abbrev pub AreAnswered : TreeShape → State → List Logged → Type 0
+AreAnswered tree s [] = Unit {0}
+AreAnswered tree s (Entered entry ∷ log) = (entry.answer ≡ answer_by s entry.event) × AreAnswered tree (state_after tree s entry.event) log
+AreAnswered tree s (Noted note ∷ log) = AreAnswered tree s log
+
 -- THE SAME FILE LATER ON
 pub record IsLater (old new : EngineSeen) : Type 0 where
   pub file : IsSameFile old.tables new.tables
@@ -60,6 +90,8 @@ pub record IsLater (old new : EngineSeen) : Type 0 where
   pub more : List Logged
   pub log : log_in new ≡ log_in old ++ more
   pub disks : AreLater more old.ground new.ground
+  -- whatever lies under the file
+  pub answered : AreAnswered (tree_in old) (state_in old) more
   -- if one disk alone is live, its count rises only with a note of it
   pub calm : (disk : ℕ) → IsOnDisk disk old.ground → counts_of disk more ≡ [] → faults_in new.ground.disks disk ≡ faults_in old.ground.disks disk
   pub kept : (opening : List ℕ) (first : Option (Option Imaged)) (disk : ℕ) → IsOf opening old → Contains (live_in new.ground.disks) disk

@@ -1,6 +1,5 @@
 pub mod Calls
 pub mod Passes
-pub mod Sample
 pub mod Later
 pub mod TowerShared
 pub mod TowerCalls
@@ -8,6 +7,5 @@ pub mod FilePasses
 pub mod Holds
 pub mod FileCalls
 pub mod Rows
-pub mod FileSample
 pub mod NamesCalls
 pub mod NamesShared

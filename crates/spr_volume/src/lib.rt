@@ -27,10 +27,3 @@ pub use name_context::{NameErr, Names, Stored};
 pub use shared_files::{FilesPass, SharedFiles};
 pub use shared_tower::SharedTower;
 pub use stack_engine::StepErr as CallErr;
-
-#[cfg(test)]
-mod file_tests;
-#[cfg(test)]
-mod tests;
-#[cfg(test)]
-mod tower_tests;

@@ -1,5 +1,6 @@
 -- An access, or the end of a sync, that was made and stands in the log.
-use Rattle.std.proofs.Common.{◌≡◌, ◌≢◌, ◌⊎◌, inl, inr, ℕ, ◌<◌, ◌||◌, ◌==◌, Bool, true, false, cond, List, [], ◌∷◌, ◌++◌, length, take, drop, replicate, Option, Some, None, refl, sym, ap, subst, ◌∙◌, arith}
+use Rattle.std.proofs.Common.{◌≡◌, ◌≢◌, ◌⊎◌, inl, inr, ℕ, ◌<◌, ◌≤◌, ◌||◌, ◌==◌, Bool, true, false, cond, List, [], ◌∷◌, ◌++◌, length, take, drop, replicate, Option, Some, None, refl, sym, ap, subst, ◌∙◌, arith}
+use Rattle.std.proofs.lemmas.Bool.{cases_lt}
 use Rattle.std.proofs.lemmas.Bool.Decides.{eqb_tells}
 use Rattle.hist_plain.specs.declared.TheConstants.{MAX_EVENTS}
 use Rattle.hist_plain.specs.declared.event.Answer.{Answer}
@@ -16,7 +17,7 @@ use Rattle.disk_layer.specs.Seen.{AllKept, Seen}
 use Rattle.tower_core.specs.declared.sheet.Sheet.{Sheet}
 use Rattle.tower_core.specs.declared.step.Step.{Step}
 use Rattle.tower_core.specs.declared.step.Step.TheVariants.{Reads, Untouched, Writes}
-use Rattle.std.specs.Prelude.{slice_index_or}
+use Rattle.std.specs.Prelude.{max, slice_index_or, unwrap_or}
 use Rattle.tower_core.specs.Sheet.{nodes_of, pages_of, seen}
 use Rattle.tower_core.specs.Legal.{IsFilled, file_after, plain_shape}
 use Rattle.tower_core.specs.TreeShape.{TreeShape, frames_of}
@@ -25,7 +26,7 @@ use Rattle.tower_core.specs.Trail.{of_page, state_after, state_of, step_of, step
 use Rattle.layer_laws.specs.Sent.{AreBrought}
 use Rattle.layer_laws.specs.Side.{Side}
 use Rattle.layer_laws.specs.Granted.{is_grant_of}
-use Rattle.layer_laws.specs.PlacesShown.{access_next, answer_next, page_next, told_bytes}
+use Rattle.layer_laws.specs.PlacesShown.{access_next, answer_next, page_next, page_shown, told_bytes}
 use Rattle.page_exchange.specs.Ground.{IsCalmCall, IsOneCall, Tells, pages_given}
 use Rattle.page_exchange.specs.Steps.{AreSentAt, given_up}
 use Rattle.vmm_cache.specs.Used.{AreUses}
@@ -38,12 +39,13 @@ use Rattle.tower_shows.specs.Began.{BeganWith, IsStepOn, IsTrueTo}
 use Rattle.tower_shows.proofs.Likes.{like_same}
 use Rattle.tower_shows.proofs.Rights.{rights_step}
 use Rattle.tower_shows.proofs.Bytes.{bytes_step}
-use Rattle.tower_shows.proofs.Stays.{ground_synced}
+use Rattle.tower_shows.proofs.Stays.{ground_stays, ground_synced}
+use Rattle.tower_shows.specs.Since.{GroundIsSince, IsSince}
 use Rattle.tower_shows.proofs.Tells.{tells_done, tells_life, tells_revoked, told_clear, told_read, told_write}
 use Rattle.stack_engine.specs.Accesses.{IsStill}
 use Rattle.stack_engine.specs.Engine.{EngineSeen, IsEngine, IsNext, IsSound, events_in, file_in, log_in, sides_in, state_in, tree_in, uses_in}
 use Rattle.stack_engine.specs.Moves.{Enters, Makes, answer_to, bytes_to}
-use Rattle.stack_engine.specs.Opened.{IsOf, from_after, last_from}
+use Rattle.stack_engine.specs.Opened.{IsOf, IsSynced, from_after, last_from}
 use Rattle.stack_engine.proofs.Entering.{granted_entered, of_entered, of_synced, sheet_entered, sound_entered}
 use Rattle.stack_engine.proofs.Rooms.{roomy}
 use Rattle.stack_engine.proofs.Sending.{IsBooked}
@@ -253,6 +255,35 @@ module _ (old new : EngineSeen) (sound : IsSound old) (caller number node life :
 
 -- THE END OF A SYNC
 
+-- pages since two places are since the later one
+since_later : (shape : TreeShape) (size pages : ℕ) (opening : List ℕ) (trail : List Event) (a b : ℕ) → GroundIsSince shape size pages opening trail a → GroundIsSince shape size pages opening trail b → GroundIsSince shape size pages opening trail (max a b)
+since_later shape size pages opening trail a b one other page place inside low high = by (cases_lt a b)
+  where
+    by : (a < b) ⊎ (b ≤ a) → IsSince shape size opening trail (max a b) page (page_shown shape size opening trail page place)
+    by (inl lt) =
+        let s : IsSince shape size opening trail b page (page_shown shape size opening trail page place) = other page place inside low high in
+        let from = s.not_before in
+        record { place = s.place; not_before = omega (arith, lt, from); not_after = s.not_after; is = s.is }
+    by (inr le) =
+        let s : IsSince shape size opening trail a page (page_shown shape size opening trail page place) = one page place inside low high in
+        let from = s.not_before in
+        record { place = s.place; not_before = omega (arith, le, from); not_after = s.not_after; is = s.is }
+
+-- the ground is since the latest completed sync also behind the next event
+module _ (old : EngineSeen) (event : Event) (sound : IsSound old) (next : IsNext old event) (opening : List ℕ) (of : IsOf opening old) where
+  record Latest (from : ℕ) : Type 0 where
+    pub reached : from ≤ length (events_in old)
+    pub ground : GroundIsSince (tree_in old) (file_in old).page_size (file_in old).pages opening (events_in old ++ event ∷ []) from
+
+  latest : (o : Option ℕ) → last_from (events_in old) ≡ o → Latest (unwrap_or o 0)
+  latest None none = record { reached = omega arith; ground = λ page place inside low high. record { place = place; not_before = omega arith; not_after = high; is = refl } }
+  latest (Some from) last =
+      let s : IsSynced opening old from = of.synced from last in
+      record {
+        reached = let r = s.reached in omega (arith, r);
+        ground = ground_stays (tree_in old) (file_in old).page_size (file_in old).pages opening (events_in old) (sides_in old) event from sound.true_to next s.reached s.ground;
+      }
+
 pub synced_enters : (old new : EngineSeen) (caller number node from : ℕ) (keep : Keep) → IsSound old
     → IsMade old new (record { event = events.Synced caller number node from keep; answer = Some answers.Done; bytes = [] }) caller 0 Untouched None
     → IsCalmCall old.ground new.ground → new.ground.pages ≡ old.ground.pages → AllKept new.ground new.ground.pages
@@ -262,11 +293,14 @@ synced_enters old new caller number node from keep sound m calm pages kept = rec
     file = m.file;
     call = m.call;
     of = λ opening of.
+        let l = latest old (events.Synced caller number node from keep) sound m.next opening of (last_from (events_in old)) refl in
+        let upto = l.reached in
         of_synced old new (record { event = events.Synced caller number node from keep; answer = Some answers.Done; bytes = [] }) sound m.file m.log m.next m.few m.call (made_true old new (record { event = events.Synced caller number node from keep; answer = Some answers.Done; bytes = [] }) caller 0 Untouched None sound m) opening of
         (made_began old new (record { event = events.Synced caller number node from keep; answer = Some answers.Done; bytes = [] }) caller 0 Untouched None sound m opening of tt refl pages (λ base tells. tt))
         (λ p none grant. absurd (let both : false ≡ true = grant in cc)) refl
-        from refl (omega (arith, m.next.allowed.line.0, trail_len (tree_in old) (events_in old)))
-        (ground_synced (tree_in old) (file_in old).page_size (file_in old).pages opening (events_in old) (sides_in old) old.ground.pages caller number node from keep sound.true_to of.began m.next)
+        (max (unwrap_or (last_from (events_in old)) 0) from) refl (omega (arith, upto, m.next.allowed.line.0, trail_len (tree_in old) (events_in old)))
+        (since_later (tree_in old) (file_in old).page_size (file_in old).pages opening (events_in old ++ events.Synced caller number node from keep ∷ []) (unwrap_or (last_from (events_in old)) 0) from l.ground
+        (ground_synced (tree_in old) (file_in old).page_size (file_in old).pages opening (events_in old) (sides_in old) old.ground.pages caller number node from keep sound.true_to of.began m.next))
         kept;
   };
   log = m.log;

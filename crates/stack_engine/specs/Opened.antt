@@ -1,6 +1,6 @@
 -- What an engine's log, copies and disks have to do with the file that its trail began with, where the ground tells its
 -- pages.
-use Rattle.std.specs.Prelude.{◌≡◌, ℕ, ◌≤◌, List, take, slice_get, Option, Some, None, IfSome, Contains}
+use Rattle.std.specs.Prelude.{◌≡◌, ℕ, ◌≤◌, max, List, take, slice_get, unwrap_or, Option, Some, None, IfSome, Contains}
 use Rattle.std.specs.List.{fold}
 use Rattle.hist_plain.specs.declared.event.Event.{Event}
 use Rattle.hist_plain.specs.declared.event.Event.TheVariants as events
@@ -27,9 +27,10 @@ abbrev pub AreAnswers : TreeShape → ℕ → List ℕ → List Logged → Type 
 AreAnswers shape size opening log = (place : ℕ) (entry : Entry) → slice_get (entries_of log) place ≡ Some entry
     → reply (plain_shape shape size) (file_after shape size opening (take place (trail_of log))) entry.event ≡ told_by entry
 
--- from which place on the last completed sync has written the file
+-- the latest place that a completed sync is from: each completed sync has written the file as it was at its own place or later, and syncs of
+-- several callers may end in another order than they began
 abbrev pub from_after : Option ℕ → Event → Option ℕ
-from_after found (events.Synced caller number node from keep) = Some from
+from_after found (events.Synced caller number node from keep) = Some (max (unwrap_or found 0) from)
 from_after found event = found
 
 abbrev pub last_from : List Event → Option ℕ
@@ -40,7 +41,7 @@ abbrev pub KeepsSince : TreeShape → ℕ → List ℕ → List Event → ℕ �
 KeepsSince shape size opening trail from kept =
     IfSome (pages_in kept) (λ pages. (ps : List (List ℕ)) × (pages ≡ Some ps) × AreSince shape size opening trail from ps)
 
--- WHAT A SYNC LEFT: from its own place on the ground shows the file as it was then or later, and so does what each live
+-- WHAT THE SYNCS LEFT that were completed: from the latest place that one is from on the ground shows the file as it was then or later, and so does what each live
 -- disk keeps; and an opened disk that has other pages has a lower generation than each live one
 pub record IsSynced (opening : List ℕ) (e : EngineSeen) (from : ℕ) : Type 0 where
   pub reached : from ≤ place_of (log_in e)

@@ -19,6 +19,3 @@ pub use refusal::StepErr;
 pub use tower::Tower;
 pub use tower_log::{Entry, Logged, Note, Trail};
 pub use turns::{Turn, TurnOf};
-
-#[cfg(test)]
-mod tests;

@@ -1,0 +1,613 @@
+-- A run in which nothing failed ends well, or memory ran out.
+use Rattle.std.proofs.Common.{◌≡◌, ◌⊎◌, ⊎_elim, inl, inr, ℕ, suc, ◌-◌, ◌^◌, ◌<◌, ◌≤◌, ◌==◌, Bool, true, false, cond, List, [], ◌∷◌, ◌++◌, length, Option, Some, None, refl, sym, ap, subst, ◌∙◌, arith}
+use Rattle.std.specs.Prelude.{◌||◌, slice_get, filter, Err, Ok, Result, IfSome, take, unwrap_or}
+use Rattle.std.proofs.lemmas.Bool.{eq-eqb}
+use Rattle.std.specs.List.{AllByRecursion, list_any, list_all}
+use Rattle.std.specs.Option.{option_map}
+use Rattle.std.proofs.lemmas.Option.{slice_get_within}
+use Rattle.hist_plain.specs.declared.event.Answer.{Answer}
+use Rattle.hist_plain.specs.declared.event.Answer.TheVariants as answers
+use Rattle.hist_plain.specs.declared.event.Event.{Event}
+use Rattle.hist_plain.specs.declared.event.Event.TheVariants as events
+use Rattle.hist_plain.specs.History.{is_by}
+use Rattle.hist_plain.specs.Plain.{Told}
+use Rattle.hist_plain.specs.declared.event.Op.{Op}
+use Rattle.hist_plain.specs.declared.event.Op.TheVariants as ops
+use Rattle.hist_plain.specs.declared.event.Keep.{Keep}
+use Rattle.hist_plain.specs.declared.event.Keep.TheVariants as keeps
+use Rattle.hist_plain.specs.Event.{fits_page}
+use Rattle.hist_plain.specs.Plain as plainly
+use Rattle.script_text.specs.declared.script.Script.{Script}
+use Rattle.script_text.specs.declared.script.Said.{Said}
+use Rattle.script_text.specs.declared.script.Call.{Call}
+use Rattle.script_text.specs.declared.script.Call.TheVariants as lines
+use Rattle.script_text.specs.declared.script.CallLine.{CallLine}
+use Rattle.script_text.specs.declared.script.ClientLine.{ClientLine}
+use Rattle.script_text.specs.declared.script.Reply.{Reply}
+use Rattle.script_text.specs.declared.script.Reply.TheVariants as replies
+use Rattle.stack_accept.specs.declared.entries.FileEntry.{FileEntry}
+use Rattle.stack_accept.specs.Mount.{Mount}
+use Rattle.tower_core.specs.Legal.{file_after, plain_shape}
+use Rattle.tower_core.specs.TreeShape.{TreeShape}
+use Rattle.tower_log.specs.declared.logged.Entry.{Entry}
+use Rattle.tower_log.specs.declared.logged.Logged.{Logged}
+use Rattle.tower_log.specs.declared.logged.Logged.TheVariants.{Entered, Noted}
+use Rattle.tower_log.specs.Log.{bytes_with, entries_of, place_of, told_by, trail_of}
+use Rattle.tower_log.specs.Notes.{Rises, counts_of}
+use Rattle.name_context.specs.declared.entry.NameCall.TheVariants as names_calls
+use Rattle.name_context.specs.declared.entry.NameErr.{NameErr}
+use Rattle.name_context.specs.declared.entry.NameErr.TheVariants as refusals
+use Rattle.name_context.specs.Names.{Name, kept_at}
+use Rattle.name_context.specs.Listed.{listed}
+use Rattle.client_objects.specs.declared.state.ClientState.{ClientState}
+use Rattle.client_objects.specs.declared.target.Target.{Target}
+use Rattle.client_objects.specs.Objects.{object_of}
+use Rattle.client_objects.specs.Stored.{received}
+use Rattle.memory_object.specs.declared.binding.CacheRights.{CacheRights}
+use Rattle.vmm_space.specs.declared.regions.Region.{Region}
+use Rattle.vmm_space.specs.declared.regions.Place.{Place}
+use Rattle.vmm_space.specs.declared.why.SpaceErr.{SpaceErr}
+use Rattle.vmm_space.specs.declared.why.SpaceErr.TheVariants as spaces
+use Rattle.vmm_space.specs.declared.why.TranslateErr.{TranslateErr}
+use Rattle.vmm_space.specs.declared.why.TranslateErr.TheVariants as places
+use Rattle.vmm_space.specs.Spaces.{has_region, refusal, translation, without_region}
+use Rattle.run_defs.specs.declared.store.StoreKey.{StoreKey}
+use Rattle.run_defs.specs.Log.{Histories, IsFull, Item, by_caller, entered, items, items_from, log_at, noted, who}
+use Rattle.run_defs.specs.Plan.{Asks, Goes, Made, NamesAsk, NamesTold, Plan, Refuses, Request, access, asking, asking_names, at_file, binding, calls, asks_names, ends, loading, mapping, node_at, plan, plan_access, plan_bind_as, plan_bound, plan_call, plan_copy, plan_done, plan_drop, plan_found, plan_map, plan_named, plan_names, plan_open, plan_place, plan_sync, refused_as, region_of, reply_of, rights_at, start_state, storing, sub_id, sync, told_names, unknown, unless_refused, unless_unmappable, with_names}
+use Rattle.run_defs.specs.Stack.{file_named, pages_of, view_of}
+use Rattle.run_defs.specs.Fits.{Acts, AllGoOn, ClientsFit, Closes, Did, Does, InOrder, Line, Phased, last_cut, lines_of, made_on, no_client, plan_closing}
+use Rattle.run_defs.proofs.Logs.{items-more}
+use Rattle.run_defs.proofs.Parts.{full_later}
+use Rattle.spr_io.specs.Berth.{BaySeen}
+use Rattle.spr_io.specs.Content.{Content}
+use Rattle.spr_report.specs.declared.status.Status.{Status}
+use Rattle.spr_report.specs.declared.status.Status.TheVariants as statuses
+use Rattle.disk_format.specs.declared.image.Image.{Image}
+use Rattle.disk_format.specs.declared.shape.ImageShape.{ImageShape}
+use Rattle.disk_format.specs.declared.why.BadImage.{BadImage}
+use Rattle.disk_format.specs.Image.{Imaged, front_of, image}
+use Rattle.disk_format.specs.Image as images
+use Rattle.disk_format.specs.VersionOne.{image_in}
+use Rattle.mirror_rules.specs.Tree.{Seat}
+use Rattle.mirror_rules.specs.Tree as machine
+use Rattle.mirror_rules.specs.Claims.{Nth, Pairs, nth_here, nth_later, pairs_more, pairs_none}
+use Rattle.mirror_rules.specs.Fates.{Blamed, blamed_here, blamed_later}
+use Rattle.mirror_rules.specs.Opening.{Bad, Good, Lost}
+use Rattle.mirror_layer.specs.View.{Beside}
+use Rattle.mirror_layer.specs.Stores.{Left, Stored, stored}
+use Rattle.mirror_layer.specs.Stores as mirrors
+use Rattle.mirror_layer.specs.Bringing.{Brought, Lies, RefusedOver, bad_store, brought, lies, refused}
+use Rattle.mirror_layer.specs.declared.refuse.Refusal.{Refusal}
+use Rattle.mirror_layer.specs.declared.refuse.Refusal.TheVariants as refusals'
+use Rattle.file_stores.specs.State.{RoseBy}
+use Rattle.file_stores.specs.Held.{StoreSeen}
+use Rattle.file_stores.specs.Files.{FileSeen, IsFile}
+use Rattle.file_stores.proofs.Lists.{some-is, there}
+use Rattle.file_stores.specs.Guards.{HoldImages}
+use Rattle.file_stores.specs.Keys.{stores_of}
+use Rattle.file_stores.specs.Opening.{IsUnopened, IsUnopenedOne, content_of, faults_of, refused_by, shape_of_file, unopened_many, unopened_one}
+use Rattle.file_stores.specs.Stop.{stop_status}
+use Rattle.file_stores.specs.Stops.{Untaken}
+use Rattle.file_stores.specs.declared.stop.Stop.{Stop}
+use Rattle.file_stores.specs.declared.stop.Stop.TheVariants as stops
+use Rattle.file_stores.proofs.FileLaws.{file-number}
+use Rattle.run_files.specs.Ended.{any_lost, has_fault, is_done, is_fault, is_memory, lacks_memory, status_by, status_of}
+use Rattle.run_files.specs.Held.{IsUnheld}
+use Rattle.run_files.specs.Run.{IsOfDisks, IsOfFile, LeavesFile, NotRun, Played, Store, before_all, leaves_many, leaves_one, ran_out, reported, stopped, unopened, untaken}
+use Rattle.run_laws.specs.Sound.{AreNotFull, AreStoresSound, HadImages, IsBaySound, SoundRunEndsWell}
+use Rattle.run_files.proofs.TurnLaws.{file-key}
+
+-- COUNTS THAT STAND STILL
+rises-up : (before now : ℕ) (counts : List ℕ) → Rises before now counts → before ≤ now
+rises-up before now [] rises = rises
+rises-up before now (count ∷ counts) rises = let up = rises-up count now counts rises.1 in let here = rises.0 in omega (arith, up, here)
+
+still-counts : (before now : ℕ) (counts : List ℕ) → Rises before now counts → now ≡ before → counts ≡ []
+still-counts before now [] rises same = refl
+still-counts before now (count ∷ counts) rises same = let up = rises-up count now counts rises.1 in let here = rises.0 in absurd (omega (arith, up, here, same))
+
+-- no note stands in the log
+abbrev NoNote : Logged → Type 0
+NoNote (Entered entry) = Unit {0}
+NoNote (Noted note) = ⊥
+
+-- A SYNC IS ANSWERED BY `done`
+abbrev SyncDone : Event → Option Told → Type 0
+SyncDone (events.Synced caller number node from keep) told = (t : Told) → told ≡ Some t → t.answer ≡ answers.Done
+SyncDone event told = Unit {0}
+
+-- a log in which no store failed says only events, and each sync is done
+abbrev Quiet : Item → Type 0
+Quiet (entered e) = SyncDone e.event e.told
+Quiet (noted caller disk count) = ⊥
+
+abbrev AreQuiet : List Item → Type 0
+AreQuiet is = AllByRecursion Quiet is
+
+quiet-left : (xs ys : List Item) → AreQuiet (xs ++ ys) → AreQuiet xs
+quiet-left [] ys all = tt
+quiet-left (x ∷ xs) ys all = (all.0, quiet-left xs ys all.1)
+
+quiet-right : (xs ys : List Item) → AreQuiet (xs ++ ys) → AreQuiet ys
+quiet-right [] ys all = all
+quiet-right (x ∷ xs) ys all = quiet-right xs ys all.1
+
+quiet-filter : (test : Item → Bool) (xs : List Item) → AreQuiet xs → AreQuiet (filter test xs)
+quiet-filter test [] all = tt
+quiet-filter test (x ∷ xs) all = by (test x) (quiet-filter test xs all.1)
+  where
+    by : (b : Bool) → AreQuiet (filter test xs) → AreQuiet (cond b (x ∷ filter test xs) (filter test xs))
+    by true rest = (all.0, rest)
+    by false rest = rest
+
+-- the histories say only such things, and none is full
+record Calm (h : Histories) : Type 0 where
+  quiet : (file : ℕ) → AreQuiet (items (log_at h file))
+  room : (file : ℕ) → IsFull h file → ⊥
+
+calm-before : (old new : Histories) → AllGoOn old new → Calm new → Calm old
+calm-before old new on calm = record {
+  quiet = λ file. let more = (on.logs file).more in
+      quiet-left (items (log_at old file)) (items_from (place_of (log_at old file)) more)
+      (subst AreQuiet (items-more (log_at old file) more) (subst (λ (l : List Logged). AreQuiet (items l)) (on.logs file).log (calm.quiet file)));
+  room = λ file full. calm.room file (full_later old new on file full);
+}
+
+-- WHAT WAS MADE
+abbrev QuietMade : List Made → Type 0
+QuietMade [] = Unit {0}
+QuietMade (at_file file item ∷ made) = Quiet item × QuietMade made
+QuietMade (with_names item ∷ made) = QuietMade made
+
+made-here : (file : ℕ) (item : Item) (made : List Made) → AreQuiet (made_on file (at_file file item ∷ made)) → Quiet item
+made-here file item made all = by (file == file) (eq-eqb file file refl) all
+  where
+    by : (b : Bool) → b ≡ true → AreQuiet (cond b (item ∷ []) [] ++ made_on file made) → Quiet item
+    by true is all = all.0
+    by false is all = absurd cc
+
+made-quiet : (made : List Made) → ((file : ℕ) → AreQuiet (made_on file made)) → QuietMade made
+made-quiet [] all = tt
+made-quiet (at_file file item ∷ made) all =
+    (made-here file item made (all file), made-quiet made (λ other. quiet-right (cond (file == other) (item ∷ []) []) (made_on other made) (all other)))
+made-quiet (with_names item ∷ made) all = made-quiet made all
+
+did-quiet : (caller : ℕ) (old new : Histories) (made : List Made) → Did caller old new made → Calm new → QuietMade made
+did-quiet caller old new made did calm =
+    made-quiet made
+    (λ file.
+    quiet-right (by_caller caller (items (log_at old file))) (made_on file made)
+    (subst AreQuiet (did.part file) (quiet-filter (λ i. is_by caller (who i)) (items (log_at new file)) (calm.quiet file))))
+
+quiet-first : (xs ys : List Made) → QuietMade (xs ++ ys) → QuietMade xs
+quiet-first [] ys all = tt
+quiet-first (at_file file item ∷ xs) ys all = (all.0, quiet-first xs ys all.1)
+quiet-first (with_names item ∷ xs) ys all = quiet-first xs ys all
+
+quiet-rest : (xs ys : List Made) → QuietMade (xs ++ ys) → QuietMade ys
+quiet-rest [] ys all = all
+quiet-rest (at_file file item ∷ xs) ys all = quiet-rest xs ys all.1
+quiet-rest (with_names item ∷ xs) ys all = quiet-rest xs ys all
+
+-- PLANS that end with no answer of a fault
+abbrev EndsCalm : Plan → Type 0
+EndsCalm (ends reply state) = is_fault reply ≡ false
+EndsCalm (calls request state go_on) = (told : Told) → EndsCalm (go_on told)
+EndsCalm (asks_names ask state go_on) = (told : NamesTold) → EndsCalm (go_on told)
+EndsCalm unknown = Unit {0}
+
+refused-calm : (Full : Type 0) (said : Reply) → (Full → ⊥) → Refuses Full said → is_fault said ≡ false
+refused-calm Full replies.TrailFull none refuses = absurd (none refuses)
+refused-calm Full replies.Memory none refuses = refl
+refused-calm Full _ none refuses = absurd refuses
+
+goes-calm : (Full : ℕ → Type 0) → ((file : ℕ) → Full file → ⊥) → (caller : ℕ) (p : Plan) (made : List Made) (said : Reply) (after_it : ClientState) → EndsCalm p → QuietMade made → Goes Full caller p made said after_it → is_fault said ≡ false
+goes-calm Full none caller (ends reply state) [] said after_it calm quiet goes = ap is_fault goes.0 ∙ calm
+goes-calm Full none caller (ends reply state) (m ∷ made) said after_it calm quiet goes = absurd goes
+goes-calm Full none caller (calls request state go_on) [] said after_it calm quiet goes = refused-calm (Full request.file) said (none request.file) goes.0
+goes-calm Full none caller (calls request state go_on) (at_file at (entered e) ∷ made) said after_it calm quiet goes =
+    goes-calm Full none caller (go_on goes.1.1.0) made said after_it (calm goes.1.1.0) quiet.1 goes.1.1.2
+goes-calm Full none caller (calls request state go_on) (at_file at (noted by disk count) ∷ made) said after_it calm quiet goes = absurd quiet.0
+goes-calm Full none caller (calls request state go_on) (with_names item ∷ made) said after_it calm quiet goes = absurd goes
+goes-calm Full none caller (asks_names ask state go_on) [] said after_it calm quiet goes = ap is_fault goes.0
+goes-calm Full none caller (asks_names ask state go_on) (at_file at item ∷ made) said after_it calm quiet goes = absurd goes
+goes-calm Full none caller (asks_names ask state go_on) (with_names item ∷ made) said after_it calm quiet goes =
+    goes-calm Full none caller (go_on (told_names item)) made said after_it (calm (told_names item)) quiet goes.1
+goes-calm Full none caller unknown made said after_it calm quiet goes = absurd goes
+
+told-calm : (told : Told) → is_fault (reply_of told) ≡ false
+told-calm told = by told.answer told.bytes
+  where
+    by : (answer : Answer) (bytes : List ℕ) → is_fault (reply_of (record { answer = answer; bytes = bytes })) ≡ false
+    by answers.Bytes bytes = refl
+    by answers.Done bytes = refl
+    by (answers.Life life) bytes = refl
+    by (answers.Revoked life) bytes = refl
+
+refusal-calm : (path : Option (List (List ℕ))) (why : NameErr) → is_fault (refused_as path why) ≡ false
+refusal-calm path (refusals.NotBound part) = refl
+refusal-calm path (refusals.AlreadyBound part) = refl
+refusal-calm path (refusals.NotContext part) = refl
+refusal-calm path (refusals.NotObject part) = refl
+refusal-calm path refusals.Memory = refl
+
+unless-calm : (state : ClientState) (path : Option (List (List ℕ))) (refused : Option NameErr) (onward : Plan) → EndsCalm onward → EndsCalm (unless_refused state path refused onward)
+unless-calm state path (Some why) onward calm = refusal-calm path why
+unless-calm state path None onward calm = calm
+
+names-calm : (state : ClientState) (ask : NamesAsk) (go_on : List Name → Plan) → ((names : List Name) → EndsCalm (go_on names)) → EndsCalm (plan_names state ask go_on)
+names-calm state ask go_on calm = λ told. unless-calm state ask.path told.refused (go_on told.names) (calm told.names)
+
+done-calm : (state : ClientState) (ask : NamesAsk) → EndsCalm (plan_done state ask)
+done-calm state ask = names-calm state ask (λ names. ends replies.Done state) (λ names. refl)
+
+bind-calm : (state : ClientState) (path : List (List ℕ)) (sub view file : Option ℕ) → EndsCalm (plan_bind_as state path sub view file)
+bind-calm state path (Some sub) (Some node) (Some file) = done-calm state (binding path sub node file)
+bind-calm state path (Some sub) (Some node) None = tt
+bind-calm state path (Some sub) None file = tt
+bind-calm state path None view file = tt
+
+named-calm : (state : ClientState) (target : Option Target) (go_on : Target → Plan) → ((found : Target) → EndsCalm (go_on found)) → EndsCalm (plan_named state target go_on)
+named-calm state None go_on calm = refl
+named-calm state (Some target) go_on calm = calm target
+
+if-calm : (b : Bool) (p q : Plan) → EndsCalm p → EndsCalm q → EndsCalm (cond b p q)
+if-calm true p q one other = one
+if-calm false p q one other = other
+
+access-calm : (mount : Mount) (state : ClientState) (op : Op) (target : Target) → EndsCalm (plan_access mount state op target)
+access-calm mount state op target =
+    if-calm (fits_page mount.page_size (pages_of mount target.file) op) (plan_call state (asking target.file (access (node_at mount state target) target.life op))) (ends replies.NotOnePage state) told-calm refl
+
+copy-calm : (state : ClientState) (other : List ℕ) (taken : Option Target) (target : Target) → EndsCalm (plan_copy state other taken target)
+copy-calm state other (Some taken) target = refl
+copy-calm state other None target = refl
+
+found-calm : (mount : Mount) (state : ClientState) (name : List ℕ) (target : Option Target) → EndsCalm (plan_found mount state name target)
+found-calm mount state name None = refl
+found-calm mount state name (Some target) = told-calm
+
+open-calm : (mount : Mount) (state : ClientState) (name : List ℕ) (path : List (List ℕ)) (taken : Option Target) → EndsCalm (plan_open mount state name path taken)
+open-calm mount state name path (Some taken) = refl
+open-calm mount state name path None =
+    names-calm state (asking_names names_calls.Resolve (Some path)) (λ names. plan_found mount state name (received mount (kept_at names path))) (λ names. found-calm mount state name (received mount (kept_at names path)))
+
+bound-calm : (state : ClientState) (rights : Option CacheRights) (region : CacheRights → Region) → EndsCalm (plan_bound state rights region)
+bound-calm state None region = refl
+bound-calm state (Some rights) region = told-calm
+
+map-calm : (state : ClientState) (why : Option SpaceErr) (onward : Plan) → EndsCalm onward → EndsCalm (unless_unmappable state why onward)
+map-calm state None onward calm = calm
+map-calm state (Some spaces.RegionExists) onward calm = refl
+map-calm state (Some spaces.Unaligned) onward calm = refl
+map-calm state (Some spaces.TooLong) onward calm = refl
+map-calm state (Some spaces.Overlap) onward calm = refl
+map-calm state (Some spaces.Memory) onward calm = refl
+
+place-calm : (state : ClientState) (place : Result Place TranslateErr) (request : Place → Request) → EndsCalm (plan_place state place request)
+place-calm state (Ok place) request = told-calm
+place-calm state (Err (places.Unmapped address)) request = refl
+place-calm state (Err places.CrossesPage) request = refl
+place-calm state (Err places.NotWritable) request = refl
+
+plan-calm : (mount : Mount) (state : ClientState) (call : Call) → EndsCalm (plan mount state call)
+plan-calm mount state (lines.Context path) = done-calm state (asking_names names_calls.Context (Some path))
+plan-calm mount state (lines.Bind path sub view file) = bind-calm state path (sub_id sub) (view_of mount view) (file_named mount file)
+plan-calm mount state (lines.Unbind path) = done-calm state (asking_names names_calls.Unbind (Some path))
+plan-calm mount state (lines.List path) = names-calm state (asking_names names_calls.List path) (λ names. ends (replies.Names (listed names path)) state) (λ names. refl)
+plan-calm mount state (lines.Open name path) = open-calm mount state name path (object_of name state.objects)
+plan-calm mount state (lines.Copy name other) =
+    named-calm state (object_of name state.objects) (plan_copy state other (object_of other state.objects)) (copy-calm state other (object_of other state.objects))
+plan-calm mount state (lines.Drop name) = named-calm state (object_of name state.objects) (plan_drop state name) (λ target. refl)
+plan-calm mount state (lines.Read name page off len) = named-calm state (object_of name state.objects) (plan_access mount state (ops.Read page off len)) (access-calm mount state (ops.Read page off len))
+plan-calm mount state (lines.Write name page off bytes) = named-calm state (object_of name state.objects) (plan_access mount state (ops.Write page off bytes)) (access-calm mount state (ops.Write page off bytes))
+plan-calm mount state (lines.Clear name page) = named-calm state (object_of name state.objects) (plan_access mount state (ops.Clear page)) (access-calm mount state (ops.Clear page))
+plan-calm mount state (lines.Sync name) = named-calm state (object_of name state.objects) (plan_sync mount state keeps.Write) (λ target. told-calm)
+plan-calm mount state (lines.Clean name) = named-calm state (object_of name state.objects) (plan_sync mount state keeps.Read) (λ target. told-calm)
+plan-calm mount state (lines.Map region name address pages write) =
+    named-calm state (object_of name state.objects) (plan_map mount state region address pages write)
+    (λ target.
+    map-calm state (refusal state.regions region target.file address pages) (plan_bound state (rights_at mount state target) (region_of region address pages write))
+    (bound-calm state (rights_at mount state target) (region_of region address pages write)))
+plan-calm mount state (lines.Unmap region) =
+    if-calm (has_region region state.regions) (ends replies.Done (mapping state (without_region region state.regions))) (ends replies.NoRegion state) refl refl
+plan-calm mount state (lines.Load address len) = place-calm state (translation state.regions address len false) (loading len)
+plan-calm mount state (lines.Store address bytes) = place-calm state (translation state.regions address (length bytes) true) (storing bytes)
+plan-calm mount state _ = tt
+
+-- WHAT WAS SAID
+abbrev SaidCalm : List Said → Type 0
+SaidCalm said = AllByRecursion (λ s. is_fault s.reply ≡ false) said
+
+neither : (a b : Bool) → a ≡ false → b ≡ false → (a || b) ≡ false
+neither a b p q = rw (p, q) refl
+
+no-fault : (said : List Said) → SaidCalm said → has_fault said ≡ false
+no-fault [] calm = refl
+no-fault (s ∷ said) calm = neither (is_fault s.reply) (has_fault said) calm.0 (no-fault said calm.1)
+
+said-more : (one rest : List Said) → SaidCalm one → SaidCalm rest → SaidCalm (one ++ rest)
+said-more [] rest first last = last
+said-more (s ∷ one) rest first last = (first.0, said-more one rest first.1 last)
+
+line-calm : (mount : Mount) (Full : ℕ → Type 0) → ((file : ℕ) → Full file → ⊥) → (caller : ℕ) (state : ClientState) (call : Call) (made : List Made) (said : Reply) (after_it : ClientState) → QuietMade made
+    → Line Full caller state (plan mount state call) made said after_it → is_fault said ≡ false
+line-calm mount Full none caller state call made said after_it quiet line =
+    ⊎_elim (λ goes. goes-calm Full none caller (plan mount state call) made said after_it (plan-calm mount state call) quiet goes) (λ lacks. ap is_fault lacks.memory) line
+
+does-calm : (mount : Mount) (Full : ℕ → Type 0) → ((file : ℕ) → Full file → ⊥) → (caller : ℕ) (state : ClientState) (lines : List CallLine) (made : List Made) (said : List Said) (after_it : ClientState) → QuietMade made
+    → Does mount Full caller state lines made said after_it → SaidCalm said
+does-calm mount Full none caller state [] made said after_it quiet does = subst SaidCalm (sym does.1) tt
+does-calm mount Full none caller state (line ∷ lines) made [] after_it quiet does = absurd does
+does-calm mount Full none caller state (line ∷ lines) made (s ∷ said) after_it quiet does =
+    let both = subst QuietMade does.3 quiet in
+    (line-calm mount Full none caller state line.call does.0 s.reply does.2 (quiet-first does.0 does.1 both) does.5, does-calm mount Full none caller does.2 lines does.1 said after_it (quiet-rest does.0 does.1 both) does.6)
+
+phased-calm : (mount : Mount) (caller : ℕ) (kept : ClientState) (lines : List CallLine) (old new : Histories) (said : List Said) (after_it : ClientState) → Calm new → Phased mount caller kept lines old new said after_it → SaidCalm said
+phased-calm mount caller kept lines old new said after_it calm phased =
+    ⊎_elim
+    (λ worked. does-calm mount (IsFull new) calm.room caller kept lines worked.made said after_it (did-quiet caller old new worked.made worked.did calm) worked.does)
+    (λ idled. subst SaidCalm (sym idled.silent) tt) phased
+
+calm-at : (start : Histories) (cuts : List Histories) → InOrder start cuts → Calm (last_cut start cuts) → Calm start
+calm-at start [] order calm = calm
+calm-at start (cut ∷ cuts) order calm = calm-before start cut order.0 (calm-at cut cuts order.1 calm)
+
+acts-calm : (mount : Mount) (caller : ℕ) (kept : ClientState) (phases : List (List CallLine)) (start : Histories) (cuts : List Histories) (said : List Said) (after_it : ClientState) → InOrder start cuts → Calm (last_cut start cuts)
+    → Acts mount caller kept phases start cuts said after_it → SaidCalm said
+acts-calm mount caller kept [] start [] said after_it order calm acts = subst SaidCalm (sym acts.0) tt
+acts-calm mount caller kept [] start (cut ∷ cuts) said after_it order calm acts = absurd acts
+acts-calm mount caller kept (phase ∷ phases) start [] said after_it order calm acts = absurd acts
+acts-calm mount caller kept (phase ∷ phases) start (cut ∷ cuts) said after_it order calm acts =
+    subst SaidCalm (sym acts.3)
+    (said-more acts.0 acts.1 (phased-calm mount caller kept (lines_of caller phase) start cut acts.0 acts.2 (calm-at cut cuts order.1 calm) acts.4)
+    (acts-calm mount caller acts.2 phases cut cuts acts.1 after_it order.1 calm acts.5))
+
+clients-calm : (mount : Mount) (phases : List (List CallLine)) (start : Histories) (cuts : List Histories) (final : Histories) (client : ℕ) (lines : List ClientLine) (said : List (List Said)) → InOrder start cuts → Calm final
+    → ClientsFit mount phases start cuts final client lines said → list_any has_fault said ≡ false
+clients-calm mount phases start cuts final client [] [] order calm fit = refl
+clients-calm mount phases start cuts final client [] (s ∷ said) order calm fit = absurd fit
+clients-calm mount phases start cuts final client (line ∷ lines) [] order calm fit = absurd fit
+clients-calm mount phases start cuts final client (line ∷ lines) (s ∷ said) order calm fit =
+    neither (has_fault s) (list_any has_fault said)
+    (no-fault s (acts-calm mount client (start_state mount line) phases start cuts s fit.0.left order (calm-before (last_cut start cuts) final fit.0.after.later calm) fit.0.acts))
+    (clients-calm mount phases start cuts final (suc client) lines said order calm fit.1)
+
+-- THE CLOSING SYNCS
+abbrev IsClosing : Reply → Type 0
+IsClosing reply = (reply ≡ replies.Done) ⊎ (reply ≡ replies.Memory)
+
+lacked-memory : (Full : Type 0) (said : Reply) → (Full → ⊥) → Refuses Full said → said ≡ replies.Memory
+lacked-memory Full replies.TrailFull none refuses = absurd (none refuses)
+lacked-memory Full replies.Memory none refuses = refl
+lacked-memory Full _ none refuses = absurd refuses
+
+sync-told : (caller node : ℕ) (keep : Keep) (event : Event) (told : Option Told) (t : Told) → Asks caller (sync node keep) event → SyncDone event told → told ≡ Some t → t.answer ≡ answers.Done
+sync-told caller node keep (events.Synced by number at from kept) told t asks done is = done t is
+sync-told caller node keep _ told t asks done is = absurd asks
+
+told-done : (t : Told) → t.answer ≡ answers.Done → reply_of t ≡ replies.Done
+told-done t is = ap (λ (answer : Answer). reply_of (record { answer = answer; bytes = t.bytes })) is
+
+sync-ends : (Full : ℕ → Type 0) (caller : ℕ) (t : Told) (made : List Made) (reply : Reply) (after_it : ClientState) → t.answer ≡ answers.Done → Goes Full caller (ends (reply_of t) no_client) made reply after_it → reply ≡ replies.Done
+sync-ends Full caller t [] reply after_it is goes = goes.0 ∙ told-done t is
+sync-ends Full caller t (m ∷ made) reply after_it is goes = absurd goes
+
+sync-closes : (Full : ℕ → Type 0) → ((file : ℕ) → Full file → ⊥) → (caller file : ℕ) (made : List Made) (reply : Reply) (after_it : ClientState) → QuietMade made → Goes Full caller (plan_closing file) made reply after_it → IsClosing reply
+sync-closes Full none caller file [] reply after_it quiet goes = inr (lacked-memory (Full file) reply (none file) goes.0)
+sync-closes Full none caller file (at_file at (entered e) ∷ made) reply after_it quiet goes =
+    let told = goes.1.1 in
+    inl (sync-ends Full caller told.0 made reply after_it (sync-told caller 1 keeps.Write e.event e.told told.0 goes.1.0 quiet.0 told.1) told.2)
+sync-closes Full none caller file (at_file at (noted by disk count) ∷ made) reply after_it quiet goes = absurd quiet.0
+sync-closes Full none caller file (with_names item ∷ made) reply after_it quiet goes = absurd goes
+
+closings-done : (Full : ℕ → Type 0) → ((file : ℕ) → Full file → ⊥) → (caller file : ℕ) (entries : List FileEntry) (made : List Made) (closing : List Reply) → QuietMade made → Closes Full caller file entries made closing → AllByRecursion IsClosing closing
+closings-done Full none caller file [] made closing quiet closes = subst (AllByRecursion IsClosing) (sym closes.1) tt
+closings-done Full none caller file (entry ∷ entries) made [] quiet closes = absurd closes
+closings-done Full none caller file (entry ∷ entries) made (reply ∷ closing) quiet closes =
+    let both = subst QuietMade closes.3 quiet in
+    (sync-closes Full none caller file closes.0 reply closes.2 (quiet-first closes.0 closes.1 both) closes.4, closings-done Full none caller (suc file) entries closes.1 closing (quiet-rest closes.0 closes.1 both) closes.5)
+
+or-first : (a b : Bool) → (a || b) ≡ false → a ≡ false
+or-first true b e = absurd cc
+or-first false b e = refl
+
+or-rest : (a b : Bool) → (a || b) ≡ false → b ≡ false
+or-rest true b e = absurd cc
+or-rest false b e = e
+
+no-memory : (r : Reply) → r ≡ replies.Memory → is_memory r ≡ false → ⊥
+no-memory r is not = cc
+
+all-done : (closing : List Reply) → AllByRecursion IsClosing closing → list_any is_memory closing ≡ false → list_all is_done closing ≡ true
+all-done [] all none = refl
+all-done (r ∷ rs) all none =
+    let rest = all-done rs all.1 (or-rest (is_memory r) (list_any is_memory rs) none) in
+    let here : is_done r ≡ true = ⊎_elim (λ is. ap is_done is) (λ lacked. absurd (no-memory r lacked (or-first (is_memory r) (list_any is_memory rs) none))) all.0 in
+    rw (here, rest) refl
+
+-- THE STATUS
+ends-by : (lacks memory lost fault done : Bool) → lost ≡ false → fault ≡ false → (memory ≡ false → done ≡ true)
+    → (status_by lacks memory lost fault done ≡ statuses.Good) ⊎ (status_by lacks memory lost fault done ≡ statuses.Memory)
+ends-by true memory lost fault done p q r = inr refl
+ends-by false true lost fault done p q r = inr refl
+ends-by false false lost fault done p q r = let s = r refl in inl (rw (p, q, s) refl)
+
+none-lost : (lost : List StoreKey) (before after : ℕ) → RoseBy (length lost) before after → after ≡ before → before < 2 ^ 64 - 1 → any_lost lost ≡ false
+none-lost [] before after rose same below = refl
+none-lost (key ∷ lost) before after rose same below = absurd (omega (arith, rose, same, below))
+
+-- A LOG IN WHICH NO STORE FAILED
+no-notes : (disks : ℕ) (log : List Logged) → AllByRecursion (IsOfDisks disks) log → ((disk : ℕ) → disk < disks → counts_of disk log ≡ []) → AllByRecursion NoNote log
+no-notes disks [] of none = tt
+no-notes disks (Entered entry ∷ log) of none = (tt, no-notes disks log of.1 none)
+no-notes disks (Noted note ∷ log) of none = absurd (noted-counts note.disk note.count (counts_of note.disk log) (note.disk == note.disk) (eq-eqb note.disk note.disk refl) (none note.disk of.0))
+  where
+    noted-counts : (disk count : ℕ) (counts : List ℕ) (b : Bool) → b ≡ true → cond b (count ∷ counts) counts ≡ [] → ⊥
+    noted-counts disk count counts true is empty = cc
+    noted-counts disk count counts false is empty = cc
+
+answer-done : (o : Option Answer) (bytes : List ℕ) (t : Told) → o ≡ Some answers.Done → option_map {T = Answer} (λ answer. record { answer = answer; bytes = bytes_with answer bytes }) o ≡ Some t → t.answer ≡ answers.Done
+answer-done None bytes t is told = absurd cc
+answer-done (Some answer) bytes t is told = ap (λ (u : Told). u.answer) (sym (some-is (record { answer = answer; bytes = bytes_with answer bytes }) t told)) ∙ some-is answer answers.Done is
+
+-- a sync is answered `done` by the plain file
+entry-done : (shape : TreeShape) (size : ℕ) (opening : List ℕ) (trail : List Event) (event : Event) (answer : Option Answer) (bytes : List ℕ)
+    → answer ≡ option_map {T = Told} (λ told. told.answer) (plainly.reply (plain_shape shape size) (file_after shape size opening trail) event)
+    → SyncDone event (option_map {T = Answer} (λ found. record { answer = found; bytes = bytes_with found bytes }) answer)
+entry-done shape size opening trail (events.Synced caller number node from keep) answer bytes is = λ t told. answer-done answer bytes t is told
+entry-done shape size opening trail _ answer bytes is = tt
+
+quiet-log : (log : List Logged) (place : ℕ) → AllByRecursion NoNote log → ((at : ℕ) (entry : Entry) → slice_get (entries_of log) at ≡ Some entry → SyncDone entry.event (told_by entry)) → AreQuiet (items_from place log)
+quiet-log [] place none done = tt
+quiet-log (Entered entry ∷ log) place none done = (done 0 entry refl, quiet-log log (suc place) none.1 (λ at other is. done (suc at) other is))
+quiet-log (Noted note ∷ log) place none done = absurd none.0
+
+-- the only store of a list
+first-is : (xs : List StoreSeen) (x : StoreSeen) → xs ≡ x ∷ [] → slice_get xs 0 ≡ Some x
+first-is xs x is = ap (λ (ss : List StoreSeen). slice_get ss 0) is
+
+only-disk : (xs : List StoreSeen) (x : StoreSeen) (disk : ℕ) → xs ≡ x ∷ [] → disk < length xs → disk ≡ 0
+only-disk xs x disk is inside = let one : length xs ≡ 1 = ap length is in omega (arith, one, inside)
+
+-- no count of a note of a file whose stores had no fault
+file-counts : (mount : Mount) (closing : List Reply) (log : List Logged) (f g : FileSeen) → IsFile mount f → length g.stores ≡ length f.stores → LeavesFile mount closing log f g
+    → ((disk : ℕ) (old new : StoreSeen) → Store f g disk old new → new.state.faults ≡ old.state.faults) → (disk : ℕ) → disk < length f.stores → counts_of disk log ≡ []
+file-counts mount closing log f g is many (leaves_one {old} {new} was after_it leaves) sound disk inside =
+    let key : old.key.disk ≡ disk = ap (λ (k : StoreKey). k.disk) (file-key mount f is old was) ∙ sym (only-disk f.stores old disk was inside) in
+    subst (λ n. counts_of n log ≡ []) key
+    (still-counts old.state.faults new.state.faults (counts_of old.key.disk log) leaves.rises (sound 0 old new (first-is f.stores old was, first-is g.stores new after_it)))
+file-counts mount closing log f g is many (leaves_many some run) sound disk inside =
+    let old = there f.stores disk inside in
+    let new = there g.stores disk (omega (arith, inside, many)) in
+    still-counts old.0.state.faults new.0.state.faults (counts_of disk log) (run.rises disk old.0 new.0 (old.1, new.1)) (sound disk old.0 new.0 (old.1, new.1))
+
+-- THE SCRIPT WAS RUN
+module _ (mount : Mount) (script : Script) (before after : BaySeen) (h : Histories) (said : List (List Said)) (closing : List Reply) (lost : List StoreKey) (played : Played mount script before after h said closing lost)
+    (sound : AreStoresSound played.olds played.news) (room : AreNotFull h) where
+  quiet-file : (file : ℕ) → file < length mount.files → AreQuiet (items (log_at h file))
+  quiet-file file inside =
+      let number : length played.olds ≡ length mount.files = played.of.number in
+      let many : length played.news ≡ length played.olds = played.same.many in
+      let f = there played.olds file (omega (arith, inside, number)) in
+      let g = there played.news file (omega (arith, inside, number, many)) in
+      let is : IsFile mount f.0 = (played.of.each file f.0 f.1).1 in
+      let of : IsOfFile mount file (log_at h file) = played.files.each file inside in
+      let disks : length f.0.stores ≡ length mount.disks = file-number mount f.0 is in
+      let counts = file-counts mount closing (log_at h file) f.0 g.0 is (played.same.pairs file f.0 g.0 f.1 g.1).number (played.leaves file f.0 g.0 f.1 g.1) (λ disk old new at. sound file disk f.0 g.0 old new f.1 g.1 at) in
+      quiet-log (log_at h file) 0 (no-notes (length mount.disks) (log_at h file) of.notes (λ disk low. counts disk (omega (arith, low, disks))))
+      (λ at entry found. entry-done mount.tree mount.page_size [] (take at (trail_of (log_at h file))) entry.event entry.answer entry.bytes (of.answers [] at entry found))
+
+  calm-run : Calm h
+  calm-run = record {
+    quiet = λ file. by file (slice_get h.logs file) refl;
+    room = λ file full. let low = room file in omega (arith, low, full);
+  }
+    where
+      by : (file : ℕ) (log : Option (List Logged)) → slice_get h.logs file ≡ log → AreQuiet (items (log_at h file))
+      by file None is = subst (λ (l : List Logged). AreQuiet (items l)) (sym (ap (λ (o : Option (List Logged)). unwrap_or o []) is)) tt
+      by file (Some log) is = let number = played.files.number in let inside = slice_get_within h.logs file log is in quiet-file file (omega (arith, number, inside))
+
+  played-well : IsBaySound before after → (status : Status) → status ≡ status_of said closing lost → (status ≡ statuses.Good) ⊎ (status ≡ statuses.Memory)
+  played-well bay status is =
+      let fits = played.fits in
+      let end : Histories = last_cut (before_all mount h) fits.cuts in
+      let fault = clients-calm mount script.phases (before_all mount h) fits.cuts h 0 script.clients said fits.in_order calm-run fits.clients in
+      let closer = fits.closings in
+      let made = did-quiet (length script.clients) end h closer.made closer.did calm-run in
+      let done = all-done closing (closings-done (IsFull h) calm-run.room (length script.clients) 0 mount.files closer.made closing made closer.closes) in
+      let none = none-lost lost before.faults after.faults played.stores.paid bay.same bay.below_end in
+      subst (λ (s : Status). (s ≡ statuses.Good) ⊎ (s ≡ statuses.Memory)) (sym is)
+      (ends-by (list_any lacks_memory said) (list_any is_memory closing) (any_lost lost) (list_any has_fault said) (list_all is_done closing) none fault done)
+
+-- THE SCRIPT WAS NOT RUN
+no-image : (shape : ImageShape) (blocks : List (List ℕ)) (imaged : Imaged) (bad : BadImage) → image shape blocks ≡ Some imaged → image_in shape (front_of shape blocks) ≡ Err bad → ⊥
+no-image shape blocks imaged bad is err = by (image_in shape (front_of shape blocks)) err is
+  where
+    by : (r : Result Image BadImage) → r ≡ Err bad → images.imaged shape blocks r ≡ Some imaged → ⊥
+    by (Ok i) err is = cc
+    by (Err b) err is = cc
+
+nth-get : {A : Type 0} {n : ℕ} {xs : List A} {x : A} → Nth n xs x → slice_get xs n ≡ Some x
+nth-get nth_here = refl
+nth-get (nth_later rest) = nth-get rest
+
+-- the content of a store that told an image is no bad one
+told-image : (shape : ImageShape) (stores : List StoreSeen) (disk : ℕ) (store : StoreSeen) (bad : BadImage) → HoldImages shape stores → slice_get stores disk ≡ Some store
+    → IfSome store.state.content (λ c. image_in shape (front_of shape c.blocks) ≡ Err bad) → ⊥
+told-image shape stores disk store bad hold at told =
+    let found = hold disk (slice_get_within stores disk store at) in
+    let has = found.1 in
+    let same : has.store ≡ store = some-is has.store store (sym has.there ∙ at) in
+    let content : store.state.content ≡ Some has.content = subst (λ (s : StoreSeen). s.state.content ≡ Some has.content) same has.tells in
+    no-image shape has.content.blocks found.0 bad has.is (subst (λ (o : Option Content). IfSome o (λ c. image_in shape (front_of shape c.blocks) ≡ Err bad)) content told)
+
+-- the store that a refusal names failed
+blamed-rose : {shape : ImageShape} {olds news : List StoreSeen} {ns : List ℕ} {bs : List Beside} {ss ts : List machine.Store} {xs : List Seat} {d k : ℕ} → Pairs (Brought content_of faults_of shape olds) ns ss → Pairs (Lies content_of faults_of shape olds) ns bs
+    → Pairs (Stored content_of faults_of news) bs ts → Pairs Left xs ts → Blamed d k ss xs
+    → (disk : ℕ) × (old : StoreSeen) × (new : StoreSeen) × (slice_get olds disk ≡ Some old) × (slice_get news disk ≡ Some new) × (old.state.faults < new.state.faults)
+blamed-rose pairs_none _ _ _ blamed = elim blamed [ ]
+blamed-rose {news = news} (pairs_more (brought {t = old} at finds) ps) (pairs_more (lies at' is) qs) (pairs_more (stored {t = new} to now told grew) rs) (pairs_more (mirrors.left shows counted kept) us) (blamed_here disk low high) =
+    let before = finds.count in
+    let after = now.count in
+    let same = ap (λ (b : Beside). b.disk) is in
+    (_, old, new, nth-get at, subst (λ n. slice_get news n ≡ Some new) same (nth-get to), omega (arith, before, after, low, high, counted))
+blamed-rose (pairs_more p ps) (pairs_more q qs) (pairs_more r rs) (pairs_more u us) (blamed_later later) = blamed-rose ps qs rs us later
+
+-- a file of which no store failed was not opened for lack of memory alone
+module _ (mount : Mount) (f g : FileSeen) (is : IsFile mount f) (sound : (disk : ℕ) (old new : StoreSeen) → Store f g disk old new → new.state.faults ≡ old.state.faults) (hold : HoldImages (shape_of_file mount f.file) f.stores) where
+  one-well : (old new : StoreSeen) (stop : Stop) → f.stores ≡ old ∷ [] → g.stores ≡ new ∷ [] → IsUnopenedOne mount old new stop → stop ≡ stops.Memory
+  one-well old new (stops.Store key count) was after_it why =
+      let same = sound 0 old new (first-is f.stores old was, first-is g.stores new after_it) in
+      let above = why.1.above in
+      let within = why.1.within in
+      absurd (omega (arith, same, above, within))
+  one-well old new (stops.Image key place why) was after_it damage =
+      let own : old.key.file ≡ f.file = ap (λ (k : StoreKey). k.file) (file-key mount f is old was) in
+      absurd (told-image (shape_of_file mount f.file) f.stores 0 old (record { place = place; why = why }) hold (first-is f.stores old was)
+      (subst (λ n. IfSome old.state.content (λ c. image_in (shape_of_file mount n) (front_of (shape_of_file mount n) c.blocks) ≡ Err (record { place = place; why = why }))) own damage.1.told))
+  one-well old new stops.Memory was after_it why = refl
+  one-well old new (stops.Bay key) was after_it why = absurd why
+
+  many-well : (why : Refusal) → RefusedOver content_of faults_of (shape_of_file mount f.file) f.stores mount.ground why g.stores → refused_by f.file why ≡ stops.Memory
+  many-well (refusals'.BadImage disk bad) (refused {reason = reason} seen opens says (bad_store {t = store} at bad_why) blames lasting back) = absurd (told-image (shape_of_file mount f.file) f.stores disk store bad hold (nth-get at) bad_why.1)
+  many-well (refusals'.StoreFault fault) (refused {o = Lost d k} seen opens says reasoned blames lasting back) =
+      let rose = blamed-rose seen.brought seen.lies back.stored back.left blames in
+      let same = sound rose.0 rose.1 rose.2 (rose.3, rose.4) in
+      let up = rose.5 in
+      absurd (omega (arith, same, up))
+  many-well (refusals'.StoreFault fault) (refused {o = Good owed} seen opens says reasoned blames lasting back) = absurd says
+  many-well (refusals'.StoreFault fault) (refused {o = Bad d} seen opens says reasoned blames lasting back) = absurd says
+  many-well refusals'.Memory over = refl
+
+  unopened-well : (stop : Stop) → IsUnopened mount f g stop → stop ≡ stops.Memory
+  unopened-well stop (unopened_one {old} {new} was after_it key content why) = one-well old new stop was after_it why
+  unopened-well stop (unopened_many {why} some over by) = by ∙ many-well why over
+
+  unheld-well : (stop : Stop) → IsUnheld mount f g stop → stop ≡ stops.Memory
+  unheld-well stop held = ⊎_elim (λ un. unopened-well stop un) (λ closed. closed.1) held
+
+halted-well : (mount : Mount) (before after : BaySeen) (lost : List StoreKey) (stop : Stop) (halt : NotRun mount before after lost stop) → AreStoresSound halt.olds halt.news → HadImages mount halt.olds → stop ≡ stops.Memory
+halted-well mount before after lost stop halt sound had = ⊎_elim (λ low. refused-at low) (λ all. all.1) halt.all
+  where
+    refused-at : halt.number < length mount.files → stop ≡ stops.Memory
+    refused-at low =
+        let number : length halt.olds ≡ length mount.files = halt.of.number in
+        let many : length halt.news ≡ length halt.olds = halt.same.many in
+        let f = there halt.olds halt.number (omega (arith, low, number)) in
+        let g = there halt.news halt.number (omega (arith, low, number, many)) in
+        unheld-well mount f.0 g.0 (halt.of.each halt.number f.0 f.1).1 (λ disk old new at. sound halt.number disk f.0 g.0 old new f.1 g.1 at) (had halt.number f.0 f.1) stop (halt.refused f.0 g.0 f.1 g.1)
+
+untaken-well : (mount : Mount) (before after : BaySeen) (keys lost : List StoreKey) (stop : Stop) → IsBaySound before after → Untaken mount before after keys lost stop → stop ≡ stops.Memory
+untaken-well mount before after keys lost (stops.Bay key) bay why = let rose = why.fault in let same = bay.same in let below = bay.below_end in absurd (omega (arith, rose, same, below))
+untaken-well mount before after keys lost stops.Memory bay why = refl
+untaken-well mount before after keys lost _ bay why = absurd why
+
+stop-well : (status : Status) (stop : Stop) → status ≡ stop_status stop → stop ≡ stops.Memory → (status ≡ statuses.Good) ⊎ (status ≡ statuses.Memory)
+stop-well status stop is memory = inr (is ∙ ap stop_status memory)
+
+pub sound-ends-well : SoundRunEndsWell
+sound-ends-well mount script traced before after text status (stopped stop lost (untaken why) says how) bay sound = stop-well status stop how (untaken-well mount before after (stores_of mount) lost stop bay why)
+sound-ends-well mount script traced before after text status (stopped stop lost (unopened halt) says how) bay sound = stop-well status stop how (halted-well mount before after lost stop halt sound.0 sound.1)
+sound-ends-well mount script traced before after text status (reported h said closing lost played says how) bay sound = played-well mount script before after h said closing lost played sound.0 sound.1 bay status how
+sound-ends-well mount script traced before after text status (ran_out h said closing lost played says how) bay sound = inr how

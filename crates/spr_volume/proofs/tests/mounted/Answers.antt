@@ -1,8 +1,0 @@
-use Rattle.name_context.proofs.StartLaws.{distinct-none}
-use Rattle.spr_volume.proofs.tests.mounted.Goals as goal
-
-pub start-requires-clause-views : goal.start-requires-clause-views
-start-requires-clause-views c = distinct-none
-
-pub start-requires-clause-files : goal.start-requires-clause-files
-start-requires-clause-files c = distinct-none

@@ -1,6 +1,0 @@
-use Rattle.std.proofs.Common.{◌≡◌}
-use Rattle.spr_volume.proofs.tower_tests.open_often.Given as goal
-
--- the tower is the one that was handed in
-abbrev pub invariant-loop-time : goal.invariant-loop-time
-invariant-loop-time l = l.shared.began ≡ l.fn.shared.began
