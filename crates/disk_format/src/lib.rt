@@ -12,6 +12,3 @@ pub use image::{Entries, Header, Image};
 pub use shape::ImageShape;
 pub use version_1::{check_image, map_entry, read_header, write_header, written_header_is_read};
 pub use why::{BadImage, ImageWhy};
-
-#[cfg(test)]
-mod tests;

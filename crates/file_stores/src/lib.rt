@@ -18,8 +18,3 @@ pub use keys::{shape_of, stores_of, stores_of_one};
 pub use opening::{Unopened, close_file, open_file};
 pub use pages::read_file;
 pub use stop::{Stop, finish_lost, stopped};
-
-#[cfg(test)]
-mod ground_tests;
-#[cfg(test)]
-mod tests;

@@ -9,6 +9,3 @@ mod told;
 
 pub use dumping::dump_file;
 pub use formatting::format_files;
-
-#[cfg(test)]
-mod tests;

@@ -27,6 +27,3 @@ pub use asked::{Call, Held, Side, hold};
 pub use ground::MirrorGround;
 pub use node::{Kept, Mark, Node, Shut, Unopened};
 pub use refuse::{OpenAll, Refusal};
-
-#[cfg(test)]
-mod tests;

@@ -7,3 +7,5 @@ mod disks;
 mod texts;
 #[cfg(test)]
 mod values;
+#[cfg(test)]
+mod volumes;

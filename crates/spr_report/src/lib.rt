@@ -29,6 +29,3 @@ pub use operation_names::operation_name;
 pub use status::Status;
 pub use whole::{Run, report};
 pub use writing::{finish, write_all, write_lost, write_pieces, write_status};
-
-#[cfg(test)]
-mod tests;

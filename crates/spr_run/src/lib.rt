@@ -11,6 +11,3 @@ mod words;
 
 pub use top::spring;
 pub use words::{Asked, WordsErr, read_words};
-
-#[cfg(test)]
-mod tests;

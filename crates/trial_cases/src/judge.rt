@@ -1,42 +1,15 @@
-//! Cases are read, and the answers to their steps compared.
+//! The answers to the steps of cases are compared.
 
-use crate::line::{Line, line_of, put_line};
+use crate::steps::{Step, steps_of};
 use crate::trial::Trial;
 use std::alloc::{AllocError, Global};
 use std::process::ExitCode;
 use std::rt::{Env, Files};
 use std::{env, fs, io};
 
-/// A step as it is read.
-#[derive(Drop)]
-struct Step<'a> {
-    /// Its line, counted from 1.
-    line: usize,
-    words: &'a str,
-    body: Vec<u8>,
-    wanted: String,
-}
-
-impl<'a> Step<'a> {
-    fn new(alloc: Global, line: usize, words: &'a str) -> Self {
-        Step {
-            line,
-            words,
-            body: Vec::new(alloc),
-            wanted: String::new(alloc),
-        }
-    }
-
-    /// Another line of the wanted answer.
-    fn want(&mut self, line: &str) -> Result<(), AllocError> {
-        self.wanted.push_str(line)?;
-        self.wanted.push('\n')
-    }
-}
-
 /// What was found in a file so far.
 #[derive(Drop)]
-struct Count {
+pub struct Count {
     cases: usize,
     steps: usize,
     wrong: usize,
@@ -50,41 +23,43 @@ fn end_line(answer: &mut String) -> Result<(), AllocError> {
     answer.push_str("\\\n")
 }
 
-/// Does a step, and tells it if the answer is another than is wanted.
-fn judge<R: Print, T: Trial>(
-    rt: &R,
-    alloc: Global,
-    name: &str,
-    step: &Step<'_>,
-    trial: &mut T,
-    count: &mut Count,
-) -> io::Result<()> {
-    let words: Vec<&str> = step.words.split(' ').collect(alloc)?;
-    let mut answer = String::new(alloc);
-    trial.step(&words, &step.body, &mut answer)?;
-    end_line(&mut answer)?;
-    count.steps = count.steps.saturating_add(1);
-    if answer.as_str() == step.wanted.as_str() {
-        return Ok(());
+impl Count {
+    /// No step so far.
+    pub fn new() -> Count {
+        Count {
+            cases: 0,
+            steps: 0,
+            wrong: 0,
+        }
     }
-    count.wrong = count.wrong.saturating_add(1);
-    let (line, words) = (step.line, step.words);
-    let (wanted, found) = (step.wanted.as_str(), answer.as_str());
-    print!(rt; "{name}:{line}: {words}\nwanted:\n{wanted}found:\n{found}")
-}
 
-/// The same for a step, if there is one.
-fn close<R: Print, T: Trial>(
-    rt: &R,
-    alloc: Global,
-    name: &str,
-    step: Option<Step<'_>>,
-    trial: &mut T,
-    count: &mut Count,
-) -> io::Result<()> {
-    match step {
-        Some(step) => judge(rt, alloc, name, &step, trial, count),
-        None => Ok(()),
+    /// Counts a step of the file of a name, and tells it if its answer is another than is wanted.
+    pub fn judge<R: Print>(
+        &mut self,
+        rt: &R,
+        name: &str,
+        step: &Step<'_>,
+        answer: &mut String,
+    ) -> io::Result<()> {
+        end_line(answer)?;
+        self.steps = self.steps.saturating_add(1);
+        if step.begins {
+            self.cases = self.cases.saturating_add(1);
+        }
+        if answer.as_str() == step.wanted.as_str() {
+            return Ok(());
+        }
+        self.wrong = self.wrong.saturating_add(1);
+        let (line, words) = (step.line, step.words);
+        let (wanted, found) = (step.wanted.as_str(), answer.as_str());
+        print!(rt; "{name}:{line}: {words}\nwanted:\n{wanted}found:\n{found}")
+    }
+
+    /// Tells how many cases and steps there were, and answers whether all were as wanted.
+    pub fn end<R: Print>(&self, rt: &R, name: &str) -> io::Result<bool> {
+        let (cases, steps) = (self.cases, self.steps);
+        println!(rt; "{name}: {cases} cases, {steps} steps")?;
+        Ok(self.wrong == 0)
     }
 }
 
@@ -97,32 +72,18 @@ pub fn try_text<R: Print, T: Trial>(
     text: &str,
     trial: &mut T,
 ) -> io::Result<bool> {
-    let mut count = Count {
-        cases: 0,
-        steps: 0,
-        wrong: 0,
-    };
-    let mut step: Option<Step<'_>> = None;
-    for (number, line) in text.lines().enumerate() {
-        match (line_of(line), &mut step) {
-            (Line::Case, _) => {
-                close(rt, alloc, name, step.take(), trial, &mut count)?;
-                trial.begin()?;
-                count.cases = count.cases.saturating_add(1);
-            }
-            (Line::Step(words), _) => {
-                close(rt, alloc, name, step.take(), trial, &mut count)?;
-                step = Some(Step::new(alloc, number.saturating_add(1), words));
-            }
-            (Line::Body(text), Some(step)) => put_line(text, &mut step.body)?,
-            (Line::Wanted(text), Some(step)) => step.want(text)?,
-            _ => {}
+    let steps = steps_of(alloc, text)?;
+    let mut count = Count::new();
+    for step in &steps {
+        if step.begins {
+            trial.begin()?;
         }
+        let words: Vec<&str> = step.words.split(' ').collect(alloc)?;
+        let mut answer = String::new(alloc);
+        trial.step(&words, &step.body, &mut answer)?;
+        count.judge(rt, name, step, &mut answer)?;
     }
-    close(rt, alloc, name, step.take(), trial, &mut count)?;
-    let (cases, steps) = (count.cases, count.steps);
-    println!(rt; "{name}: {cases} cases, {steps} steps")?;
-    Ok(count.wrong == 0)
+    count.end(rt, name)
 }
 
 /// Does the cases of each file that the program's words name, and answers 0 if all were as wanted.

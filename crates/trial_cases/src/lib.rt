@@ -4,7 +4,9 @@
 
 mod judge;
 mod line;
+mod steps;
 mod trial;
 
-pub use judge::{run_trial, try_text};
+pub use judge::{Count, run_trial, try_text};
+pub use steps::{Step, steps_of};
 pub use trial::Trial;

@@ -6,9 +6,9 @@ ghost use Rattle.std.specs.Prelude.{◌<◌, IsTrue};
 ghost use Rattle.std.specs.Option.{ForSome};
 ghost use Rattle.hist_plain.specs.Event.{page_of, page_of_op};
 
-use crate::halt::{Halt, bytes, long, number};
-use hist_plain::{Bytes, Event, Keep, Op};
+use hist_plain::{Event, Op};
 use std::alloc::Global;
+use trial_parts::{Halt, access_named, keep_of, lived, long, number};
 
 /// Whether a grant is for writing.
 fn is_write(word: &str) -> Result<bool, Halt> {
@@ -19,54 +19,8 @@ fn is_write(word: &str) -> Result<bool, Halt> {
     }
 }
 
-/// Which right a sync leaves.
-pub fn keep_of(word: &str) -> Result<Keep, Halt> {
-    match word {
-        "write" => Ok(Keep::Write),
-        "read" => Ok(Keep::Read),
-        _ => Err(Halt::Unread),
-    }
-}
-
-/// The access of a name and what follows.
-fn op_named(alloc: Global, name: &str, rest: &[&str]) -> Result<Op, Halt> {
-    match (name, rest) {
-        ("open", []) => Ok(Op::Open),
-        ("read", [page, off, len]) => Ok(Op::Read {
-            page: number(page)?,
-            off: number(off)?,
-            len: number(len)?,
-        }),
-        ("write", [page, off, word]) => Ok(Op::Write {
-            page: number(page)?,
-            off: number(off)?,
-            bytes: Bytes::from_vec(bytes(alloc, word)?),
-        }),
-        ("clear", [page]) => Ok(Op::Clear {
-            page: number(page)?,
-        }),
-        _ => Err(Halt::Unread),
-    }
-}
-
-/// An access of some words: its name, and the page and the range that it is of.
-pub fn op_of(alloc: Global, words: &[&str]) -> Result<Op, Halt> {
-    match words {
-        [name, rest @ ..] => op_named(alloc, name, rest),
-        [] => Err(Halt::Unread),
-    }
-}
-
-/// What the words before a life are, and the life.
-pub fn lived<'a, 'b>(words: &'a [&'b str]) -> Result<(&'a [&'b str], u32), Halt> {
-    match words {
-        [rest @ .., "life", life] => Ok((rest, number(life)?)),
-        _ => Ok((words, 0)),
-    }
-}
-
 /// An access at a node: its name, the node, what follows, and the life.
-fn access_of(alloc: Global, caller: u32, place: u32, words: &[&str]) -> Result<Event, Halt> {
+fn access_at(alloc: Global, caller: u32, place: u32, words: &[&str]) -> Result<Event, Halt> {
     let (words, life) = lived(words)?;
     let [name, node, rest @ ..] = words else {
         return Err(Halt::Unread);
@@ -76,7 +30,7 @@ fn access_of(alloc: Global, caller: u32, place: u32, words: &[&str]) -> Result<E
         number: place,
         node: number(node)?,
         life,
-        op: op_named(alloc, name, rest)?,
+        op: access_named(alloc, name, rest)?,
     })
 }
 
@@ -100,7 +54,7 @@ fn caller_event(alloc: Global, caller: u32, place: u32, words: &[&str]) -> Resul
             from: long(from)?,
             keep: keep_of(keep)?,
         }),
-        _ => access_of(alloc, caller, place, words),
+        _ => access_at(alloc, caller, place, words),
     }
 }
 
@@ -191,46 +145,5 @@ pub fn is_in_pages(event: &Event, pages: u32) -> bool
         | Event::WriteBack { page, .. }
         | Event::DeleteRange { page, .. } => *page < pages,
         Event::DestroyCache { .. } | Event::DonePager { .. } | Event::Synced { .. } => true,
-    }
-}
-
-/// The page of an access, or page 0.
-fn page_of_access(op: &Op) -> u32 {
-    match op {
-        Op::Read { page, .. } | Op::Write { page, .. } | Op::Clear { page } => *page,
-        Op::Open => 0,
-    }
-}
-
-/// The page of an event, or page 0.
-pub fn page_shown(event: &Event) -> u32 {
-    match event {
-        Event::Access { op, .. } => page_of_access(op),
-        Event::PageIn { page, .. }
-        | Event::ZeroFill { page, .. }
-        | Event::PageOut { page, .. }
-        | Event::WriteOut { page, .. }
-        | Event::SyncOut { page, .. }
-        | Event::FlushBack { page, .. }
-        | Event::DenyWrites { page, .. }
-        | Event::WriteBack { page, .. }
-        | Event::DeleteRange { page, .. } => *page,
-        Event::DestroyCache { .. } | Event::DonePager { .. } | Event::Synced { .. } => 0,
-    }
-}
-
-/// The name of a page message.
-pub fn name_of(event: &Event) -> &'static str {
-    match event {
-        Event::PageIn { .. } => "page_in",
-        Event::ZeroFill { .. } => "zero_fill",
-        Event::PageOut { .. } => "page_out",
-        Event::WriteOut { .. } => "write_out",
-        Event::SyncOut { .. } => "sync",
-        Event::FlushBack { .. } => "flush_back",
-        Event::DenyWrites { .. } => "deny_writes",
-        Event::WriteBack { .. } => "write_back",
-        Event::DeleteRange { .. } => "delete_range",
-        _ => "no page message",
     }
 }

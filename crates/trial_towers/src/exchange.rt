@@ -9,15 +9,13 @@ ghost use Rattle.page_exchange.specs.Table.{MayAskAbout, MayObeyAbout, file_of};
 ghost use Rattle.page_exchange.specs.Exchange.{IsPair};
 ghost use Rattle.page_exchange.specs.Ground.{IsUnder};
 
-use crate::disks::{Ram, disk, first_bytes, refused_write};
-use crate::frames::operations;
-use crate::halt::{Halt, bytes, put_hex};
 use crate::layers::right_word;
 use coherency_layer::{Asked, Called, Node};
 use disk_layer::Ground;
 use page_exchange::{GroundErr, Table, Wire};
 use std::alloc::{AllocError, Global};
 use tower_core::Right;
+use trial_parts::{Halt, Ram, bytes, disk, first_bytes, operations, put_hex, refused_write};
 use vmm_cache::Leaf;
 
 /// The layer and the leaf below it, the disk, and the wire.

@@ -1,16 +1,11 @@
 //! The table of frames: what a head says by its operation, right and flags.
 
-use crate::halt::{Halt, number};
 use page_messages::{
     Answer, Asked, Called, Message, answer_in, asked_in, called_in, first_in, reply_in, second_in,
 };
 use pager_channel::{Frame, Ops, read_frame};
 use std::alloc::AllocError;
-
-/// The numbers of an interface text that declares the operations in this order, those of the length first.
-pub fn operations() -> Ops {
-    Ops::new([0, 1, 2, 3, 4], [0, 1, 2, 3, 4, 5], [2, 3, 4, 5, 6, 0, 1])
-}
+use trial_parts::{Halt, number, operations};
 
 /// The word of a question.
 fn asked_word(what: Asked) -> &'static str {

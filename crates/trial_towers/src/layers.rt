@@ -4,13 +4,13 @@ ghost use Rattle.std.specs.Prelude.{IsTrue, ◌≡◌, ◌<◌, ◌≤◌, lengt
 ghost use Rattle.page_messages.specs.declared.kinds.Asked.{Asked as AQuestion};
 ghost use Rattle.coherency_layer.specs.Node.{MayAskAbout, MayCallAbout, file_of};
 
-use crate::frames::{asked_of, called_of, operations};
-use crate::halt::{Halt, bytes, number, put_hex};
+use crate::frames::{asked_of, called_of};
 use coherency_layer::{Asked, Called, Node, NodeErr};
 use marshal_buf::Buf;
 use pager_channel::{Frame, Ops, read_frame};
 use std::alloc::{AllocError, Global};
 use tower_core::Right;
+use trial_parts::{Halt, bytes, number, operations, put_hex};
 
 /// The two nodes: the layer, and its parent, whose child is node 2. The first frame is a question or an order, and the second
 /// its answer.

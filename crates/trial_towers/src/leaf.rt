@@ -3,13 +3,13 @@
 ghost use Rattle.std.specs.Prelude.{IsTrue, ◌≡◌, ◌<◌, ◌≤◌, length};
 ghost use Rattle.vmm_cache.specs.Leaf.{MayAskAbout};
 
-use crate::frames::{asked_of, called_of, operations};
-use crate::halt::{Halt, bytes, number, put_hex};
+use crate::frames::{asked_of, called_of};
 use crate::layers::{frame_of, put_frame, put_taken, right_word};
 use coherency_layer::{Asked, Called, NodeErr};
 use marshal_buf::Buf;
 use std::alloc::Global;
 use tower_core::Right;
+use trial_parts::{Halt, bytes, number, operations, put_hex};
 use vmm_cache::Leaf;
 
 /// The leaf, and the last order and its answer.

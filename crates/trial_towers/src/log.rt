@@ -2,10 +2,10 @@
 
 ghost use Rattle.std.specs.Prelude.{◌≡◌, ◌≤◌};
 
-use crate::halt::{Halt, bytes, long, number, put_hex};
 use hist_plain::{Answer, Bytes, Event, MAX_EVENTS, Op};
 use std::alloc::{AllocError, Global};
 use tower_log::{Entry, Note, Trail};
+use trial_parts::{Halt, bytes, long, number, put_hex};
 
 /// The log of a case.
 #[derive(Drop)]

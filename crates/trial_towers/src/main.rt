@@ -1,11 +1,10 @@
-//! Cases of the layers over a file: the plain file, the sheet of rights, the plan, frames, layers, leaves, exchanges, logs and traces.
+//! Cases of the layers over a file: the plain file, the sheet of rights, the plan, frames, layers, leaves, exchanges, logs, traces
+//! and whole towers.
 #![tactic(auto)]
 
-mod disks;
 mod events;
 mod exchange;
 mod frames;
-mod halt;
 mod layers;
 mod leaf;
 mod log;
@@ -13,9 +12,9 @@ mod plain;
 mod plan;
 mod sheet;
 mod tables;
+mod tower;
 mod towers;
 mod trace;
-mod trees;
 
 use crate::towers::Towers;
 use std::io;

@@ -1,12 +1,12 @@
 //! The plain file of two pages of 64 letters `a`, under one layer, and its events.
 
 ghost use Rattle.std.specs.Prelude.{IsTrue, ◌≡◌, length};
-ghost use Rattle.hist_plain.specs.Plain.{Suits, asked_by, asked_len};
+ghost use Rattle.hist_plain.specs.Plain.{Suits, asked_len};
 
-use crate::events::{event_of, op_of};
-use crate::halt::{Halt, number, put_hex};
+use crate::events::event_of;
 use hist_plain::{Answer, Event, MAX_EVENTS, Op, Plain, fits};
 use std::alloc::{AllocError, Global};
+use trial_parts::{Halt, access_of, asked, number, put_answer, put_hex};
 
 /// The plain file of a case.
 #[derive(Drop)]
@@ -14,16 +14,6 @@ pub struct PlainFile {
     plain: Plain,
     ghost size: { plain.shape.page_size ≡ 64 },
     ghost nodes: { length plain.shape.parents ≡ 2 },
-}
-
-/// How many bytes an access reads.
-pub fn asked(op: &Op) -> usize
-    ensures { result ≡ asked_by op.now }
-{
-    match op {
-        Op::Read { len, .. } => *len as usize,
-        Op::Write { .. } | Op::Clear { .. } | Op::Open => 0,
-    }
 }
 
 /// How many bytes an event reads.
@@ -34,33 +24,6 @@ fn asked_of(event: &Event) -> usize
         Event::Access { op, .. } => asked(op),
         _ => 0,
     }
-}
-
-/// Appends what an event was answered, where `out` has the bytes of a read.
-pub fn put_given(
-    alloc: Global,
-    given: Answer,
-    out: &[u8],
-    answer: &mut String,
-) -> Result<(), Halt> {
-    match given {
-        Answer::Bytes => put_hex(alloc, out, answer)?,
-        Answer::Done => answer.push_str("done")?,
-        Answer::Life { life } => write!(answer, "life {life}")?,
-        Answer::Revoked { life } => write!(answer, "revoked, life {life}")?,
-    }
-    Ok(())
-}
-
-/// The same as a line.
-pub fn put_answer(
-    alloc: Global,
-    given: Answer,
-    out: &[u8],
-    answer: &mut String,
-) -> Result<(), Halt> {
-    put_given(alloc, given, out, answer)?;
-    Ok(answer.push('\n')?)
 }
 
 /// Appends who made an event, and at which node.
@@ -123,7 +86,7 @@ impl PlainFile {
     pub fn step(&mut self, alloc: Global, words: &[&str], answer: &mut String) -> Result<(), Halt> {
         match words {
             ["fits", op @ ..] => {
-                let fit = fits(&op_of(alloc, op)?, 64, 2);
+                let fit = fits(&access_of(alloc, op)?, 64, 2);
                 answer.push_str(if fit { "yes\n" } else { "no\n" })?;
             }
             ["about", event @ ..] => put_about(&event_of(alloc, event)?.clone()?, answer)?,

@@ -6,13 +6,12 @@ ghost use Rattle.tower_core.specs.TreeShape.{IsUpper, nodes};
 ghost use Rattle.tower_core.specs.Sheet.{nodes_of, pages_of};
 ghost use Rattle.tower_plan.specs.Reached.{IsReached};
 
-use crate::events::{is_in_pages, name_of, page_shown};
-use crate::halt::{Halt, number};
-use crate::trees::tree_of;
+use crate::events::is_in_pages;
 use hist_plain::{Bytes, Event, Keep, MAX_EVENTS, MAX_PAGES, Op};
 use std::alloc::{AllocError, Global};
 use tower_core::{Right, Sheet, Tree};
 use tower_plan::{Next, cost, next_drain, next_for, next_sync};
+use trial_parts::{Halt, name_of, number, page_shown, pages_and_tree, tree_of};
 
 /// A tree, and the sheet of what was done for the wishes.
 #[derive(Drop)]
@@ -214,14 +213,11 @@ fn bring(
 impl Planned {
     /// The sheet with no event, of a file of so many pages: `PAGES pages, parents PARENT .. frames FRAMES ..`.
     pub fn new(alloc: Global, words: &[&str]) -> Result<Planned, Halt> {
-        let [pages, "pages,", "parents", rest @ ..] = words else {
-            return Err(Halt::Unread);
-        };
-        let pages = number(pages)?;
+        let (pages, tree) = pages_and_tree(words)?;
         if pages > MAX_PAGES {
             return Err(Halt::Impossible);
         }
-        let tree = tree_of(alloc, rest)?;
+        let tree = tree_of(alloc, tree)?;
         let sheet = Sheet::new(alloc, &tree, pages)?;
         Ok(Planned { tree, sheet })
     }

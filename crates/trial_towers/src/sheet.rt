@@ -4,12 +4,11 @@ ghost use Rattle.std.specs.Prelude.{◌≡◌, ◌<◌, IsTrue};
 ghost use Rattle.tower_core.specs.TreeShape.{nodes};
 ghost use Rattle.tower_core.specs.Sheet.{nodes_of, pages_of};
 
-use crate::events::{event_of, is_in_pages, page_shown};
-use crate::halt::{Halt, number};
-use crate::trees::tree_of;
+use crate::events::{event_of, is_in_pages};
 use hist_plain::{Event, MAX_EVENTS, MAX_PAGES};
 use std::alloc::{AllocError, Global};
 use tower_core::{Right, Sheet, Tree};
+use trial_parts::{Halt, number, page_shown, tree_of};
 
 /// A tree, and the sheet of its events.
 #[derive(Drop)]

@@ -12,16 +12,16 @@ ghost use Rattle.page_exchange.specs.Allowed.{AllowAsking, AllowCalling, AllowsR
 ghost use Rattle.page_exchange.specs.Exchange.{may_be_full};
 ghost use Rattle.page_exchange.specs.Tables.{IsUnderFile, MayAskFrames, paged_of, sides, tree_of};
 
-use crate::disks::{Ram, disk, file_of, first_bytes, refused_write};
 use crate::exchange::put_ground;
-use crate::frames::operations;
-use crate::halt::{Halt, bytes, number, put_hex};
 use crate::layers::right_word;
 use coherency_layer::{Asked, Called};
 use disk_layer::Ground;
 use page_exchange::{GroundErr, Tables};
 use std::alloc::{AllocError, Global};
 use tower_core::{Right, Tree};
+use trial_parts::{
+    Halt, Ram, bytes, disk, file_of, first_bytes, number, operations, put_hex, refused_write,
+};
 
 /// The page that the nodes share.
 const PAGE: u32 = 1;

@@ -2,7 +2,6 @@
 
 use crate::exchange::Exchanged;
 use crate::frames::frames_step;
-use crate::halt::Halt;
 use crate::layers::Layers;
 use crate::leaf::OneLeaf;
 use crate::log::Log;
@@ -10,9 +9,11 @@ use crate::plain::PlainFile;
 use crate::plan::Planned;
 use crate::sheet::Entered;
 use crate::tables::Shared;
+use crate::tower::Driven;
 use crate::trace::Traced;
 use std::alloc::{AllocError, Global};
 use trial_cases::Trial;
+use trial_parts::Halt;
 
 /// What a case is about.
 #[derive(Drop)]
@@ -39,6 +40,8 @@ enum Subject {
     Log(Log),
     /// The heads of a trail's messages.
     Trace(Traced),
+    /// A tower, or what it left.
+    Tower(Driven),
 }
 
 /// The trial of the layers over a file.
@@ -67,6 +70,7 @@ impl Towers {
             ["tables", rest @ ..] => Ok(Subject::Tables(Shared::new(alloc, rest)?)),
             ["log"] => Ok(Subject::Log(Log::new(alloc))),
             ["trace"] => Ok(Subject::Trace(Traced::new(alloc)?)),
+            ["tower", rest @ ..] => Ok(Subject::Tower(Driven::new(alloc, rest)?)),
             ["frames"] => Ok(Subject::Frames),
             ["layers"] => Ok(Subject::Layers(Layers::new(alloc)?)),
             ["leaf", rest @ ..] => Ok(Subject::Leaf(OneLeaf::new(alloc, rest)?)),
@@ -87,6 +91,7 @@ impl Towers {
             Subject::Tables(tables) => tables.step(alloc, words, answer)?,
             Subject::Log(log) => log.step(alloc, words, answer)?,
             Subject::Trace(trace) => trace.step(alloc, words, answer)?,
+            Subject::Tower(tower) => tower.step(alloc, words, answer)?,
             Subject::Frames => frames_step(words, answer)?,
             Subject::Layers(layers) => layers.step(alloc, words, answer)?,
             Subject::Leaf(leaf) => leaf.step(alloc, words, answer)?,

@@ -4,14 +4,12 @@ ghost use Rattle.std.specs.Prelude.{◌≡◌, ◌<◌, IsTrue};
 ghost use Rattle.tower_core.specs.TreeShape.{nodes};
 ghost use Rattle.tower_core.specs.Sheet.{nodes_of, pages_of};
 
-use crate::disks::file_of;
 use crate::events::{event_of, is_in_pages};
-use crate::frames::operations;
-use crate::halt::{Halt, put_hex};
 use hist_plain::{Event, MAX_EVENTS};
 use spr_report::{Heads, head_bytes, heads_of, operation_name};
 use std::alloc::Global;
 use tower_core::{Sheet, Tree};
+use trial_parts::{Halt, file_of, operations, put_hex};
 
 /// The tree, and the sheet of the events.
 #[derive(Drop)]

@@ -1,0 +1,64 @@
+//! Lines of answers.
+
+use disk_format::BadImage;
+use disk_layer::StoreFault;
+use std::alloc::{AllocError, Global};
+
+/// Appends a line.
+pub fn say(answer: &mut String, line: &str) -> Result<(), AllocError> {
+    answer.push_str(line)?;
+    answer.push('\n')
+}
+
+/// Appends whether a call did what it was asked.
+pub fn say_done(answer: &mut String, is_done: bool) -> Result<(), AllocError> {
+    say(answer, if is_done { "done" } else { "failed" })
+}
+
+/// Appends whether a call of a disk did what it was asked, or the fault of the store.
+pub fn say_called(answer: &mut String, called: Result<(), StoreFault>) -> Result<(), AllocError> {
+    match called {
+        Ok(()) => say(answer, "done"),
+        Err(fault) => writeln!(answer, "{fault}"),
+    }
+}
+
+/// Appends the place and the reason of blocks that are no image.
+pub fn say_bad(answer: &mut String, bad: &BadImage) -> Result<(), AllocError> {
+    let (place, word) = (bad.place, bad.why.word());
+    writeln!(answer, "no image, {place} {word}")
+}
+
+/// Appends bytes as text.
+pub fn say_text(alloc: Global, answer: &mut String, bytes: &[u8]) -> Result<(), AllocError> {
+    let text = String::from_utf8_lossy(alloc, bytes)?;
+    answer.push_str(text.as_str())
+}
+
+/// The bytes without the zeros at their end.
+fn without_zeros(bytes: &[u8]) -> &[u8] {
+    let mut rest = bytes;
+    for _ in 0..bytes.len() {
+        match rest {
+            [front @ .., 0] => rest = front,
+            _ => break,
+        }
+    }
+    rest
+}
+
+/// Appends a line of bytes in hexadecimal, without the zeros at their end. If they are zeros alone, it is `zeros`; if they are
+/// all the same byte, it is that, and how often it stands there.
+pub fn say_bytes(answer: &mut String, bytes: &[u8]) -> Result<(), AllocError> {
+    let shown = without_zeros(bytes);
+    let Some((first, rest)) = shown.split_first() else {
+        return say(answer, "zeros");
+    };
+    if rest.len() == 63 && rest.iter().all(|byte| byte == first) {
+        return writeln!(answer, "64 times {first:02x}");
+    }
+    for byte in shown {
+        write!(answer, "{byte:02x}")?;
+    }
+    say(answer, "")
+}

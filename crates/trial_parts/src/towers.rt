@@ -1,0 +1,52 @@
+//! Towers over a file of pages of 64 bytes on a disk in memory.
+
+ghost use Rattle.std.specs.Prelude.{◌≡◌, IfOk, IsTrue};
+ghost use Rattle.tower_core.specs.TreeShape.{IsUpper};
+ghost use Rattle.stack_engine.specs.Engine.{file_in, tree_in};
+
+use crate::accesses::operations;
+use crate::disks::{Ram, disk, file_of, is_under};
+use crate::halt::{Halt, number};
+use crate::trees::{has_small_frames, tree_of};
+use hist_plain::MAX_PAGES;
+use stack_engine::Tower;
+use std::alloc::Global;
+use tower_core::Tree;
+
+/// A tower of this tree and of file 0, over a fresh disk 0 whose store fails at one write; 0 is no write.
+pub fn tower_over(alloc: Global, tree: Tree, pages: u32, fails_at: u64) -> Result<Tower<Ram>, Halt>
+    ensures tree { IfOk result (λ t. tree_in t.engine ≡ tree) }
+    ensures file { IfOk result (λ t. file_in t.engine ≡ record { number = 0; page_size = 64; pages = pages }) }
+{
+    let file = file_of(0, pages);
+    let ground = disk(alloc, 0, pages, fails_at)?;
+    if pages == 0 || pages > MAX_PAGES || !has_small_frames(&tree) || !is_under(&ground, file) {
+        return Err(Halt::Impossible);
+    }
+    match Tower::open(alloc, tree, file, ground, operations()) {
+        Ok(tower) => Ok(tower),
+        Err(_) => Err(Halt::Memory),
+    }
+}
+
+/// The same for the tree of some words.
+pub fn tower_of(alloc: Global, tree: &[&str], pages: u32, fails_at: u64) -> Result<Tower<Ram>, Halt>
+    ensures { IfOk result (λ t. file_in t.engine ≡ record { number = 0; page_size = 64; pages = pages }) }
+{
+    tower_over(alloc, tree_of(alloc, tree)?, pages, fails_at)
+}
+
+/// The count of pages in `PAGES pages, parents PARENT .. frames FRAMES ..`, and the words of the tree behind it.
+pub fn pages_and_tree<'a, 'b>(words: &'a [&'b str]) -> Result<(u32, &'a [&'b str]), Halt> {
+    match words {
+        [pages, "pages,", "parents", tree @ ..] => Ok((number(pages)?, tree)),
+        _ => Err(Halt::Unread),
+    }
+}
+
+/// Whether the node is a layer of the tower.
+pub fn is_layer(tower: &Tower<Ram>, node: u32) -> bool
+    ensures { IsTrue result → IsUpper (tree_in tower.now.engine) node }
+{
+    0 < node && node < tower.tree().nodes()
+}

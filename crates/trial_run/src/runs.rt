@@ -1,0 +1,314 @@
+//! The steps of a case: its texts and stores, the commands over them, and what these wrote.
+
+use crate::halt::{Halt, check_keys, number, ordinals};
+use crate::meeting::MeetingGate;
+use crate::stores::{count_faults, look, put_store};
+use crate::texts::Texts;
+use crate::written::Written;
+use seen_values::Text;
+use spr_io::{Gate, MemBay, MemSink, OpenGate};
+use spr_report::{Status, finish};
+use spr_run::spring;
+use std::alloc::{AllocError, Global};
+use std::sync::Wait;
+use std::thread::Threads;
+
+/// The most bytes that a sink takes at once, if a case says nothing else.
+const WIDTH: u32 = 7;
+
+/// What the steps of a case have made so far.
+#[derive(Drop)]
+pub struct Runs {
+    alloc: Global,
+    texts: Texts,
+    /// The reads of each command's shelf that fail, counted from 1.
+    reads: Vec<u64>,
+    /// The most bytes that each command's sink takes at once.
+    width: u32,
+    /// The writes of each command's sink that fail, counted from 1.
+    writes: Vec<u64>,
+    bay: MemBay,
+    written: Written,
+}
+
+/// The words of a command.
+fn words_of(alloc: Global, words: &[&str]) -> Result<Vec<Text>, Halt> {
+    let mut texts = Vec::new(alloc);
+    for word in words {
+        texts
+            .push(Text::of(alloc, word)?)
+            .map_err(|_| Halt::Memory)?;
+    }
+    Ok(texts)
+}
+
+/// Appends bytes as text.
+fn say_bytes(alloc: Global, bytes: &[u8], answer: &mut String) -> Result<(), Halt> {
+    let text = String::from_utf8_lossy(alloc, bytes)?;
+    answer.push_str(text.as_str())?;
+    Ok(())
+}
+
+/// Appends `yes` or `no`.
+fn say_whether(is: bool, answer: &mut String) -> Result<(), Halt> {
+    answer.push_str(if is { "yes\n" } else { "no\n" })?;
+    Ok(())
+}
+
+impl Runs {
+    /// No text and no store, and no call that fails.
+    pub fn new(alloc: Global) -> Result<Runs, AllocError> {
+        Ok(Runs {
+            alloc,
+            texts: Texts::new(alloc),
+            reads: Vec::new(alloc),
+            width: WIDTH,
+            writes: Vec::new(alloc),
+            bay: MemBay::new(alloc, &[], &[])?,
+            written: Written::new(alloc),
+        })
+    }
+
+    /// Does a step, and appends its answer.
+    pub fn step<R: Threads + Wait + Sync>(
+        &mut self,
+        rt: &R,
+        words: &[&str],
+        body: &[u8],
+        answer: &mut String,
+    ) -> Result<(), AllocError> {
+        let Some((what, rest)) = words.split_first() else {
+            return Ok(());
+        };
+        match self.done(rt, what, rest, body, answer) {
+            Ok(()) => Ok(()),
+            Err(Halt::Memory) => Err(AllocError),
+            Err(Halt::Unread) => answer.push_str("no such step\n"),
+            Err(Halt::Impossible) => answer.push_str("impossible\n"),
+        }
+    }
+
+    /// Does a step that runs a command, or else another.
+    fn done<R: Threads + Wait + Sync>(
+        &mut self,
+        rt: &R,
+        what: &str,
+        words: &[&str],
+        body: &[u8],
+        answer: &mut String,
+    ) -> Result<(), Halt> {
+        match (what, words) {
+            ("spring", words) => self.told(rt, words, answer),
+            ("as", [name, words @ ..]) => self.told_as(rt, name, words, answer),
+            ("quietly", words) => {
+                let status = self.command(rt, words, &OpenGate)?;
+                Ok(writeln!(answer, "status {status}")?)
+            }
+            ("meeting", words) => self.meeting(rt, words, answer),
+            ("next" | "end" | "times" | "some" | "later" | "digits", words) => {
+                self.looked(what, words, body, answer)
+            }
+            _ => self.prepared(what, words, body, answer),
+        }
+    }
+
+    /// Does a step over what a command wrote.
+    fn looked(
+        &mut self,
+        what: &str,
+        words: &[&str],
+        body: &[u8],
+        answer: &mut String,
+    ) -> Result<(), Halt> {
+        match (what, words) {
+            ("next", []) => say_whether(self.written.next(body)?, answer),
+            ("next", names) => say_whether(self.goes_on(names)?, answer),
+            ("end", []) => say_whether(self.written.is_at_end(), answer),
+            ("times", []) => Ok(writeln!(answer, "{}", self.written.times(body))?),
+            ("some", []) => say_whether(self.written.times(body) > 0, answer),
+            ("later", [one, other]) => {
+                let Some(later) = self.written.later(one, other) else {
+                    return Err(Halt::Impossible);
+                };
+                self.set_text("later", later.as_bytes())
+            }
+            ("digits", [most]) => {
+                let most = number(most)? as usize;
+                say_whether(self.written.has_digits(body, most), answer)
+            }
+            _ => Err(Halt::Unread),
+        }
+    }
+
+    /// Does a step over texts and stores.
+    fn prepared(
+        &mut self,
+        what: &str,
+        words: &[&str],
+        body: &[u8],
+        answer: &mut String,
+    ) -> Result<(), Halt> {
+        let alloc = self.alloc;
+        match (what, words) {
+            ("text", [name]) => self.set_text(name, body),
+            ("more", [name, times]) => Ok(self.texts.add(name, body, number(times)?)?),
+            ("shelf" | "sink" | "bay", words) => self.failing(what, words),
+            ("store", words) => put_store(alloc, &mut self.bay, words, body),
+            ("kept", words) => look(alloc, &self.bay, words, answer),
+            ("faults", words) => count_faults(&self.bay, words, answer),
+            ("finish", [status]) => self.finished(status, body, answer),
+            _ => Err(Halt::Unread),
+        }
+    }
+
+    /// Sets the text of a name.
+    fn set_text(&mut self, name: &str, text: &[u8]) -> Result<(), Halt> {
+        let text = Vec::from_slice(self.alloc, text)?;
+        self.texts.set(name, text)?;
+        Ok(())
+    }
+
+    /// `shelf`, `sink` or `bay`: which calls fail from here on. A bay is empty.
+    fn failing(&mut self, what: &str, words: &[&str]) -> Result<(), Halt> {
+        let alloc = self.alloc;
+        match what {
+            "shelf" => {
+                check_keys(words, &["reads"])?;
+                self.reads = ordinals(alloc, words, "reads")?;
+            }
+            "sink" => {
+                check_keys(words, &["width", "writes"])?;
+                self.width = match words {
+                    ["width", width, ..] => number(width)?,
+                    _ => WIDTH,
+                };
+                self.writes = ordinals(alloc, words, "writes")?;
+            }
+            _ => {
+                check_keys(words, &["takes", "gives"])?;
+                let takes = ordinals(alloc, words, "takes")?;
+                let gives = ordinals(alloc, words, "gives")?;
+                self.bay = MemBay::new(alloc, &takes, &gives)?;
+            }
+        }
+        Ok(())
+    }
+
+    /// A sink for a command.
+    fn sink(&self) -> Result<MemSink, Halt> {
+        if self.width == 0 {
+            return Err(Halt::Impossible);
+        }
+        Ok(MemSink::new(self.alloc, self.width, &self.writes)?)
+    }
+
+    /// Runs a command of these words: the number of its status.
+    fn command<R: Threads + Wait + Sync, G: Gate>(
+        &mut self,
+        rt: &R,
+        words: &[&str],
+        gate: &G,
+    ) -> Result<u8, Halt> {
+        let alloc = self.alloc;
+        let words = words_of(alloc, words)?;
+        let mut shelf = self.texts.shelf(&self.reads)?;
+        let mut sink = self.sink()?;
+        let status = spring(
+            rt,
+            alloc,
+            &words,
+            &mut shelf,
+            &mut self.bay,
+            &mut sink,
+            gate,
+        );
+        self.written.set(sink.bytes())?;
+        Ok(status.number())
+    }
+
+    /// Appends the status that was answered, unless the text's last line says it.
+    fn say_status(&self, status: u8, answer: &mut String) -> Result<(), Halt> {
+        let line = format!(in self.alloc; "status {status}\n")?;
+        if !self.written.text().ends_with(line.as_bytes()) {
+            writeln!(answer, "answered {status}")?;
+        }
+        Ok(())
+    }
+
+    /// `spring WORD ..`: what the command writes.
+    fn told<R: Threads + Wait + Sync>(
+        &mut self,
+        rt: &R,
+        words: &[&str],
+        answer: &mut String,
+    ) -> Result<(), Halt> {
+        let status = self.command(rt, words, &OpenGate)?;
+        let text = self.written.text();
+        say_bytes(self.alloc, text, answer)?;
+        if !text.is_empty() && !text.ends_with(b"\n") {
+            answer.push_str("..\n")?;
+        }
+        self.say_status(status, answer)
+    }
+
+    /// `as NAME WORD ..`: that the command writes the text of this name, or what it writes.
+    fn told_as<R: Threads + Wait + Sync>(
+        &mut self,
+        rt: &R,
+        name: &str,
+        words: &[&str],
+        answer: &mut String,
+    ) -> Result<(), Halt> {
+        let status = self.command(rt, words, &OpenGate)?;
+        let text = self.written.text();
+        match self.texts.text(name) {
+            Some(wanted) if wanted == text => writeln!(answer, "as {name}")?,
+            _ => say_bytes(self.alloc, text, answer)?,
+        }
+        self.say_status(status, answer)
+    }
+
+    /// `meeting WORD ..`: the status, and whether the second client came while the first one waited.
+    fn meeting<R: Threads + Wait + Sync>(
+        &mut self,
+        rt: &R,
+        words: &[&str],
+        answer: &mut String,
+    ) -> Result<(), Halt> {
+        let gate = MeetingGate::new();
+        let status = self.command(rt, words, &gate)?;
+        let when = if gate.is_late() { "late" } else { "in time" };
+        writeln!(answer, "status {status}, {when}")?;
+        Ok(())
+    }
+
+    /// Whether what was written goes on with one of the texts of these names, which is then looked at.
+    fn goes_on(&mut self, names: &[&str]) -> Result<bool, Halt> {
+        for name in names {
+            if let Some(text) = self.texts.text(name) {
+                if self.written.next(text)? {
+                    return Ok(true);
+                }
+            }
+        }
+        Ok(false)
+    }
+
+    /// `finish STATUS`: a sink has the pieces of the body, between which slashes stand, and the status.
+    fn finished(&mut self, status: &str, body: &[u8], answer: &mut String) -> Result<(), Halt> {
+        let status = match status {
+            "good" => Status::Good,
+            "memory" => Status::Memory,
+            _ => return Err(Halt::Unread),
+        };
+        let mut sink = self.sink()?;
+        let pieces: Vec<&[u8]> = body.split(|byte| *byte == b'/').collect(self.alloc)?;
+        let status = finish(&mut sink, &pieces, status).number();
+        self.written.set(sink.bytes())?;
+        say_bytes(self.alloc, self.written.text(), answer)?;
+        if !self.written.text().ends_with(b"\n") {
+            answer.push_str("..\n")?;
+        }
+        self.say_status(status, answer)
+    }
+}

@@ -1,7 +1,0 @@
-use Rattle.std.proofs.Common.{ℕ, ◌<◌}
-use Rattle.trial_towers.specs.Trees.{Hangs}
-use Rattle.trial_towers.proofs.trees.is_tree.Given as goal
-
--- the nodes so far hang well
-abbrev pub invariant-loop-node : goal.invariant-loop-node
-invariant-loop-node l = (k : ℕ) → 0 < k → k < l.node → Hangs l.parents l.frames k

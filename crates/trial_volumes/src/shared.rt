@@ -1,0 +1,152 @@
+//! A tower that callers share, over file 0 of pages of 64 bytes on disk 0: a step's lines are calls of several callers.
+
+ghost use Rattle.std.specs.Prelude.{◌≡◌, IsTrue};
+ghost use Rattle.tower_core.specs.TreeShape.{IsUpper};
+ghost use Rattle.stack_engine.specs.Engine.{file_in, tree_in};
+
+use crate::calls::{Act, Call, call_of};
+use crate::lines::{text_of, words_of};
+use hist_lock::Storied;
+use hist_plain::fits;
+use page_messages::PagedFile;
+use spr_volume::SharedTower;
+use stack_engine::{Moved, StepErr};
+use std::alloc::Global;
+use trial_parts::{
+    Halt, Ram, asked, first_bytes, pages_and_tree, put_hex, put_moved, refused_write, tower_of,
+};
+
+/// A tower that callers share.
+type Shared = SharedTower<Ram>;
+
+/// More tries than a call needs.
+const MANY: u32 = 9;
+
+/// Whether the node is a layer of the tower.
+fn has_layer(shared: &Shared, node: u32) -> bool
+    ensures { IsTrue result → IsUpper (tree_in shared.now.began.engine) node }
+{
+    0 < node && node < shared.nodes()
+}
+
+/// How many bytes a call reads.
+fn asked_by(act: &Act) -> usize {
+    match act {
+        Act::Access { op, .. } => asked(op),
+        Act::Sync { .. } => 0,
+    }
+}
+
+/// One try of a call; a sync is from a place on.
+fn try_once(
+    shared: &mut Shared,
+    file: PagedFile,
+    call: &Call,
+    from: u64,
+    out: &mut [u8],
+) -> Result<Result<Moved, StepErr>, Halt>
+    requires file { file_in shared.old.began.engine ≡ file }
+    ensures began { shared.new.began ≡ shared.old.began }
+{
+    if !has_layer(shared, call.node) {
+        return Err(Halt::Impossible);
+    }
+    match &call.act {
+        Act::Access { op, life } => {
+            if !fits(op, file.page_size, file.pages) || out.len() != asked(op) {
+                return Err(Halt::Impossible);
+            }
+            Ok(shared.try_access(call.caller, call.node, *life, op, out))
+        }
+        Act::Sync { keep } => {
+            if from > shared.place() {
+                return Err(Halt::Impossible);
+            }
+            Ok(shared.try_sync(call.caller, call.node, from, *keep))
+        }
+    }
+}
+
+/// Tries a call until it ends, or until another caller is before it, but at most so many times.
+fn tried(
+    shared: &mut Shared,
+    file: PagedFile,
+    call: &Call,
+    tries: u32,
+    out: &mut [u8],
+) -> Result<Result<Moved, StepErr>, Halt>
+    requires file { file_in shared.old.began.engine ≡ file }
+    ensures began { shared.new.began ≡ shared.old.began }
+{
+    let from = shared.place();
+    for _time in 1..tries {
+        match try_once(shared, file, call, from, out)? {
+            Ok(Moved::Stepped { .. }) => {}
+            ended => return Ok(ended),
+        }
+    }
+    try_once(shared, file, call, from, out)
+}
+
+/// Does a line: `call CALL`, or `try CALL`, which is one try of it. Tells how far it got, and how many events there are then.
+fn do_line(
+    alloc: Global,
+    shared: &mut Shared,
+    file: PagedFile,
+    line: &str,
+    answer: &mut String,
+) -> Result<(), Halt>
+    requires file { file_in shared.old.began.engine ≡ file }
+    ensures began { shared.new.began ≡ shared.old.began }
+{
+    let words = words_of(alloc, line)?;
+    let (tries, call) = match words.as_slice() {
+        ["call", call @ ..] => (MANY, call),
+        ["try", call @ ..] => (1, call),
+        _ => return Err(Halt::Unread),
+    };
+    let call = call_of(alloc, call)?;
+    let mut out = vec![in alloc; 0u8; asked_by(&call.act)]?;
+    let moved = tried(shared, file, &call, tries, &mut out)?;
+    put_moved(alloc, &moved, &out, answer)?;
+    Ok(writeln!(answer, ", {} events", shared.place())?)
+}
+
+/// Does the lines.
+fn do_lines(
+    alloc: Global,
+    shared: &mut Shared,
+    file: PagedFile,
+    text: &str,
+    answer: &mut String,
+) -> Result<(), Halt>
+    requires file { file_in shared.old.began.engine ≡ file }
+{
+    for line in text.lines() {
+        do_line(alloc, shared, file, line, answer)?;
+    }
+    Ok(())
+}
+
+/// Does a step, of a tower of no event: `PAGES pages, parents PARENT .. frames FRAMES ..`, where `write N refused,` may stand
+/// before. Tells at last how many things the log has, how many nodes there are, and the first bytes of the disk.
+pub fn shared_step(
+    alloc: Global,
+    words: &[&str],
+    body: &[u8],
+    answer: &mut String,
+) -> Result<(), Halt> {
+    let text = text_of(alloc, body)?;
+    let (fails_at, words) = refused_write(words)?;
+    let (pages, tree) = pages_and_tree(words)?;
+    let tower = tower_of(alloc, tree, pages, fails_at)?;
+    let file = tower.file();
+    let mut shared = SharedTower::new(tower);
+    let done = do_lines(alloc, &mut shared, file, text.as_str(), answer);
+    let (things, nodes) = (shared.len(), shared.nodes());
+    let (mut disk, _trail) = shared.into_tower().close();
+    done?;
+    write!(answer, "{things} things, {nodes} nodes, disk ")?;
+    put_hex(alloc, &first_bytes(&mut disk, 0)?, answer)?;
+    Ok(answer.push('\n')?)
+}

@@ -1,0 +1,39 @@
+//! Trees once more.
+
+ghost use Rattle.std.specs.Prelude.{◌≡◌, IfOk};
+
+use std::alloc::{AllocError, Global};
+use tower_core::Tree;
+
+/// The parent of each node.
+fn parents_of(alloc: Global, tree: &Tree) -> Result<Vec<u32>, AllocError>
+    ensures { IfOk result (λ parents. parents.items ≡ tree.now.parents) }
+{
+    let mut parents = Vec::new(alloc);
+    for node in 0..tree.nodes() {
+        parents.push(tree.parent(node))?;
+    }
+    Ok(parents)
+}
+
+/// How many frames each node has.
+fn frames_of(alloc: Global, tree: &Tree) -> Result<Vec<u32>, AllocError>
+    ensures { IfOk result (λ frames. frames.items ≡ tree.now.frames) }
+{
+    let mut frames = Vec::new(alloc);
+    for node in 0..tree.nodes() {
+        frames.push(tree.frames(node))?;
+    }
+    Ok(frames)
+}
+
+/// The same tree again.
+pub fn copy_tree(alloc: Global, tree: &Tree) -> Result<Tree, AllocError>
+    ensures { IfOk result (λ copy. copy ≡ tree.now) }
+{
+    // The proof reads here that this is a tree.
+    let _nodes = tree.nodes();
+    let parents = parents_of(alloc, tree)?;
+    let frames = frames_of(alloc, tree)?;
+    Tree::new(alloc, &parents, &frames)
+}
