@@ -11,6 +11,7 @@ import heads
 import names
 import rules
 from names import is_hex
+from reasons import Reasons
 from report import ENDS, MESSAGES, NUMBER, SYNCS
 
 MOUNT = "mount"
@@ -36,7 +37,8 @@ class FileCheck:
     """One file's history, followed event by event.
 
     `whole` is whether its rows are all the events. `steps` has for each row the cells that it changed, as
-    node, right and place. `lives` has for each row with a DestroyCache the new lives.
+    node, right and place. `lives` has for each row with a DestroyCache the new lives, and `reasons` for each
+    message why it was sent.
     """
 
     def __init__(self, check, part, number):
@@ -47,6 +49,7 @@ class FileCheck:
         self.numbers, self.last = Counter(), {}
         self.before, self.index = -1, 0
         self.steps, self.lives, self.effective = [], {}, set()
+        self.reasons = Reasons(check.stack)
 
     def run(self):
         """Follows all rows."""
@@ -89,6 +92,7 @@ class FileCheck:
             self.take_message(row, node)
         elif row.kind in SYNCS:
             self.take_sync(row)
+            self.reasons.call(self.index, row, node)
         elif row.kind in ENDS:
             self.take_end(row, node)
         else:
@@ -130,6 +134,7 @@ class FileCheck:
             self.fault(row, text)
         for text in rules.told_faults(state, row, node):
             self.fault(row, text)
+        self.reasons.message(self.index, row, node, state.column(row.page), right)
         rules.take_message(state, row, node)
 
     def take_access(self, row, node):
@@ -152,6 +157,7 @@ class FileCheck:
 
     def take_effect(self, row, node):
         """A read, write or clear of the node's life."""
+        self.reasons.call(self.index, row, node)
         column = self.state.column(row.page)
         if self.whole:
             for text in rules.access_faults(self.state, row, node):
@@ -189,6 +195,7 @@ class FileCheck:
 
     def take_end(self, row, node):
         """An end of a node's channels: no copy is left there. DestroyCache begins new lives."""
+        self.reasons.call(self.index, row, node)
         if self.whole:
             for text in rules.end_faults(self.state, node):
                 self.fault(row, text)

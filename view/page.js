@@ -3,7 +3,7 @@
 // ---- Choosing.
 
 function positionOf(index) {
-  return shown ? Math.min(countBelow(shown, index), shown.length - 1) : index;
+  return shown ? Math.max(0, Math.min(countBelow(shown, index), shown.length - 1)) : index;
 }
 
 function choose(index, reveal) {
@@ -17,16 +17,34 @@ function choose(index, reveal) {
   drawRows();
   drawDetails();
   const row = file.rows[now.chosen];
-  if (row) window.history.replaceState(null, "", `#${file.name}/${now.page}/${placeName(row)}`);
+  if (data.pair) tellOther();
+  else if (row) window.history.replaceState(null, "", `#${file.name}/${pageName()}/${placeName(row)}`);
 }
 
+// Beside another page: tells it which row the reader chose. It is not told what it told itself.
+function tellOther() {
+  if (!now.told) window.parent.postMessage({ file: file.name, row: now.chosen }, "*");
+}
+
+function onTold(event) {
+  if (!data.pair || event.source !== window.parent) return;
+  const at = data.files.findIndex((one) => one.name === event.data.file);
+  if (at < 0) return;
+  now.told = true;
+  jump(at, event.data.row);
+  now.told = false;
+}
+
+const pageName = () => (now.page === ALL ? "all" : now.page);
+
 function move(by) {
+  if (!count()) return;
   const position = Math.max(0, Math.min(positionOf(now.chosen) + by, count() - 1));
   choose(shown ? shown[position] : position, true);
 }
 
 function nextMarked() {
-  const marked = [...wrong.keys()].sort((a, b) => a - b);
+  const marked = [...wrong.keys()].concat(file.differs >= 0 ? file.differs : []).sort((a, b) => a - b);
   if (marked.length) choose(marked.find((index) => index > now.chosen) ?? marked[0], true);
 }
 
@@ -54,13 +72,26 @@ function openFile(at) {
   file.index = file.index || indexPages(file.rows);
   file.destroyed = file.destroyed || rowsThat((row) => kindOf(row) === "destroy_cache");
   file.lanes = file.lanes || lanesOf(file.spans);
+  file.sent = file.sent || callsOf(file.rows);
   wrong = new Map();
   for (const [of, index, , text] of data.findings) {
     if (of === at && index >= 0) wrong.set(index, (wrong.get(index) || []).concat(text));
   }
+  file.tracks = file.tracks || new Map();
   byId("page").innerHTML = Array.from({ length: file.pages }, (_, page) =>
-    `<option value="${page}">${page}${pageWords(page)}</option>`).join("");
+    `<option value="${page}">${page}${pageWords(page)}</option>`).join("") +
+    `<option value="${ALL}">all: each row's own</option>`;
+  offerClients();
   tellLeft(leftWords());
+}
+
+// The callers of the file's calls, from which one may be chosen.
+function offerClients() {
+  const callers = [...new Set(file.rows.map(clientOf).filter(Boolean))].sort();
+  if (!callers.includes(now.client)) now.client = "";
+  byId("client").innerHTML = `<option value="">all</option>` +
+    callers.map((name) => `<option value="${escapeText(name)}">${escapeText(name)}</option>`).join("");
+  byId("client").value = now.client;
 }
 
 const pageWords = (page) => (file.index.has(page) ? ": " + file.index.get(page).length + " events" : "");
@@ -78,18 +109,35 @@ function lanesOf(spans) {
   return lanes;
 }
 
+// The messages' rows by the row of the call that they were sent for.
+function callsOf(rows) {
+  const found = new Map();
+  rows.forEach((row, index) => {
+    if (!isMessage(row) || row[9] < 0) return;
+    if (!found.has(row[9])) found.set(row[9], []);
+    found.get(row[9]).push(index);
+  });
+  return found;
+}
+
 function openPage(page) {
   now.page = page;
   byId("page").value = page;
-  track = follow(page);
-  shown = now.only ? rowsThat((row, index) => row[4] < 0 || row[4] === page || wrong.has(index)) : null;
-  document.title = `History of file ${file.name}, page ${page}`;
+  shown = now.only || now.client ? rowsThat(isAskedFor) : null;
+  document.title = `History of file ${file.name}, ` + (page === ALL ? "all pages" : `page ${page}`);
 }
 
 function changePage(page) {
   openPage(page);
   redraw();
   choose(now.chosen, true);
+}
+
+// Takes up what the reader asks for, and goes to the next of these rows.
+function filter() {
+  openPage(now.page);
+  redraw();
+  choose(shown && shown.length ? shown[positionOf(now.chosen)] : now.chosen, true);
 }
 
 function redraw() {
@@ -105,7 +153,7 @@ function jump(fileAt, index) {
     byId("file").value = fileAt;
   }
   const page = file.rows[index] ? file.rows[index][4] : -1;
-  openPage(page >= 0 && page < file.pages ? page : Math.max(0, Math.min(now.page, file.pages - 1)));
+  openPage(now.page !== ALL && page >= 0 && page < file.pages ? page : Math.min(now.page, file.pages - 1));
   redraw();
   choose(index, true);
 }
@@ -159,6 +207,7 @@ function listen() {
   });
   byId("details").addEventListener("click", (event) => {
     if (event.target.dataset.page) changePage(Number(event.target.dataset.page));
+    if (event.target.dataset.row) choose(Number(event.target.dataset.row), true);
   });
   byId("verdict").addEventListener("click", (event) => {
     const button = event.target.closest("button");
@@ -167,28 +216,26 @@ function listen() {
   document.addEventListener("keydown", onKey);
   byId("file").addEventListener("change", (event) => { openFile(Number(event.target.value)); jump(now.file, 0); });
   byId("page").addEventListener("change", (event) => changePage(Number(event.target.value)));
-  byId("only").addEventListener("change", (event) => {
-    now.only = event.target.checked;
-    openPage(now.page);
-    redraw();
-    choose(shown && shown.length ? shown[positionOf(now.chosen)] : now.chosen, true);
-  });
+  byId("only").addEventListener("change", (event) => { now.only = event.target.checked; filter(); });
+  byId("client").addEventListener("change", (event) => { now.client = event.target.value; filter(); });
   byId("goto").addEventListener("change", (event) => {
     const index = file.rows.findIndex((row) => row[0] >= Number(event.target.value));
     choose(index < 0 ? file.rows.length - 1 : index, true);
     scroller.focus();
   });
   window.addEventListener("resize", redraw);
+  window.addEventListener("message", onTold);
   window.addEventListener("beforeprint", () => { now.printing = true; redraw(); });
   window.addEventListener("afterprint", () => { now.printing = false; tellLeft(leftWords()); redraw(); });
 }
 
-// The row to begin with: that of the address, as #FILE/PAGE/PLACE, else the first that is marked.
+// The row to begin with: that of the address, as #FILE/PAGE/PLACE, else the first difference, if there is
+// another page beside this one, else the first row that is marked.
 function startingPoint() {
   const [name, page, place] = location.hash.slice(1).split("/");
   const at = data.files.findIndex((one) => one.name === name);
   if (at < 0) return { at: data.file, page: data.page, place: -1 };
-  return { at, page: Number(page) || 0, place: Number(place) || 0 };
+  return { at, page: page === "all" ? ALL : Number(page) || 0, place: Number(place) || 0 };
 }
 
 function start() {
@@ -196,13 +243,15 @@ function start() {
   byId("file").innerHTML = data.files.map((one, at) => `<option value="${at}">${one.name}</option>`).join("");
   openFile(asked.at);
   byId("file").value = asked.at;
-  openPage(Math.max(0, Math.min(asked.page, file.pages - 1)));
+  openPage(Math.max(ALL, Math.min(asked.page, file.pages - 1)));
   drawVerdict();
   drawLegend();
   redraw();
-  const row = asked.place < 0 ? Math.min(...wrong.keys(), file.rows.length)
+  const row = asked.place < 0 ? (file.differs >= 0 ? file.differs : Math.min(...wrong.keys(), file.rows.length))
     : file.rows.findIndex((one) => one[0] >= asked.place);
-  choose(row < file.rows.length ? row : 0, true);
+  now.told = true;
+  choose(row < file.rows.length ? row : file.differs >= 0 ? file.rows.length - 1 : 0, true);
+  now.told = false;
   listen();
   byId("scroller").focus({ preventScroll: true });
   document.documentElement.dataset.ready = file.rows.length;

@@ -6,6 +6,7 @@ from pathlib import Path
 
 from heads import ORDERS
 from report import ENDS, MESSAGES, SYNCS
+from sentences import message_words
 
 HERE = Path(__file__).resolve().parent
 MOST_ROWS = 300000
@@ -39,7 +40,7 @@ def pack_row(file, index, row, stack, texts):
     if row.kind == "unreadable":
         return packed + [texts.place(row.text)]
     if row.kind in MESSAGES:
-        return packed + [texts.place(head) for head in row.heads]
+        return packed + pack_message(file, index, row, node, texts)
     packed += [texts.place(row.caller), row.number]
     if row.kind in SYNCS:
         return packed + [row.start]
@@ -49,6 +50,13 @@ def pack_row(file, index, row, stack, texts):
     words = "" if answer == "bytes" else answer if said is None else "%s %d" % (answer, said)
     return packed + [row.life, row.off or 0, row.length or 0, texts.place(row.told.hex() if row.told else ""),
                      texts.place(words), int(index in file.effective)]
+
+
+def pack_message(file, index, row, node, texts):
+    """What a message's row has behind the rest: its heads, its sentence, its call's row, and the reason."""
+    reason, pager = file.reasons.found.get(index), node.parent.name if node and node.parent else "?"
+    said = [texts.place(head) for head in row.heads] + [texts.place(message_words(row, pager) + ".")]
+    return said + ([-1, -1] if reason is None else [reason.call, texts.place(reason.words)])
 
 
 def spans_of(rows):
@@ -140,12 +148,16 @@ def read_part(name):
     return (HERE / name).read_text(encoding="utf-8")
 
 
-def make(check, name=None, page=None):
-    """The page as a text."""
-    data = json.dumps(pack(check, name, page), separators=(",", ":")).replace("<", "\\u003c")
-    text = read_part("page.html")
-    script = "".join(read_part(name) for name in SCRIPTS)
+def fill(name, scripts, packed):
+    """A page as a text: a part with a style, scripts and data put in."""
+    data = json.dumps(packed, separators=(",", ":")).replace("<", "\\u003c")
+    text, script = read_part(name), "".join(read_part(name) for name in scripts)
     for mark, part in (("STYLE", read_part("page.css")), ("SCRIPT", script), ("DATA", data)):
         before, after = text.split("/*%s*/" % mark)
         text = before + part + after
     return text
+
+
+def make(check, name=None, page=None):
+    """The page as a text."""
+    return fill("page.html", SCRIPTS, pack(check, name, page))

@@ -98,23 +98,43 @@ function livesNow(index) {
 function drawDetails() {
   const index = now.chosen, row = file.rows[index];
   if (!row) { byId("details").innerHTML = "<p>The history has no events.</p>"; return; }
-  const page = row[4] >= 0 && row[4] < file.pages ? row[4] : now.page, of = page === now.page ? track : follow(page);
+  const page = row[4] >= 0 && row[4] < file.pages ? row[4] : now.page, of = trackOf(page);
   const { before, after } = stepsOf(of, index);
   byId("details").innerHTML = whatHappened(row, index, page) + (isMessage(row) ? headTable(row) : "") +
-    (file.whole ? cellTable(row, of, before, after) : "") + "<div>" + movedBytes(row, of, before) +
-    (file.whole ? copies(row, of, after) : plainNow(of, after)) + "</div>";
+    (page === ALL ? "" : (file.whole ? cellTable(row, of, before, after) : "") + "<div>" + movedBytes(row, of, before) +
+      (file.whole ? copies(row, of, after) : plainNow(of, after)) + "</div>");
 }
 
 function whatHappened(row, index, page) {
   const faults = (wrong.get(index) || []).map((text) => `<p class="wrong">✗ ${escapeText(text)}</p>`).join("");
   const line = kindOf(row) === "unreadable" ? `<p class="text">${escapeText(data.texts[row[6]])}</p>`
     : isMessage(row) ? "" : `<p class="said">${callWords(row)}</p>`;
-  const other = page === now.page ? ""
+  const other = page === now.page || now.page === ALL ? ""
     : `<p><button type="button" data-page="${page}">show page ${page}</button></p>`;
   const untraced = file.whole ? "" : `<p class="none">The report is not traced: rights and copies are not known.</p>`;
   return `<div class="what"><h2>Place ${placeName(row)}, line ${row[2]} of the report</h2>` + faults +
-    `<p>${escapeText(sentence(row))}</p>` + line + other + livesNow(index) + untraced + "</div>";
+    `<p>${escapeText(sentence(row))}</p>` + line + other + livesNow(index) + untraced + "</div>" +
+    (isMessage(row) ? whySent(row) : whatFor(index));
 }
+
+// For which call a message was sent, and by which rule of the plan.
+function whySent(row) {
+  const asked = file.rows[row[9]];
+  const words = row[9] < 0 ? "<p class='none'>Behind it no call was found whose plan names this message. A call that " +
+      "failed has no event.</p>"
+    : (asked ? `<p>${rowButton(row[9])} ${escapeText(sentence(asked))}</p>` : "<p>Its call is left out of this page.</p>") +
+      `<p>By the plan of that call: ${escapeText(data.texts[row[10]])}.</p>`;
+  return `<div class="why"><h2>Why it was sent</h2>${words}</div>`;
+}
+
+// The messages that were sent for a call.
+function whatFor(index) {
+  const sent = file.sent.get(index);
+  return sent ? `<div class="why"><h2>What was sent for it</h2><p>${sent.map(rowButton).join(" ")}</p></div>` : "";
+}
+
+const rowButton = (index) =>
+  `<button type="button" data-row="${index}">place ${placeName(file.rows[index])}</button>`;
 
 function plainNow(of, after) {
   return `<h2>The newest bytes of page ${of.page}</h2>` + dump(bytesAt(of.page, of.newest[after]), () => false);

@@ -16,14 +16,14 @@ function bar(x, top, bottom, state, isGround) {
   return `<rect class="full" x="${x - 5.5}" y="${top}" width="11" height="${high}"/>` + core;
 }
 
-function bars(before, after) {
+function bars(of, before, after) {
   let drawn = "";
   for (let node = 0; node < nodes.length; node++) {
-    if (!file.whole && node > 0) {
+    if ((!file.whole || of.page < 0) && node > 0) {
       drawn += bar(centre(node), 0, HIGH, { right: NOTHING }, false);
       continue;
     }
-    const old = cell(track, before, node), next = cell(track, after, node);
+    const old = cell(of, before, node), next = cell(of, after, node);
     const same = old.right === next.right && old.changed === next.changed;
     drawn += same ? bar(centre(node), 0, HIGH, next, node === 0)
       : bar(centre(node), 0, 18, old, false) + bar(centre(node), 18, HIGH, next, false);
@@ -79,30 +79,33 @@ function stepsOf(of, index) {
 }
 
 function rowStyle(row, index, own) {
-  const previous = index > 0 ? file.rows[index - 1][0] : -1, gap = !file.whole && row[0] > previous + 1;
+  const before = file.rows[index - 1], gap = !file.whole && row[0] > (before ? before[0] : -1) + 1;
   return ["row", row[4] >= 0 && !own ? "other" : "", wrong.has(index) ? "bad" : "",
-    index === now.chosen ? "chosen" : "", gap ? "gap" : ""].filter(Boolean).join(" ");
+    index === file.differs ? "first" : "", index === now.chosen ? "chosen" : "", gap ? "gap" : "",
+    now.page === ALL && before && before[4] !== row[4] ? "turn" : ""].filter(Boolean).join(" ");
 }
 
 function drawRow(position) {
   const index = shown ? shown[position] : position, row = file.rows[index];
-  const { before, after, own } = stepsOf(track, index), newest = track.newest[after];
+  const of = trackOf(pageOf(row)), { before, after, own } = stepsOf(of, index), newest = of.newest[after];
   const act = isMessage(row) ? messageArrows(row) : kindOf(row) === "unreadable" ? "" : accessMark(row);
-  const marked = wrong.has(index), title = marked ? ` title="${escapeText(wrong.get(index).join("; "))}"` : "";
+  const title = wrong.has(index) ? ` title="${escapeText(wrong.get(index).join("; "))}"` : "";
+  const sign = wrong.has(index) ? "✗ " : index === file.differs ? "≠ " : "";
   return `<div class="${rowStyle(row, index, own)}" id="row${index}" data-index="${index}" role="row"` +
     ` aria-rowindex="${position + 1}" aria-selected="${index === now.chosen}"` +
     ` aria-label="${escapeText(rowLabel(row, index))}"${title}` +
     (now.printing ? ">" : ` style="top:${position * HIGH}px">`) +
-    `<div class="place">${marked ? "✗ " : ""}${placeName(row)}</div><div class="call">${callWords(row)}</div>` +
-    `<svg class="nodes" width="${wide.nodes}" height="${HIGH}" aria-hidden="true">${bars(before, after)}` +
+    `<div class="place">${sign}${placeName(row)}</div><div class="call">${callWords(row)}</div>` +
+    `<svg class="nodes" width="${wide.nodes}" height="${HIGH}" aria-hidden="true">${bars(of, before, after)}` +
     `<g class="act">${act}</g></svg>` +
-    `<div class="newest${newest === track.newest[before] ? "" : " moved"}">${newest ? newest - 1 : "·"}</div>` +
+    `<div class="newest${newest === of.newest[before] ? "" : " moved"}">${newest ? newest - 1 : "·"}</div>` +
     spanLines(index) + "</div>";
 }
 
 function rowLabel(row, index) {
   const marked = wrong.has(index) ? " Marked: " + wrong.get(index)[0] : "";
-  return "place " + placeName(row) + ", " + sentence(row) + marked;
+  return "place " + placeName(row) + ", " + sentence(row) + marked +
+    (index === file.differs ? " The first difference." : "");
 }
 
 // ---- The tree over the columns.

@@ -11,8 +11,9 @@ const HIGH = 30, LANE = 13, PRINTED = 1500, DETAILS = 540;
 const nodes = data.nodes, kinds = data.kinds;
 const columnOf = nodes.map((_, node) => data.columns.indexOf(node));
 
-const now = { file: data.file, page: data.page, only: false, chosen: 0, printing: false };
-let file, shown, track, wide, wrong;
+const ALL = -1;
+const now = { file: data.file, page: data.page, client: "", only: false, chosen: 0, printing: false, told: false };
+let file, shown, wide, wrong;
 
 // ---- Rows, as the page has them: place, kind, line, node, page, cells, and more by kind.
 
@@ -48,6 +49,28 @@ function indexPages(rows) {
     }
   });
   return found;
+}
+
+// What is known of a page along the history, worked out once.
+function trackOf(page) {
+  if (!file.tracks.has(page)) file.tracks.set(page, follow(page));
+  return file.tracks.get(page);
+}
+
+// The page whose rights a row shows: the chosen one, or its own if all are shown; -1 if it has none.
+const pageOf = (row) => (now.page !== ALL ? now.page : row[4] < file.pages ? row[4] : -1);
+
+// Whose call a row is, or was sent for.
+function clientOf(row) {
+  if (kindOf(row) === "unreadable") return "";
+  if (!isMessage(row)) return caller(row);
+  return file.rows[row[9]] ? caller(file.rows[row[9]]) : "";
+}
+
+// Whether a row is one of those that the reader asked for.
+function isAskedFor(row, index) {
+  const isOfPage = !now.only || now.page === ALL || row[4] < 0 || row[4] === now.page;
+  return wrong.has(index) || index === file.differs || isOfPage && (!now.client || clientOf(row) === now.client);
 }
 
 // The rights and places of all nodes on a page, after none of its events, after the first, and so on.
@@ -119,7 +142,7 @@ function callWords(row) {
 function sentence(row) {
   const node = nodeName(row[3]), kind = kindOf(row), page = "page " + row[4];
   if (kind === "unreadable") return "The line is none of a history.";
-  if (isMessage(row)) return messageSentence(row, node, nodeName(row[3] < 0 ? -1 : nodes[row[3]].parent), page);
+  if (isMessage(row)) return data.texts[row[8]];
   if (isSync(row)) return caller(row) + " began a sync at " + node + " at place " + row[8] +
     ", and it is done: the ground shows each page that was written before." +
     (kind === "cleaned" ? " No layer may write it on without asking." : "");
@@ -134,20 +157,4 @@ function sentence(row) {
   }
   return caller(row) + " " + { read: "reads", write: "writes", clear: "clears" }[kind] + " " + page + " at " + node +
     (kind === "clear" ? "." : ", " + said.length + " bytes from " + said.off + " on.");
-}
-
-function messageSentence(row, node, pager, page) {
-  const heads = headsOf(row), right = ["nothing", "read", "write"][heads[0].access];
-  const along = (heads[0].flags | heads[1].flags) & 1 ? "its bytes go along" : "no bytes go along";
-  return {
-    page_in: node + " asks " + pager + " for " + page + " and may " + right + " it; " + along + ".",
-    zero_fill: node + " asks " + pager + " for " + page + ", which is zeros, and may " + right + " it.",
-    page_out: node + " gives " + page + " up to " + pager + ", to free its frame; " + along + ".",
-    write_out: node + " gives " + page + " to " + pager + ", and may only read it now; " + along + ".",
-    sync: node + " gives " + page + " to " + pager + ", and keeps its right; " + along + ".",
-    flush_back: pager + " takes " + page + " back from " + node + ", which drops its copy; " + along + ".",
-    deny_writes: pager + " lets " + node + " only read " + page + " now; " + along + ".",
-    write_back: pager + " asks " + node + " for the bytes of " + page + "; " + along + ".",
-    delete_range: pager + " has " + node + " drop its copy of " + page + ".",
-  }[kindOf(row)];
 }

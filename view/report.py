@@ -177,6 +177,11 @@ def read_heading(report, line, words):
     return False
 
 
+def looks_like_report(text):
+    """Whether a text begins as the report of a run does."""
+    return re.match(r"(client|file) [a-z][a-z0-9_]*\n", text) is not None
+
+
 def read_report(text):
     """The report of a text."""
     report, part = Report(), None

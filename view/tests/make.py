@@ -61,7 +61,7 @@ def some_calls(run, client, seats, count):
     return made
 
 
-def eight():
+def run_eight():
     """Three clients at eight nodes: mappings on two machines, a manager that is gone round to, an old life."""
     run = Run(64, [("f", 3), ("g", 1)], EIGHT_TREE, ["ann", "bob", "cleo"])
     run.phase([("ann", "0 c open"), ("ann", "0 v map"), ("ann", "0 v write 0 0 0 61626364")])
@@ -75,10 +75,10 @@ def eight():
     run.phase(calls + some_calls(run, "cleo", "ky", 10))
     run.phase([("ann", "0 v release"), ("bob", "0 k open"), ("bob", "0 k clear 1 0"), ("cleo", "1 k clean")])
     run.phase(some_calls(run, "ann", "vu", 5) + some_calls(run, "bob", "w", 5) + some_calls(run, "cleo", "ky", 5))
-    return run.report()
+    return run
 
 
-def mirrored():
+def run_mirrored():
     """Two clients over a mirror whose image has bytes before the run, so a read tells what they are."""
     run = Run(128, [("f", 2)], MIRRORED_TREE, ["ann", "bob"], 2, {0: b"before the run"})
     run.phase([("ann", "0 c open"), ("ann", "0 v map"), ("ann", "0 v read 0 0 0 6")])
@@ -86,16 +86,31 @@ def mirrored():
     run.phase([("ann", "0 v read 0 0 0 14"), ("ann", "0 c sync")])
     run.phase([("bob", "0 k clear 0 0"), ("ann", "0 v read 0 1 4 4"), ("ann", "0 v write 0 1 4 7a")])
     run.phase(some_calls(run, "ann", "cv", 8) + some_calls(run, "bob", "rk", 8))
-    return run.report(names=False)
+    return run
 
 
-def long(events):
+def run_long(events):
     """Three clients at eight nodes and one file, until its history has about so many events."""
     run = Run(64, [("f", 3)], EIGHT_TREE, ["ann", "bob", "cleo"], 3)
     while len(run.files[0].lines) < events:
         calls = some_calls(run, "ann", "vuc", 300) + some_calls(run, "bob", "wr", 300)
         run.phase(calls + some_calls(run, "cleo", "ky", 300))
-    return run.report()
+    return run
+
+
+def eight():
+    """The report of the first run."""
+    return run_eight().report()
+
+
+def mirrored():
+    """The report of the second run."""
+    return run_mirrored().report(names=False)
+
+
+def long(events):
+    """The report of a long run."""
+    return run_long(events).report()
 
 
 def main(words):

@@ -69,11 +69,15 @@ class Layer:
 
 
 class File:
-    """One file: its layers, the lines of its history, its bytes, and each page's newest place."""
+    """One file: its layers, the lines of its history, its bytes, and each page's newest place.
+
+    `behind` has for each message's place that of the call which it was sent for.
+    """
 
     def __init__(self, name, number, size, pages, tree, image=None):
         self.name, self.number, self.size, self.pages = name, number, size, pages
         self.layers, self.lines, self.counts, self.turns = [], [], {}, {}
+        self.behind = {}
         for title, machine, parent, frames in tree:
             self.layers.append(Layer(title, machine, None if parent is None else self.layers[parent], frames))
         self.bytes = {page: bytearray(size) for page in range(pages)}
@@ -82,10 +86,11 @@ class File:
             self.bytes[page][:len(data)] = data
             self.layers[0].copy(page, size).data[:len(data)] = data
 
-    def say(self, caller, words):
-        """Enters an event of a caller."""
+    def say(self, caller, words, sent=()):
+        """Enters an event of a caller, behind the messages that were sent for it."""
         count = self.counts.get(caller, 0)
         self.counts[caller] = count + 1
+        self.behind.update((place, len(self.lines)) for place in sent)
         self.lines.append("%d %s %d %s" % (len(self.lines), caller, count, words))
 
     def send(self, layer, name, page, right, first, second, question=None):
@@ -149,15 +154,16 @@ class File:
 
     def access(self, caller, layer, life, words):
         """An access, event by event. Its answer is returned."""
-        page, kind = int(words[1]), words[0]
+        page, kind, sent = int(words[1]), words[0], []
         while life == layer.life and self.turns.setdefault(page, caller) != caller:
             yield
         while life == layer.life and self.step(layer, page, READ if kind == "read" else WRITE):
+            sent.append(len(self.lines) - 1)
             yield
         if self.turns.get(page) == caller:
             del self.turns[page]
         answer = self.do(layer, kind, page, words) if life == layer.life else "revoked %d" % layer.life
-        self.say(caller, "%s %d %s %s" % (layer.name, life, " ".join(words), answer))
+        self.say(caller, "%s %d %s %s" % (layer.name, life, " ".join(words), answer), sent)
         return answer
 
     def do(self, layer, kind, page, words):
@@ -193,7 +199,7 @@ class File:
 
     def sync(self, caller, layer, clean=False):
         """Brings the bytes to the ground, the deepest layer first."""
-        start = len(self.lines)
+        start, sent = len(self.lines), []
         while self.unsettled(start) is not None:
             page = self.unsettled(start)
             full = [(other.depth, at, other) for at, other in enumerate(self.layers)
@@ -205,12 +211,14 @@ class File:
                 self.give(other, "write_out" if down else "deny_writes", page, READ)
             else:
                 self.give(other, "sync" if down else "write_back", page, WRITE)
+            sent.append(len(self.lines) - 1)
             yield
-        self.say(caller, "%s %s %d done" % (layer.name, "cleaned" if clean else "synced", start))
+        self.say(caller, "%s %s %d done" % (layer.name, "cleaned" if clean else "synced", start), sent)
         return "done"
 
     def end(self, caller, layer, destroy):
         """Ends the caches of a layer and of all that stand on it."""
+        sent = []
         while True:
             held = [(-page, other.depth, at, other) for at, other in enumerate(self.layers)
                     for page in list(other.copies) if other in layer.tower()]
@@ -221,11 +229,12 @@ class File:
                 self.give(other, "flush_back", page, NONE)
             else:
                 self.delete(other, page)
+            sent.append(len(self.lines) - 1)
             yield
         if destroy:
             for other in layer.tower():
                 other.life += 1
-        self.say(caller, "%s %s done" % (layer.name, "destroy_cache" if destroy else "done_with_pager_object"))
+        self.say(caller, "%s %s done" % (layer.name, "destroy_cache" if destroy else "done_with_pager_object"), sent)
         return "done"
 
 

@@ -1,0 +1,30 @@
+"""The texts that the tools read and write, and what they say of a check."""
+
+import sys
+
+MOST_TOLD = 20
+
+
+def read_text(name):
+    """The text of a file, or of the standard input."""
+    if name == "-":
+        return sys.stdin.read()
+    with open(name, encoding="ascii", errors="backslashreplace") as file:
+        return file.read()
+
+
+def write_text(name, text):
+    """Writes a text to a file, or to the standard output."""
+    if name is None:
+        sys.stdout.write(text)
+        return
+    with open(name, "w", encoding="utf-8") as file:
+        file.write(text)
+
+
+def verdict(check):
+    """What was found, as lines: each file's rows, or what is wrong."""
+    said = [finding.words() for finding in check.findings[:MOST_TOLD]]
+    if len(check.findings) > MOST_TOLD:
+        said.append("and %d more, which may follow from the first" % (len(check.findings) - MOST_TOLD))
+    return said or [file.words() for file in check.files]
