@@ -6,11 +6,7 @@ use Rattle.disk_format.specs.declared.image.Image.{Image}
 use Rattle.disk_format.specs.declared.why.BadImage.{BadImage}
 use Rattle.disk_format.specs.Shape.{first_data}
 use Rattle.disk_format.specs.VersionOne.{image_in}
-
--- a generation and pages
-pub record Imaged : Type 0 where
-  pub generation : ℕ
-  pub pages : List (List ℕ)
+use Rattle.page_ground.specs.Seen.{Imaged}
 
 -- the page that an entry names: a hole is zeros
 abbrev pub page_of : ℕ → List (List ℕ) → ℕ → List ℕ

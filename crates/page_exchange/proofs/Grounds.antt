@@ -1,7 +1,7 @@
 -- An exchange of a node and the ground: what was written, and what was read of it.
 use Rattle.std.specs.Prelude.{IsErrAnd, IfErr}
 use Rattle.std.proofs.Common.{◌⊎◌, inl, inr, Result, Ok, Err, ◌≡◌, ℕ, ◌<◌, sym, ◌∙◌, ap, subst, refl, true, List, length, Option, Some, None}
-use Rattle.disk_layer.specs.Seen.{Seen}
+use Rattle.page_ground.specs.Seen.{Seen}
 use Rattle.tower_core.specs.declared.right.Right.{Right}
 use Rattle.layer_laws.specs.Side.{Side}
 use Rattle.pager_channel.specs.declared.numbers.Ops.{Ops}

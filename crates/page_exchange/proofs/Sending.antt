@@ -4,7 +4,7 @@ use Rattle.std.proofs.Common.{◌≡◌, ◌≢◌, ℕ, ◌<◌, inl, inr, sym,
 use Rattle.std.proofs.lemmas.Bool.{eq-eqb}
 use Rattle.std.proofs.lemmas.Bool.Decides.{eqb_tells}
 use Rattle.std.proofs.lemmas.Option.{slice_get_within}
-use Rattle.disk_layer.specs.Seen.{ReadsPage}
+use Rattle.page_ground.specs.Seen.{ReadsPage}
 use Rattle.tower_core.specs.declared.right.Right.{Right}
 use Rattle.tower_core.specs.TreeShape.{TreeShape, parent, IsUpper}
 use Rattle.tower_core.specs.Column.{updated}

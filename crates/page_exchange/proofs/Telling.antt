@@ -4,7 +4,7 @@ use Rattle.std.proofs.Common.{◌≡◌, ℕ, ◌<◌, inl, inr, sym, ◌∙◌,
 use Rattle.std.proofs.Math.ListN.{set}
 use Rattle.std.proofs.lemmas.List.{length-set}
 use Rattle.std.proofs.lemmas.Bool.Decides.{eqb_tells}
-use Rattle.disk_layer.specs.Seen.{ReadsPage}
+use Rattle.page_ground.specs.Seen.{ReadsPage}
 use Rattle.tower_core.proofs.Steps.{slice_get-set_same, slice_get-set_other}
 use Rattle.page_exchange.specs.Ground.{Tells, base_given, pages_given}
 

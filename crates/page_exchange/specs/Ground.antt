@@ -3,7 +3,7 @@ use Rattle.std.specs.Prelude.{◌≡◌, ◌⊎◌, ◌<◌, ℕ, List, length, 
 use Rattle.tower_core.specs.declared.right.Right.{Right}
 use Rattle.tower_core.specs.Column.{updated}
 use Rattle.layer_laws.specs.Side.{brought}
-use Rattle.disk_layer.specs.Seen.{Seen, IsCalm, IsFault, Keeps, ReadsPage, with_page}
+use Rattle.page_ground.specs.Seen.{Seen, IsCalm, IsFault, Keeps, ReadsPage, with_page}
 use Rattle.page_messages.specs.declared.kinds.Asked.{Asked}
 use Rattle.page_messages.specs.Carried.{asked_down}
 use Rattle.page_messages.specs.Rights.{IsForPage, asked_right}

@@ -4,7 +4,7 @@ use Rattle.tower_core.specs.TreeShape.{TreeShape, frames_of}
 use Rattle.tower_core.specs.declared.step.Step.{Step}
 use Rattle.page_messages.specs.declared.kinds.Asked.{Asked}
 use Rattle.layer_laws.specs.Side.{Side}
-use Rattle.disk_layer.specs.Seen.{Seen, IsFault}
+use Rattle.page_ground.specs.Seen.{Seen, IsFault}
 use Rattle.page_messages.specs.declared.paged.PagedFile.{PagedFile}
 use Rattle.page_exchange.specs.declared.ground.GroundErr.{GroundErr}
 use Rattle.page_exchange.specs.declared.ground.GroundErr.TheVariants as errors

@@ -1,7 +1,7 @@
 //! An exchange of a node and the ground.
 
 ghost use Rattle.std.specs.Prelude.{◌≡◌, ◌<◌, ◌≢◌, Some, None, OnOk, OnErr, IfErr, true, length};
-ghost use Rattle.disk_layer.specs.Seen.{IsFault, ReadsPage};
+ghost use Rattle.page_ground.specs.Seen.{IsFault, ReadsPage};
 ghost use Rattle.pager_channel.specs.Flags.{has_data};
 ghost use Rattle.page_messages.specs.Carried.{asked_down, asked_up, called_up};
 ghost use Rattle.page_messages.specs.Kinds.{bytes_up};
@@ -16,7 +16,7 @@ use crate::steps::{answer_of_ground, ask, obey, order_of_ground, sent};
 use crate::table::Table;
 use crate::wire::Wire;
 use coherency_layer::{Asked, Called};
-use disk_layer::{Ground, StoreFault};
+use page_ground::{Ground, StoreFault};
 use pager_channel::Frame;
 use std::alloc::AllocError;
 use thiserror::Error;

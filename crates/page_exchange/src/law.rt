@@ -1,7 +1,7 @@
 //! What joins an exchange to the trail. Each law is the contract of a function that does nothing.
 
 ghost use Rattle.std.specs.Prelude.{Bool, IfSome, IsSome, List, Option, length, ℕ, ◌<◌, ◌≡◌, ◌≢◌};
-ghost use Rattle.disk_layer.specs.Seen.{ReadsPage};
+ghost use Rattle.page_ground.specs.Seen.{ReadsPage};
 ghost use Rattle.tower_core.specs.Column.{Column, IsCoherent, MayStep, NoChildHolds};
 ghost use Rattle.tower_core.specs.TreeShape.{IsUpper, TreeShape, parent};
 ghost use Rattle.tower_core.specs.declared.right.Right.{Right as ARight};

@@ -11,7 +11,7 @@ use crate::starting::fresh_nodes;
 use crate::table::Table;
 use crate::wire::Wire;
 use coherency_layer::{Asked, Called, Node, PagedFile};
-use disk_layer::{Ground, StoreFault};
+use page_ground::{Ground, StoreFault};
 use pager_channel::Ops;
 use std::alloc::{AllocError, Global};
 use tower_core::{Right, Tree};
@@ -34,7 +34,7 @@ pub struct Tables {
 impl Tables {
     ghost use Rattle.std.specs.Prelude.{◌≡◌, ◌≢◌, ◌+◌, ◌<◌, ◌≤◌, ℕ, [], IfErr, IfOk, List, OnErr, OnOk, Option, drop, length, replicate, take, true};
     ghost use Rattle.hist_plain.specs.Plain.{overwritten};
-    ghost use Rattle.disk_layer.specs.Seen.{IsFault};
+    ghost use Rattle.page_ground.specs.Seen.{IsFault};
     ghost use Rattle.tower_core.specs.TreeShape.{IsTree, IsUpper, frames_of, parent};
     ghost use Rattle.tower_core.specs.declared.step.Step.TheVariants.{Writes};
     ghost use Rattle.layer_laws.specs.Tables.{AreBare};

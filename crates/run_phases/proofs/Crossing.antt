@@ -8,7 +8,7 @@ use denote.Struct.Tuple.{TupleAt, field_at, parts, type_at}
 use denote.Param.Send.{AllSync, IsSend, IsSync, recorded_sync, sendable, struct_sync}
 use Rattle.std.proofs.Common.{List, [], ◌∷◌}
 use Rattle.std.proofs.Crossing.{crosses}
-use Rattle.disk_layer.specs.declared.under.Ground.{Ghosts}
+use Rattle.page_ground.specs.declared.ground.Ground.{Ghosts}
 use Rattle.pager_channel.proofs.numbers.Ops.TheSendSync as ops
 use Rattle.stack_accept.proofs.entries.GroundPlan.TheLaws.TheKnot as plan
 use Rattle.stack_accept.specs.contracts.mounted.Mounted as Mounted

@@ -7,11 +7,10 @@ ghost use Rattle.spr_client.specs.Lines.{LineDone};
 ghost use Rattle.spr_volume.specs.Passes.{known};
 ghost use Rattle.run_phases.specs.Closing.{EndsQuietly, FilesClosed};
 
-use disk_layer::Ground;
-use hist_plain::Keep;
+use hist_plain::{Gate, Keep};
+use page_ground::Ground;
 use script_text::Reply;
 use spr_client::{Common, refused, reply_to, sync_at};
-use spr_io::Gate;
 use spr_volume::Pass;
 use std::alloc::Global;
 use std::sync::Wait;

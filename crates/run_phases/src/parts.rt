@@ -9,10 +9,10 @@ ghost use Rattle.run_phases.specs.Phases.{IsReady, PhaseDone};
 ghost use Rattle.run_phases.specs.Workers.{AreReady, HaveRoom};
 
 use crate::worker::Worker;
-use disk_layer::Ground;
+use hist_plain::Gate;
+use page_ground::Ground;
 use script_text::CallLine;
 use spr_client::{Common, do_lines};
-use spr_io::Gate;
 use spr_volume::{Pass, Volume};
 use std::alloc::Global;
 use std::mem::replace;

@@ -8,11 +8,11 @@ ghost use Rattle.run_phases.specs.Workers.{HaveRoom, IsSilent};
 
 use crate::parts::{Part, run_part};
 use crate::worker::Worker;
-use disk_layer::Ground;
+use hist_plain::Gate;
+use page_ground::Ground;
 use script_text::CallLine;
 use seen_values::Items;
 use spr_client::Common;
-use spr_io::Gate;
 use spr_volume::Pass;
 use std::alloc::Global;
 use std::sync::Wait;

@@ -10,10 +10,9 @@ ghost use Rattle.spr_client.specs.Calls.{CallDone, MayCall};
 
 use crate::client::Common;
 use client_objects::Target;
-use disk_layer::Ground;
 use file_frames::{FileCall, through_frame};
-use hist_plain::{Keep, Op};
-use spr_io::Gate;
+use hist_plain::{Gate, Keep, Op};
+use page_ground::Ground;
 use spr_volume::{Answered, CallErr, Pass};
 use std::alloc::{AllocError, Global};
 use std::sync::Wait;

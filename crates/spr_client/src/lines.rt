@@ -6,10 +6,10 @@ ghost use Rattle.spr_client.specs.Calls.{MayCall};
 ghost use Rattle.spr_client.specs.Lines.{AreCalls, IsOnMachine, LinesDone};
 
 use crate::client::{Client, Common, perform};
-use disk_layer::Ground;
+use hist_plain::Gate;
+use page_ground::Ground;
 use pager_channel::Ops;
 use script_text::{CallLine, Said};
-use spr_io::Gate;
 use spr_volume::{Pass, Volume};
 use stack_accept::Mounted;
 use std::alloc::{AllocError, Global};

@@ -4,8 +4,9 @@
 mod help;
 
 use crate::help::{HELP, VERSION, asks_help, asks_version};
+use hist_plain::OpenGate;
 use seen_values::Text;
-use spr_io::{HostBay, HostShelf, OpenGate, StdSink};
+use spr_io::{HostBay, HostShelf, StdSink};
 use spr_run::spring;
 use std::alloc::{AllocError, Global};
 use std::fs::File;

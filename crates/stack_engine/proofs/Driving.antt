@@ -3,7 +3,7 @@ use Rattle.std.proofs.Common.{◌≡◌, ℕ, ◌*◌, ◌<◌, ◌≤◌, ◌==
 use Rattle.hist_plain.specs.declared.event.Event.{Event}
 use Rattle.hist_plain.specs.declared.event.Event.TheVariants as events
 use Rattle.hist_plain.specs.declared.event.Keep.{Keep}
-use Rattle.disk_layer.specs.Seen.{Seen}
+use Rattle.page_ground.specs.Seen.{Seen}
 use Rattle.page_messages.specs.declared.paged.PagedFile.{PagedFile}
 use Rattle.tower_core.specs.declared.sheet.Sheet.{Sheet}
 use Rattle.tower_core.specs.Sheet.{seen}

@@ -8,9 +8,9 @@ use Rattle.hist_plain.specs.declared.event.Event.{Event}
 use Rattle.hist_plain.specs.Event.{caller_of, number_of}
 use Rattle.hist_plain.specs.Plain.{Told, reply}
 use Rattle.hist_plain.specs.History.{IsNumbered, mine, page_in}
-use Rattle.disk_format.specs.Image.{Imaged}
-use Rattle.disk_layer.specs.Seen.{AllKept, Are, AreBehind, IsFault, KeptAt, Seen, Turns, faults_in, held_in, live_in, opened_in, pages_in}
-use Rattle.disk_layer.specs.Seen.{kept_in as kept_on}
+use Rattle.page_ground.specs.Seen.{Imaged}
+use Rattle.page_ground.specs.Seen.{AllKept, Are, AreBehind, IsFault, KeptAt, Seen, Turns, faults_in, held_in, live_in, opened_in, pages_in}
+use Rattle.page_ground.specs.Seen.{kept_in as kept_on}
 use Rattle.tower_core.specs.declared.sheet.Sheet.{Sheet}
 use Rattle.tower_core.specs.Legal.{file_after, plain_shape}
 use Rattle.tower_core.specs.Sheet.{nodes_of, pages_of, seen}

@@ -13,7 +13,7 @@ use Rattle.hist_plain.specs.declared.event.Op.TheVariants as ops
 use Rattle.hist_plain.specs.Event.{caller_of, number_of}
 use Rattle.hist_plain.specs.Plain.{overwritten, plainly, reply}
 use Rattle.hist_plain.specs.History.{mine}
-use Rattle.disk_layer.specs.Seen.{AllKept, Seen}
+use Rattle.page_ground.specs.Seen.{AllKept, Seen}
 use Rattle.tower_core.specs.declared.sheet.Sheet.{Sheet}
 use Rattle.tower_core.specs.declared.step.Step.{Step}
 use Rattle.tower_core.specs.declared.step.Step.TheVariants.{Reads, Untouched, Writes}

@@ -1,7 +1,7 @@
 -- A call that a store ended, or want of memory: what is left as it was.
 use Rattle.std.proofs.Common.{◌≡◌, ℕ, ◌<◌, Bool, List, [], ◌∷◌, ◌++◌, Err, sym, ap, subst, ◌∙◌}
 use Rattle.hist_plain.specs.declared.TheConstants.{MAX_EVENTS}
-use Rattle.disk_layer.specs.Seen.{IsFault}
+use Rattle.page_ground.specs.Seen.{IsFault}
 use Rattle.tower_core.specs.declared.sheet.Sheet.{Sheet}
 use Rattle.layer_laws.specs.Side.{Side}
 use Rattle.page_exchange.specs.declared.ground.GroundErr.{GroundErr}

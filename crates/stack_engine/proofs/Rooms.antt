@@ -7,7 +7,7 @@ use Rattle.hist_plain.specs.declared.event.Event.{Event}
 use Rattle.hist_plain.specs.declared.event.Event.TheVariants as events
 use Rattle.hist_plain.specs.declared.event.Op.{Op}
 use Rattle.std.proofs.lemmas.Bool.Decides.{nat_tests}
-use Rattle.disk_layer.specs.Seen.{Seen}
+use Rattle.page_ground.specs.Seen.{Seen}
 use Rattle.page_exchange.specs.declared.tables.Tables.{Tables}
 use Rattle.tower_core.specs.declared.sheet.Sheet.{Sheet}
 use Rattle.tower_core.specs.Sheet.{seen}

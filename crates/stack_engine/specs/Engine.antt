@@ -10,7 +10,7 @@ use Rattle.tower_core.specs.TreeShape.{TreeShape, frames_of, nodes}
 use Rattle.tower_core.specs.Trail.{State, state_of}
 use Rattle.layer_laws.specs.Side.{Side}
 use Rattle.layer_laws.specs.Granted.{is_granted_in}
-use Rattle.disk_layer.specs.Seen.{DiskSeen, Seen, faults_in, opened_in}
+use Rattle.page_ground.specs.Seen.{DiskSeen, Seen, faults_in, opened_in}
 use Rattle.page_messages.specs.declared.paged.PagedFile.{PagedFile}
 use Rattle.page_exchange.specs.declared.tables.Tables.{Tables}
 use Rattle.vmm_cache.specs.Used.{AreUses}

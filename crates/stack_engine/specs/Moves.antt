@@ -8,7 +8,7 @@ use Rattle.hist_plain.specs.declared.event.Op.TheVariants as ops
 use Rattle.hist_plain.specs.declared.event.Answer.{Answer}
 use Rattle.hist_plain.specs.declared.event.Answer.TheVariants as answers
 use Rattle.hist_plain.specs.History.{IsZeroPage, mine}
-use Rattle.disk_layer.specs.Seen.{IsFault}
+use Rattle.page_ground.specs.Seen.{IsFault}
 use Rattle.tower_core.specs.declared.right.Right.{Right}
 use Rattle.layer_laws.specs.Granted.{is_granted_in}
 use Rattle.page_exchange.specs.Ground.{IsCalmCall, IsOneCall}

@@ -6,9 +6,9 @@ use Rattle.hist_plain.specs.declared.event.Event.{Event}
 use Rattle.hist_plain.specs.declared.event.Event.TheVariants as events
 use Rattle.hist_plain.specs.History.{page_in}
 use Rattle.hist_plain.specs.Plain.{reply}
-use Rattle.disk_format.specs.Image.{Imaged}
-use Rattle.disk_layer.specs.Seen.{AreBehind, live_in, pages_in}
-use Rattle.disk_layer.specs.Seen.{kept_in as kept_on}
+use Rattle.page_ground.specs.Seen.{Imaged}
+use Rattle.page_ground.specs.Seen.{AreBehind, live_in, pages_in}
+use Rattle.page_ground.specs.Seen.{kept_in as kept_on}
 use Rattle.tower_core.specs.Legal.{file_after, plain_shape}
 use Rattle.tower_core.specs.TreeShape.{TreeShape}
 use Rattle.tower_log.specs.declared.logged.Entry.{Entry}

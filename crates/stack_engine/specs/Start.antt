@@ -1,7 +1,7 @@
 -- An engine before its first event.
 use Rattle.std.specs.Prelude.{◌≡◌, ◌<◌, ◌≤◌, ℕ, [], false, length, slice_index_or}
 use Rattle.hist_plain.specs.declared.TheConstants.{MAX_EVENTS}
-use Rattle.disk_layer.specs.Seen.{Seen}
+use Rattle.page_ground.specs.Seen.{Seen}
 use Rattle.page_messages.specs.declared.paged.PagedFile.{PagedFile}
 use Rattle.tower_core.specs.Sheet.{nodes_of, pages_of, seen}
 use Rattle.tower_core.specs.Trail.{start}

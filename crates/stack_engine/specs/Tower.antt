@@ -8,7 +8,7 @@ use Rattle.hist_plain.specs.declared.event.Op.{Op}
 use Rattle.hist_plain.specs.History.{mine}
 use Rattle.tower_core.specs.declared.right.Right.{Right}
 use Rattle.tower_core.specs.Trail.{IsSettled}
-use Rattle.disk_layer.specs.Seen.{AllKept}
+use Rattle.page_ground.specs.Seen.{AllKept}
 use Rattle.stack_engine.specs.declared.moved.Moved.{Moved}
 use Rattle.stack_engine.specs.declared.moved.Moved.TheVariants.{Busy, Done, Stepped}
 use Rattle.stack_engine.specs.declared.refusal.StepErr.{StepErr}

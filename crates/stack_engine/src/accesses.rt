@@ -12,8 +12,8 @@ ghost use Rattle.stack_engine.specs.Moves.{IsRefused, Makes, answer_to, bytes_to
 
 use crate::engine::Engine;
 use crate::refusal::StepErr;
-use disk_layer::Ground;
 use hist_plain::{Answer, Event, MAX_EVENTS, Op};
+use page_ground::Ground;
 use seen_values::Bytes;
 use std::alloc::{AllocError, Global};
 use tower_log::Entry;

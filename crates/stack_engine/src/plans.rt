@@ -14,8 +14,8 @@ ghost use Rattle.stack_engine.specs.Plans.{IsLowest, IsLowestUnsettled, IsMissed
 
 use crate::engine::Engine;
 use crate::sight::Sight;
-use disk_layer::Ground;
 use hist_plain::{Event, Keep, Op};
+use page_ground::Ground;
 use tower_core::{Right, Sheet};
 use tower_plan::{Next, next_for, next_sync};
 

@@ -1,7 +1,7 @@
 //! Why a try entered no event.
 
-use disk_layer::StoreFault as Fault;
 use page_exchange::GroundErr;
+use page_ground::StoreFault as Fault;
 use std::alloc::AllocError;
 use thiserror::Error;
 

@@ -6,7 +6,7 @@ ghost use Rattle.hist_plain.specs.declared.event.Answer.TheVariants.{Done as ADo
 ghost use Rattle.hist_plain.specs.Plain.{asked_by};
 ghost use Rattle.hist_plain.specs.declared.event.Event.{Event as AnEvent};
 ghost use Rattle.hist_plain.specs.History.{mine};
-ghost use Rattle.disk_layer.specs.Seen.{AllKept};
+ghost use Rattle.page_ground.specs.Seen.{AllKept};
 ghost use Rattle.stack_engine.specs.Engine.{IsNext, events_in};
 ghost use Rattle.stack_engine.specs.Moves.{Enters, IsRefused, Makes};
 ghost use Rattle.stack_engine.specs.Tower.{IsStepOf, TakesStep};
@@ -15,8 +15,8 @@ use crate::accesses::Place;
 use crate::engine::Engine;
 use crate::messages::noted;
 use crate::refusal::StepErr;
-use disk_layer::Ground;
 use hist_plain::{Answer, Event, Keep, Op};
+use page_ground::Ground;
 use seen_values::Bytes;
 use tower_log::Entry;
 

@@ -5,7 +5,7 @@ ghost use Rattle.hist_plain.specs.declared.event.Answer.TheVariants.{Bytes as AB
 ghost use Rattle.hist_plain.specs.Event.{fits_page};
 ghost use Rattle.hist_plain.specs.History.{mine};
 ghost use Rattle.hist_plain.specs.Plain.{asked_by};
-ghost use Rattle.disk_layer.specs.Seen.{faults_in, opened_in};
+ghost use Rattle.page_ground.specs.Seen.{faults_in, opened_in};
 ghost use Rattle.coherency_layer.specs.Node as layers;
 ghost use Rattle.vmm_cache.specs.Leaf as leaves;
 ghost use Rattle.page_messages.specs.Paged.{IsPagedFile};
@@ -29,8 +29,8 @@ use crate::plans::Missed;
 use crate::refusal::StepErr;
 use crate::turns::{Turn, blocker, give_up_turns, take_turn};
 use coherency_layer::{Node, PagedFile};
-use disk_layer::Ground;
 use hist_plain::{Event, Keep, Op};
+use page_ground::Ground;
 use pager_channel::Ops;
 use std::alloc::{AllocError, Global};
 use std::marker::Model;
