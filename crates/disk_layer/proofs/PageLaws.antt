@@ -3,7 +3,7 @@ use Rattle.std.proofs.Common.{◌≡◌, ℕ, zero, suc, ◌+◌, ◌*◌, ◌<�
 use Rattle.std.specs.Prelude.{slice_get}
 use Rattle.std.proofs.lemmas.List.{take-append-le, drop-append-le, drop-drop, length-drop, length-take-le, take-append-drop, take_all, take_at, nil_from_length}
 use borrow.Rule.Slice.PartMut.{put_mid}
-use Rattle.disk_layer.specs.Pages.{cut}
+use Rattle.page_ground.specs.Pages.{cut}
 
 pub length-cut : (size n : ℕ) (bytes : List ℕ) → length (cut size n bytes) ≡ n
 length-cut size zero bytes = refl

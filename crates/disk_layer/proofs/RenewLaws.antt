@@ -35,7 +35,7 @@ no_magic = record { place = 0; why = Magic }
 header-zeros : (shape : ImageShape) → 64 ≤ shape.page_size → header_in shape (replicate shape.page_size 0) ≡ Err no_magic
 header-zeros shape low = rw (zeros-head shape.page_size (omega arith)) refl
 
-no-image : (shape : ImageShape) (blocks : List (List ℕ)) → 64 ≤ shape.page_size → Sizes shape.page_size blocks → 1 ≤ length blocks → get_or blocks 0 [] ≡ replicate shape.page_size 0 → image shape blocks ≡ None
+pub no-image : (shape : ImageShape) (blocks : List (List ℕ)) → 64 ≤ shape.page_size → Sizes shape.page_size blocks → 1 ≤ length blocks → get_or blocks 0 [] ≡ replicate shape.page_size 0 → image shape blocks ≡ None
 no-image shape blocks low sizes room head =
     let f = front-parts shape blocks sizes room in
     let i : image_in shape (front_of shape blocks) ≡ Err no_magic =
@@ -43,7 +43,7 @@ no-image shape blocks low sizes room head =
     ap (λ r. imaged shape blocks r) i
 
 -- the blocks of the map leave the header
-laid-first : (shape : ImageShape) (n : ℕ) (blocks : List (List ℕ)) → n ≤ map_blocks shape → get_or (laid shape n blocks) 0 [] ≡ get_or blocks 0 []
+pub laid-first : (shape : ImageShape) (n : ℕ) (blocks : List (List ℕ)) → n ≤ map_blocks shape → get_or (laid shape n blocks) 0 [] ≡ get_or blocks 0 []
 laid-first shape zero blocks le = refl
 laid-first shape (suc n) blocks le =
     rw (ne_eqb n (map_blocks shape) (λ q. omega arith)) (head-data (laid shape n blocks) (suc n) (replicate shape.page_size 0) (omega arith) ∙ laid-first shape n blocks (omega arith))

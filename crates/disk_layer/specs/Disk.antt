@@ -1,14 +1,16 @@
 -- A disk: an image on a store.
-use Rattle.std.specs.Prelude.{◌≡◌, ◌≢◌, ℕ, zero, suc, List, [], ◌∷◌, drop, take, get_or, replicate, slice_index, slice_set, true, Option, Some, IfSome, Ok, if◌then◌else◌, ◌==◌}
+use Rattle.std.specs.Prelude.{◌≡◌, ◌≢◌, ℕ, zero, suc, Bool, List, [], ◌∷◌, drop, take, get_or, replicate, slice_index, slice_set, true, Option, Some, IfSome, Ok, if◌then◌else◌, ◌==◌}
 use Rattle.std.specs.Option.{option_map}
 use Rattle.std.specs.List.{concat}
 use Rattle.spr_io.specs.Content.{Content, HasShape, written, flushed}
 use Rattle.disk_format.specs.declared.shape.ImageShape.{ImageShape}
 use Rattle.disk_format.specs.Shape.{map_blocks, blocks_of}
 use Rattle.disk_format.specs.VersionOne.{header, header_in, is_generation}
-use Rattle.disk_format.specs.Image.{Imaged, image, pages_of}
-use Rattle.disk_layer.specs.Front.{FrontSeen, IsMap, IsLowestFree}
-use Rattle.disk_layer.specs.Seen.{Seen}
+use Rattle.page_ground.specs.Seen.{Imaged}
+use Rattle.disk_format.specs.Image.{image, pages_of}
+use Rattle.page_ground.specs.Pages.{are_zeros}
+use Rattle.disk_layer.specs.Front.{FrontSeen, IsMap, IsLowestFree, entries_on}
+use Rattle.page_ground.specs.Seen.{Seen}
 
 -- the disk's number and shape, the generation and the entries that it keeps in memory, what its store holds where
 -- that is told, and the store's count of faults, now and when the disk was opened
@@ -65,11 +67,11 @@ abbrev pub settled : Disk → Disk
 settled d = record d { content = flushed d.content }
 
 -- a page has the block that it had, or the lowest free one if it was a hole
-pub record Placed (before : Disk) (page : ℕ) (after : Disk) : Type 0 where
+pub record Placed (shape : ImageShape) (before : List ℕ) (page : ℕ) (after : List ℕ) : Type 0 where
   pub block : ℕ
-  pub entries : after.entries ≡ slice_set before.entries page block
-  pub named : slice_index before.entries page ≢ 0 → block ≡ slice_index before.entries page
-  pub hole : slice_index before.entries page ≡ 0 → IsLowestFree before.shape before.entries block
+  pub entries : after ≡ slice_set before page block
+  pub named : slice_index before page ≢ 0 → block ≡ slice_index before page
+  pub hole : slice_index before page ≡ 0 → IsLowestFree shape before block
 
 -- what stays in a write of a page: all but the entries, the blocks as read, and the count
 pub record SameBut (before after : Disk) : Type 0 where
@@ -88,6 +90,37 @@ laid shape (suc n) blocks =
 
 abbrev pub formatted : ImageShape → ℕ → Option Content → Option Content
 formatted shape n content = option_map {T = Content} (λ c. record c { blocks = laid shape n c.blocks }) content
+
+-- whether block 0 is zeros
+abbrev pub is_blank : List (List ℕ) → Bool
+is_blank blocks = are_zeros (get_or blocks 0 [])
+
+-- block 0 is zeros, if the blocks are told
+abbrev pub IsBlank : Option Content → Type 0
+IsBlank content = IfSome content (λ c. is_blank c.blocks ≡ true)
+
+-- what is told of a store's content has these bytes of the map
+pub record HasMap (shape : ImageShape) (bytes : List ℕ) (c : Content) : Type 0 where
+  pub shaped : HasShape shape.page_size (blocks_of shape) c
+  pub map : concat (take (map_blocks shape) (drop 1 c.blocks)) ≡ bytes
+
+-- the map that is kept in memory is what a store of its shape holds
+pub record IsMapped (front : FrontSeen) (block_size blocks : ℕ) (content : Option Content) : Type 0 where
+  pub map : IsMap front
+  pub suits : Suits front.shape block_size blocks
+  pub told : IfSome content (HasMap front.shape front.map)
+
+-- the pages that a map in memory names
+abbrev pub pages_named : FrontSeen → Option Content → Option (List (List ℕ))
+pages_named f content = option_map {T = Content} (λ c. pages_of f.shape.page_size c.blocks (entries_on f)) content
+
+-- block 0, if the blocks are told
+abbrev pub first_in : Option Content → Option (List ℕ)
+first_in content = option_map {T = Content} (λ c. get_or c.blocks 0 []) content
+
+-- the blocks that were kept, if they are told
+abbrev pub kept_in : Option Content → Option (List (List ℕ))
+kept_in content = option_map {T = Content} (λ c. c.kept) content
 
 -- what is told of a store's content is the image of this generation and these bytes of the map
 pub record Tied (shape : ImageShape) (generation : ℕ) (bytes : List ℕ) (c : Content) : Type 0 where

@@ -1,13 +1,12 @@
-//! All pages of a disk, and the test for a page of zeros.
+//! All pages of a disk.
 
-ghost use Rattle.std.specs.Prelude.{◌≡◌, ◌*◌, ◌↔◌, IsTrue, OnOk, IfErr, IfSome, length, replicate};
-ghost use Rattle.disk_layer.specs.Seen.{Keeps, IsFault};
+ghost use Rattle.std.specs.Prelude.{◌≡◌, ◌*◌, OnOk, IfErr, IfSome, length};
+ghost use Rattle.page_ground.specs.Seen.{Keeps, IsFault};
 ghost use Rattle.disk_layer.specs.Disk.{HasImage, seen_of, pages_on, counting};
-ghost use Rattle.disk_layer.specs.Pages.{cut, are_zeros};
+ghost use Rattle.page_ground.specs.Pages.{cut};
 
-use crate::fault::StoreFault;
 use crate::layer::Disk;
-use crate::under::Ground;
+use page_ground::{Ground, StoreFault};
 use spr_io::Store;
 
 /// Reads all pages of a disk, one after another from the lowest.
@@ -19,6 +18,7 @@ pub fn read_pages<S: Store>(disk: &mut Disk<S>, out: &mut [u8]) -> Result<(), St
     ensures image { HasImage disk.new }
     ensures keeps { Keeps (seen_of disk.old) (seen_of disk.new) }
     ensures fault { IfErr result (IsFault (seen_of disk.old) (seen_of disk.new)) }
+    ensures counted { IfErr result (λ f. f.count ≡ disk.new.faults) }
 {
     disk.sound();
     let shape = disk.shape();
@@ -28,12 +28,4 @@ pub fn read_pages<S: Store>(disk: &mut Disk<S>, out: &mut [u8]) -> Result<(), St
         disk.read(page, &mut out[from..from + size])?;
     }
     Ok(())
-}
-
-/// Whether a page is zeros.
-pub fn is_zero_page(page: &[u8]) -> bool
-    ensures test { result ≡ are_zeros page.now }
-    ensures zeros { IsTrue result ↔ (page.now ≡ replicate (length page.now) 0) }
-{
-    page.iter().all(|byte| *byte == 0)
 }

@@ -5,7 +5,7 @@ use Rattle.stack_accept.specs.Mount.{Mount}
 use Rattle.disk_layer.specs.Disk.{Disk}
 use Rattle.disk_layer.specs.declared.refused.OpenWhy.{OpenWhy}
 use Rattle.disk_layer.specs.declared.refused.OpenWhy.TheVariants as whys
-use Rattle.disk_layer.specs.declared.fault.StoreFault.{StoreFault}
+use Rattle.page_ground.specs.declared.fault.StoreFault.{StoreFault}
 use Rattle.disk_layer.specs.Calls as disks
 use Rattle.file_stores.specs.State.{StoreState}
 use Rattle.file_stores.specs.Stop.{refused}
@@ -19,7 +19,7 @@ same-state a b c f = λ i. record { content = c i; faults = f i }
 
 -- the image on a store was refused
 pub refused-unopened : (mount : Mount) (old new : StoreSeen) (why : OpenWhy) → new.state.content ≡ old.state.content → disks.IsRefusal (under mount old) new.state.faults why → IsUnopenedOne mount old new (refused old.key why)
-refused-unopened mount old new (whys.BadImage bad) content refusal = (refl, record { reason = refusal.0; told = refusal.1 }, same-state new.state old.state content refusal.2)
+refused-unopened mount old new (whys.BadImage bad blank) content refusal = (refl, record { reason = refusal.0; told = refusal.1 }, same-state new.state old.state content refusal.2)
 refused-unopened mount old new (whys.StoreFault fault) content refusal =
     let count : fault.count ≡ new.state.faults = ap (λ (f : StoreFault). f.count) refusal.1 in
     let rose = refusal.0 in

@@ -5,7 +5,6 @@ use denote.Param.Send.{IsSend, recorded_send, sendable, struct_send, view_send}
 use Rattle.std.proofs.Crossing.{Vec-send, crosses}
 use Rattle.spr_io.specs.declared.outside.Store.{Ghosts}
 use Rattle.disk_layer.specs.contracts.layer.Disk as Disk
-use Rattle.disk_layer.specs.contracts.layer.Disk.TheInside as disk
 use Rattle.mirror_layer.specs.contracts.any.AnyGround as AnyGround
 use Rattle.mirror_layer.specs.contracts.any.AnyGround.TheInside as any
 use Rattle.std.proofs.option.Option.TheSendSync as option

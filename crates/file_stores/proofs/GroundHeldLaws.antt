@@ -1,17 +1,16 @@
 -- What the disks of a ground guard, by the images that it tells: from the machine's row when it was opened.
-use Rattle.std.proofs.Common.{◌≡◌, ◌≢◌, ◌⊎◌, inl, inr, ℕ, zero, suc, ◌<◌, Bool, true, false, List, [], ◌∷◌, length, Option, Some, None, IfSome, IsSome, refl, sym, ap, subst, ◌∙◌, arith}
-use Rattle.std.specs.Prelude.{Contains, is_some, slice_get}
-use Rattle.std.specs.Option.{option_map}
+use Rattle.std.proofs.Common.{◌≡◌, ◌⊎◌, inl, inr, ℕ, zero, suc, ◌<◌, Bool, true, List, length, Option, Some, None, IsSome, refl, sym, ap, subst, ◌∙◌}
+use Rattle.std.specs.Prelude.{Contains, is_some}
 use Rattle.std.proofs.lemmas.Bool.Decides.{eqb_tells}
 use Rattle.spr_io.specs.Content.{Content}
 use Rattle.stack_accept.specs.Plan.{Plan, disks_in}
 use Rattle.disk_format.specs.declared.shape.ImageShape.{ImageShape}
-use Rattle.disk_format.specs.Image.{Imaged}
-use Rattle.disk_layer.specs.Seen.{DiskSeen, held_in}
+use Rattle.page_ground.specs.Seen.{Imaged}
+use Rattle.page_ground.specs.Seen.{DiskSeen, held_in}
 use Rattle.mirror_rules.specs.Tree.{Image, Seat, In, Out}
 use Rattle.mirror_rules.specs.Tree as machine
 use Rattle.mirror_rules.specs.Claims.{Pairs, pairs_none, pairs_more, Has, Nth, nth_here, nth_later}
-use Rattle.mirror_rules.specs.Guards.{Among, Shows, shows_now, shows_out, At, at_place, Guarded, Guarding, Made, made_here, made_later}
+use Rattle.mirror_rules.specs.Guards.{Among, Shows, shows_now, shows_out, At, at_place, Guarding, Made, made_here, made_later}
 use Rattle.mirror_rules.proofs.OpenLaws.{nth-on, nth-back, nth-same}
 use Rattle.mirror_layer.specs.View.{Beside, as_image}
 use Rattle.mirror_layer.specs.Ground.{Counted, Differ, as_imaged, disk_seen, disks_seen, image_told}
@@ -20,13 +19,13 @@ use Rattle.mirror_layer.specs.Lasting.{Lasting}
 use Rattle.file_stores.specs.Held.{StoreSeen}
 use Rattle.file_stores.specs.Keys.{EachAt}
 use Rattle.file_stores.proofs.Lists.{some-is}
-use Rattle.file_stores.specs.Guards.{AreAmong, AreGuarded, HasImage, HoldImages, IsUp, is_up}
+use Rattle.file_stores.specs.Guards.{AreAmong, AreGuarded, HoldImages, IsUp, is_up}
 use Rattle.file_stores.specs.Opening.{content_of}
 use Rattle.file_stores.specs.Opening as opening
 use Rattle.file_stores.proofs.GroundLists.{get-within, nth-get}
 use Rattle.file_stores.proofs.SpotLaws.{seen-disk}
-use Rattle.file_stores.proofs.GuardLaws.{at-places, guarded-row, image-of, number-place, place-number, within-among}
-use Rattle.file_stores.proofs.ImageLaws.{has-nth, held-at, held-first, held-rest, seat-holds, seat-image}
+use Rattle.file_stores.proofs.GuardLaws.{at-places, guarded-row, image-of, number-place, within-among}
+use Rattle.file_stores.proofs.ImageLaws.{has-nth, held-at, held-rest, seat-holds, seat-image}
 
 -- the same by the images that are told
 pub record AreHeld (Vs : List (ℕ → ℕ → List ℕ)) (disks : List ℕ) (ds : List DiskSeen) : Type 0 where

@@ -1,5 +1,5 @@
 -- Which histories the disks of an opening guard, from the images of the stores to the machine's, and back to the pages of the ground.
-use Rattle.std.proofs.Common.{◌≡◌, ◌⊎◌, inl, inr, ℕ, zero, suc, ◌<◌, Bool, true, false, ◌||◌, ◌==◌, List, [], ◌∷◌, length, get_or, Option, Some, None, IfSome, IsSome, refl, sym, ap, subst, ◌∙◌, arith}
+use Rattle.std.proofs.Common.{◌≡◌, inl, inr, ℕ, zero, suc, ◌<◌, Bool, true, false, ◌||◌, ◌==◌, List, [], ◌∷◌, length, get_or, Option, Some, None, IfSome, IsSome, refl, sym, ap, subst, ◌∙◌, arith}
 use Rattle.std.specs.Prelude.{Contains, slice_get}
 use Rattle.std.specs.Option.{option_map}
 use Rattle.std.proofs.lemmas.Bool.{eq-eqb}
@@ -7,16 +7,16 @@ use Rattle.std.proofs.lemmas.Bool.Decides.{eqb_tells}
 use Rattle.spr_io.specs.Content.{Content}
 use Rattle.stack_accept.specs.Plan.{Plan, disks_in}
 use Rattle.disk_format.specs.declared.shape.ImageShape.{ImageShape}
-use Rattle.disk_format.specs.Image.{Imaged, image}
+use Rattle.page_ground.specs.Seen.{Imaged}
+use Rattle.disk_format.specs.Image.{image}
 use Rattle.mirror_rules.specs.Tree.{Image, Cell, Seat, In}
 use Rattle.mirror_rules.specs.Tree as machine
 use Rattle.mirror_rules.specs.Claims.{Pairs, Nth, nth_here, nth_later, HasPages, Every}
-use Rattle.mirror_rules.specs.Guards.{Among, Within, Stands, stands, At, at_place, Guards, Guarded}
+use Rattle.mirror_rules.specs.Guards.{Among, Within, Stands, stands, At, at_place, Guarded}
 use Rattle.mirror_rules.proofs.OpenLaws.{nth-on, nth-back, nth-same}
 use Rattle.mirror_rules.proofs.GuardLaws.{stood}
 use Rattle.mirror_layer.specs.View.{as_image}
 use Rattle.mirror_layer.specs.Ground.{as_imaged}
-use Rattle.mirror_layer.specs.Stores.{Finds}
 use Rattle.mirror_layer.specs.Bringing.{Brought, brought}
 use Rattle.mirror_layer.specs.Lasting.{Given}
 use Rattle.file_stores.specs.Held.{StoreSeen}
@@ -24,7 +24,7 @@ use Rattle.file_stores.specs.Keys.{EachAt}
 use Rattle.file_stores.specs.Opening.{content_of}
 use Rattle.file_stores.specs.Opening as opening
 use Rattle.file_stores.specs.Guards.{AreAmong, AreGuarded, HasImage, IsUp, is_up}
-use Rattle.file_stores.proofs.GroundLists.{get-nth, nth-get}
+use Rattle.file_stores.proofs.GroundLists.{nth-get}
 use Rattle.file_stores.proofs.Lists.{some-is}
 
 -- PAGES among versions, by the two ways in which a page is looked up

@@ -1,12 +1,13 @@
 -- The image of a disk that was opened, and that of its store when the disks were closed.
-use Rattle.std.proofs.Common.{◌≡◌, ◌≢◌, ◌⊎◌, inl, inr, ℕ, zero, suc, ◌<◌, Bool, true, false, List, [], ◌∷◌, length, Option, Some, None, IfSome, if◌then◌else◌, refl, sym, ap, subst, ◌∙◌, arith}
+use Rattle.std.proofs.Common.{◌≡◌, ◌≢◌, ℕ, zero, suc, Bool, true, false, List, ◌∷◌, Option, Some, IfSome, refl, sym, ap, subst, ◌∙◌, arith}
 use Rattle.std.specs.Prelude.{Contains, is_some, slice_get}
 use Rattle.std.specs.Option.{option_map}
 use Rattle.std.proofs.lemmas.Bool.{eq-eqb, ne_eqb}
 use Rattle.spr_io.specs.Content.{Content}
 use Rattle.disk_format.specs.declared.shape.ImageShape.{ImageShape}
-use Rattle.disk_format.specs.Image.{Imaged, image}
-use Rattle.disk_layer.specs.Seen.{DiskSeen, held_in, live_in}
+use Rattle.page_ground.specs.Seen.{Imaged}
+use Rattle.disk_format.specs.Image.{image}
+use Rattle.page_ground.specs.Seen.{DiskSeen, held_in, live_in}
 use Rattle.mirror_rules.specs.Tree.{Image, Cell, Seat, In, Out}
 use Rattle.mirror_rules.specs.Tree as machine
 use Rattle.mirror_rules.specs.Claims.{Pairs, pairs_none, pairs_more, Every, Has, has_here, has_later, Nth, nth_here, nth_later}
@@ -15,10 +16,9 @@ use Rattle.mirror_rules.proofs.OpenLaws.{nth-on, nth-same}
 use Rattle.mirror_rules.proofs.GuardLaws.{every-nth}
 use Rattle.mirror_layer.specs.View.{Beside, as_image}
 use Rattle.mirror_layer.specs.Ground.{Counted, Differ, as_imaged, disk_seen, disks_seen, image_told}
-use Rattle.mirror_layer.specs.Stores.{Finds, Stored, stored, Left, left}
+use Rattle.mirror_layer.specs.Stores.{Stored, stored, Left, left}
 use Rattle.file_stores.specs.Held.{StoreSeen}
 use Rattle.file_stores.proofs.Lists.{some-is}
-use Rattle.file_stores.specs.Guards.{HasImage}
 use Rattle.file_stores.specs.Opening.{content_of}
 use Rattle.file_stores.specs.Opening as opening
 use Rattle.file_stores.proofs.GroundLists.{nth-get}

@@ -1,7 +1,7 @@
 -- The disks of a ground while pages are read.
 use Rattle.std.proofs.Common.{◌≡◌, ℕ, Bool, true, false, List, [], ◌∷◌, length, refl, ap, ◌∙◌, arith}
 use Rattle.std.specs.Prelude.{IfSome}
-use Rattle.disk_layer.specs.declared.fault.StoreFault.{StoreFault}
+use Rattle.page_ground.specs.declared.fault.StoreFault.{StoreFault}
 use Rattle.mirror_rules.specs.Tree.{Seat, In, Out}
 use Rattle.mirror_rules.specs.Claims.{Pairs, pairs_none, pairs_more}
 use Rattle.mirror_rules.specs.Steps.{Done, Fault, Look, Looked, looked_out, looked_stale, looked_same, looked_refused, Named, named_here, named_later}

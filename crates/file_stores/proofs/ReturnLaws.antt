@@ -1,20 +1,20 @@
 -- Stores that were taken, and came back.
 use Rattle.std.proofs.Common.{◌≡◌, ⊎_elim, ℕ, ◌<◌, ◌≤◌, List, [], ◌∷◌, ◌++◌, length, take, Option, Some, None, IfSome, refl, sym, ap, subst, ◌∙◌, arith}
 use Rattle.std.specs.Prelude.{slice_get, IsSome, filter}
-use Rattle.std.proofs.lemmas.List.{length-map, take_all}
+use Rattle.std.proofs.lemmas.List.{length-map}
 use Rattle.std.proofs.lemmas.Option.{slice_get_within}
 use Rattle.stack_accept.specs.Mount.{Mount}
 use Rattle.run_defs.specs.declared.store.StoreKey.{StoreKey}
 use Rattle.spr_io.specs.Content.{Content}
-use Rattle.spr_io.specs.Berth.{Berth, BaySeen, taken, SameBerths}
+use Rattle.spr_io.specs.Berth.{Berth, BaySeen, taken}
 use Rattle.file_stores.specs.declared.stop.Stop.{Stop}
 use Rattle.file_stores.specs.declared.stop.Stop.TheVariants as stops
-use Rattle.file_stores.specs.Keys.{AreStores, berth_of, is_lost, SameOthers}
+use Rattle.file_stores.specs.Keys.{berth_of, is_lost, SameOthers}
 use Rattle.file_stores.specs.State.{StoreState, Lay, BackFrom, Turned, Returned, RoseBy, AsTaken}
-use Rattle.file_stores.specs.Held.{StoreSeen, keys_of, Took, AreOut, IsUntaken, Gave, AreGiven, BecameOne, Became}
+use Rattle.file_stores.specs.Held.{StoreSeen, keys_of, AreOut, IsUntaken, AreGiven, BecameOne, Became}
 use Rattle.file_stores.specs.Stops.{OutOfMemory, Untaken}
 use Rattle.file_stores.proofs.Lists.{some-is, no-item, there, at-more, map-more, from-map, to-map}
-use Rattle.file_stores.proofs.HeldLaws.{same-then, rose-then, out-none, out-same, out-one, given-none, given-one}
+use Rattle.file_stores.proofs.HeldLaws.{same-then, rose-then}
 
 -- a store that was taken came back, or is lost
 turned-of : (mount : Mount) (before mid after : BaySeen) (old new : StoreSeen) (key : StoreKey) (lost : List StoreKey) (P : StoreKey → StoreState → StoreState → Type 0) → old.key ≡ key → new.key ≡ old.key

@@ -5,8 +5,9 @@ use Rattle.std.specs.Option.{option_map}
 use Rattle.std.proofs.lemmas.Bool.{eq-eqb, ne_eqb}
 use Rattle.spr_io.specs.Content.{Content}
 use Rattle.disk_format.specs.declared.shape.ImageShape.{ImageShape}
-use Rattle.disk_format.specs.Image.{Imaged, image}
-use Rattle.disk_layer.specs.Seen.{DiskSeen, faults_in, kept_in, live_in, numbers_in, opened_in}
+use Rattle.page_ground.specs.Seen.{Imaged}
+use Rattle.disk_format.specs.Image.{image}
+use Rattle.page_ground.specs.Seen.{DiskSeen, faults_in, kept_in, live_in, numbers_in, opened_in}
 use Rattle.mirror_rules.specs.Tree.{Image, Seat, In, Out}
 use Rattle.mirror_rules.specs.Tree as machine
 use Rattle.mirror_rules.specs.Claims.{Pairs, pairs_none, pairs_more, Every, every_none, every_more, Has, has_here, has_later, IsLive}

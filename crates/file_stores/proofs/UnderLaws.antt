@@ -1,6 +1,6 @@
 -- What is known of whatever lies under a file.
 use Rattle.std.proofs.Common.{ℕ, ◌≤◌, ◌==◌, Bool, true, false, cond, List, ◌∷◌, arith}
-use Rattle.disk_layer.specs.Seen.{opened_in, faults_in}
+use Rattle.page_ground.specs.Seen.{opened_in, faults_in}
 use Rattle.mirror_rules.specs.Tree.{Seat, In, Out}
 use Rattle.mirror_rules.specs.Claims.{Pairs, pairs_none, pairs_more}
 use Rattle.mirror_layer.specs.View.{Beside}

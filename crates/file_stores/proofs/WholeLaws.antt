@@ -4,9 +4,9 @@ use Rattle.std.specs.Prelude.{Contains}
 use Rattle.std.specs.Option.{option_map}
 use Rattle.std.proofs.lemmas.Bool.{eq-eqb}
 use Rattle.spr_io.specs.Content.{Content}
-use Rattle.disk_format.specs.Image.{Imaged}
+use Rattle.page_ground.specs.Seen.{Imaged}
 use Rattle.disk_layer.specs.Disk.{Disk, kept_on, seen_of}
-use Rattle.disk_layer.specs.Seen.{DiskSeen, Seen, Keeps, faults_in, kept_in, live_in, opened_in}
+use Rattle.page_ground.specs.Seen.{DiskSeen, Seen, Keeps, faults_in, kept_in, live_in, opened_in}
 use Rattle.file_stores.specs.WholeDisk.{seen_whole}
 
 -- what is said of the number of one disk alone

@@ -4,7 +4,8 @@ use Rattle.std.specs.Prelude.{◌≡◌, ◌⊎◌, ℕ, ◌<◌, Bool, List, le
 use Rattle.spr_io.specs.Content.{Content}
 use Rattle.stack_accept.specs.Plan.{Plan, disks_in}
 use Rattle.disk_format.specs.declared.shape.ImageShape.{ImageShape}
-use Rattle.disk_format.specs.Image.{Imaged, image}
+use Rattle.page_ground.specs.Seen.{Imaged}
+use Rattle.disk_format.specs.Image.{image}
 use Rattle.mirror_rules.specs.Tree.{Cell, Seat, In}
 use Rattle.mirror_rules.specs.Claims.{Nth}
 use Rattle.mirror_rules.specs.Guards.{Among}

@@ -1,9 +1,9 @@
 -- How the pages of a file are read from what lies under it.
 use Rattle.std.specs.Prelude.{◌≡◌, ℕ, ◌<◌, ◌≤◌, Bool, true, false, List, IfSome}
 use Rattle.disk_format.specs.declared.shape.ImageShape.{ImageShape}
-use Rattle.disk_layer.specs.declared.fault.StoreFault.{StoreFault}
+use Rattle.page_ground.specs.declared.fault.StoreFault.{StoreFault}
 use Rattle.disk_layer.specs.Disk.{counting}
-use Rattle.disk_layer.specs.Pages.{cut}
+use Rattle.page_ground.specs.Pages.{cut}
 use Rattle.mirror_rules.specs.Tree.{Cell, Store, Seat, In, Out}
 use Rattle.mirror_rules.specs.Claims.{Pairs}
 use Rattle.mirror_rules.specs.Steps.{Named, faulted}

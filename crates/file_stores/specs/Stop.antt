@@ -46,6 +46,6 @@ stop_status stops.Memory = statuses.Memory
 
 -- why a command stops that was refused the disk on a store
 abbrev pub refused : StoreKey → OpenWhy → Stop
-refused key (whys.BadImage bad) = stops.Image key bad.place bad.why
+refused key (whys.BadImage bad blank) = stops.Image key bad.place bad.why
 refused key (whys.StoreFault fault) = stops.Store key fault.count
 refused key whys.Memory = stops.Memory

@@ -9,7 +9,6 @@ use Rattle.disk_format.specs.declared.why.ImageWhy.{ImageWhy}
 use Rattle.disk_format.specs.declared.why.ImageWhy.TheVariants as whys
 use Rattle.disk_format.specs.VersionOne.{image_in}
 use Rattle.disk_format.specs.Image.{front_of, image}
-use Rattle.file_stores.specs.Keys.{image_shape}
 use Rattle.file_stores.specs.State.{StoreState, Returned, AsTaken, RoseBy}
 use Rattle.file_stores.specs.declared.stop.Stop.{Stop}
 use Rattle.file_stores.specs.declared.stop.Stop.TheVariants as stops

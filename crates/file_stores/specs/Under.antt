@@ -1,7 +1,7 @@
 -- What lies under a file: its disk, or its disks in mirrors.
 use Rattle.std.specs.Prelude.{◌≤◌}
 use Rattle.disk_layer.specs.Disk.{Disk, HasImage}
-use Rattle.disk_layer.specs.Seen.{Seen}
+use Rattle.page_ground.specs.Seen.{Seen}
 use Rattle.mirror_layer.specs.Ground.{Ground, IsGround, seen_of}
 use Rattle.mirror_layer.specs.Stores.{Numbered}
 use Rattle.file_stores.specs.declared.ground.Either.{Either}

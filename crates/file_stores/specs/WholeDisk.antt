@@ -2,9 +2,9 @@
 use Rattle.std.specs.Prelude.{ℕ, List, [], ◌∷◌, true, false, Some, None}
 use Rattle.std.specs.Option.{option_map}
 use Rattle.spr_io.specs.Content.{Content}
-use Rattle.disk_format.specs.Image.{Imaged}
+use Rattle.page_ground.specs.Seen.{Imaged}
 use Rattle.disk_layer.specs.Disk.{Disk, held_on, kept_on, pages_on}
-use Rattle.disk_layer.specs.Seen.{DiskSeen, Seen}
+use Rattle.page_ground.specs.Seen.{DiskSeen, Seen}
 
 -- blocks of a disk's store, if they are told, as if a disk had kept them that is not live
 abbrev pub beside : Disk → (Content → List (List ℕ)) → DiskSeen

@@ -3,8 +3,8 @@
 ghost use Rattle.file_stores.specs.Under.{IsSound};
 
 use crate::whole_disk::WholeDisk;
-use disk_layer::{Ground, StoreFault};
 use mirror_layer::AnyGround;
+use page_ground::{Ground, StoreFault};
 use spr_io::Store;
 use std::marker::Model;
 

@@ -6,8 +6,8 @@ ghost use Rattle.file_stores.specs.Reading.{Fails, ReadsAll, shape_under};
 
 use crate::ground::{Either, FileGround};
 use disk_format::ImageShape;
-use disk_layer::{Ground, StoreFault};
 use mirror_layer::AnyGround;
+use page_ground::{Ground, StoreFault};
 use spr_io::Store;
 
 /// Reads all pages of disks in mirrors.

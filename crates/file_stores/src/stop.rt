@@ -47,7 +47,7 @@ impl Stop {
         ensures { result ≡ refused store why }
     {
         match why {
-            OpenWhy::BadImage { bad } => Stop::Image {
+            OpenWhy::BadImage { bad, blank: _ } => Stop::Image {
                 store,
                 place: bad.place,
                 why: bad.why,

@@ -9,7 +9,8 @@ ghost use Rattle.file_stores.specs.Under.{One};
 ghost use Rattle.file_stores.specs.Reading.{Fails, ReadsAll};
 
 use disk_format::ImageShape;
-use disk_layer::{Disk, Ground, ONLY_DISK, OpenWhy, StoreFault, read_pages};
+use disk_layer::{Disk, ONLY_DISK, OpenWhy, read_pages};
+use page_ground::{Ground, StoreFault};
 use spr_io::Store;
 use std::alloc::Global;
 use std::marker::Model;

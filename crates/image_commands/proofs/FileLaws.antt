@@ -10,9 +10,9 @@ use Rattle.spr_io.specs.Texts.{SinkSeen}
 use Rattle.spr_report.specs.declared.status.Status.{Status}
 use Rattle.spr_report.specs.Writing.{Finishes}
 use Rattle.disk_format.specs.declared.shape.ImageShape.{ImageShape}
-use Rattle.disk_layer.specs.declared.fault.StoreFault.{StoreFault}
+use Rattle.page_ground.specs.declared.fault.StoreFault.{StoreFault}
 use Rattle.disk_layer.specs.Disk.{Disk}
-use Rattle.disk_layer.specs.Pages.{cut}
+use Rattle.page_ground.specs.Pages.{cut}
 use Rattle.disk_layer.proofs.PageLaws.{length-cut}
 use Rattle.mirror_layer.specs.Ground.{Ground, seen_of}
 use Rattle.mirror_layer.specs.Stores.{GivesBack}
@@ -20,7 +20,7 @@ use Rattle.file_stores.specs.declared.stop.Stop.{Stop}
 use Rattle.file_stores.specs.declared.stop.Stop.TheVariants as stops
 use Rattle.file_stores.specs.Keys.{image_shape, stores_of_file}
 use Rattle.file_stores.specs.State.{StoreState, Returned, RoseBy}
-use Rattle.file_stores.specs.Held.{StoreSeen, keys_of, AreOut, AreGiven, IsUntaken}
+use Rattle.file_stores.specs.Held.{StoreSeen, keys_of, AreOut, AreGiven}
 use Rattle.file_stores.specs.Files.{ArePairs, FileSeen, IsFile, Lasts, StandsAt}
 use Rattle.file_stores.specs.Stop.{lost_text, stop_text, stop_status}
 use Rattle.file_stores.specs.Stops.{Untaken}

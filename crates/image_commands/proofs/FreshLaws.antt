@@ -18,7 +18,7 @@ use Rattle.file_stores.specs.State.{StoreState}
 use Rattle.file_stores.specs.Held.{StoreSeen, keys_of, BecameOne, Became}
 use Rattle.file_stores.proofs.Lists.{at-longer, at-last, map-more}
 use Rattle.file_stores.proofs.ReturnLaws.{one-same, became-none, became-more, became-weaker}
-use Rattle.image_commands.specs.Fresh.{fresh_image, IsFresh, FailedAt, IsCalm, IsHalf, Part, Breaks, Went, GoesOn}
+use Rattle.image_commands.specs.Fresh.{fresh_image, IsFresh, FailedAt, IsUntouched, Part, Breaks, Went, GoesOn}
 
 -- the pages of holes
 holes : (size : ℕ) (blocks : List (List ℕ)) (n : ℕ) → pages_of size blocks (replicate n 0) ≡ replicate n (replicate size 0)
@@ -65,8 +65,8 @@ fresh-of before d old new p q r s f =
     }
 
 -- the store that broke the formatting, and the ones before it
-breaks-next : (mount : Mount) (olds news : List StoreSeen) (old new : StoreSeen) (Cause : StoreState → StoreState → Type 0) → Became olds news (λ at key. IsFresh (image_shape mount key)) → new.key ≡ old.key
-    → BecameOne old.state new.state (IsHalf (image_shape mount old.key) Cause) → Breaks mount (olds ++ old ∷ []) (news ++ new ∷ []) old.key Cause
+breaks-next : (mount : Mount) (olds news : List StoreSeen) (old new : StoreSeen) (Cause : ImageShape → StoreState → StoreState → Type 0) → Became olds news (λ at key. IsFresh (image_shape mount key)) → new.key ≡ old.key
+    → BecameOne old.state new.state (Cause (image_shape mount old.key)) → Breaks mount (olds ++ old ∷ []) (news ++ new ∷ []) old.key Cause
 breaks-next mount olds news old new Cause went key half =
     let number : ℕ = length olds in
     let all : keys_of (olds ++ old ∷ []) ≡ keys_of olds ++ old.key ∷ [] = map-more (λ (s : StoreSeen). s.key) olds old in
@@ -81,7 +81,7 @@ breaks-next mount olds news old new Cause went key half =
     }
 
 -- a store behind the one that broke the formatting
-breaks-more : (mount : Mount) (olds news : List StoreSeen) (old new : StoreSeen) (key : StoreKey) (Cause : StoreState → StoreState → Type 0) → Breaks mount olds news key Cause → new.key ≡ old.key → new.state ≡ old.state
+breaks-more : (mount : Mount) (olds news : List StoreSeen) (old new : StoreSeen) (key : StoreKey) (Cause : ImageShape → StoreState → StoreState → Type 0) → Breaks mount olds news key Cause → new.key ≡ old.key → new.state ≡ old.state
     → Breaks mount (olds ++ old ∷ []) (news ++ new ∷ []) key Cause
 breaks-more mount olds news old new key Cause breaks same_key same =
     let all : keys_of (olds ++ old ∷ []) ≡ keys_of olds ++ old.key ∷ [] = map-more (λ (s : StoreSeen). s.key) olds old in
@@ -104,13 +104,13 @@ pub went-next : (mount : Mount) (olds news : List StoreSeen) (stopped after : Op
 went-next mount olds news None None old new went key next = became-more (λ at k. IsFresh (image_shape mount k)) olds news old new went key next
 went-next mount olds news None (Some (stops.Store store count)) old new went key next =
     subst (λ (k : StoreKey). Breaks mount (olds ++ old ∷ []) (news ++ new ∷ []) k (FailedAt count)) (sym next.0) (breaks-next mount olds news old new (FailedAt count) went key next.1)
-went-next mount olds news None (Some stops.Memory) old new went key next = (old.key, breaks-next mount olds news old new IsCalm went key next)
+went-next mount olds news None (Some stops.Memory) old new went key next = (old.key, breaks-next mount olds news old new IsUntouched went key next)
 went-next mount olds news None (Some (stops.Bay store)) old new went key next = absurd next
 went-next mount olds news None (Some (stops.Image store place why)) old new went key next = absurd next
 went-next mount olds news (Some (stops.Store store count)) after old new went key next =
     subst (λ (o : Option Stop). Went mount (olds ++ old ∷ []) (news ++ new ∷ []) o) (sym next.1) (breaks-more mount olds news old new store (FailedAt count) went key next.0)
 went-next mount olds news (Some stops.Memory) after old new went key next =
-    subst (λ (o : Option Stop). Went mount (olds ++ old ∷ []) (news ++ new ∷ []) o) (sym next.1) (went.0, breaks-more mount olds news old new went.0 IsCalm went.1 key next.0)
+    subst (λ (o : Option Stop). Went mount (olds ++ old ∷ []) (news ++ new ∷ []) o) (sym next.1) (went.0, breaks-more mount olds news old new went.0 IsUntouched went.1 key next.0)
 went-next mount olds news (Some (stops.Bay store)) after old new went key next = absurd went
 went-next mount olds news (Some (stops.Image store place why)) after old new went key next = absurd went
 

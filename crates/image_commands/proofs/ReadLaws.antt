@@ -5,9 +5,10 @@ use Rattle.std.specs.Option.{option_map}
 use Rattle.std.proofs.lemmas.List.{length-drop, length-take-le}
 use Rattle.spr_io.specs.Content.{Content}
 use Rattle.disk_format.specs.declared.shape.ImageShape.{ImageShape}
-use Rattle.disk_format.specs.Image.{Imaged, image, pages_of}
+use Rattle.page_ground.specs.Seen.{Imaged}
+use Rattle.disk_format.specs.Image.{image, pages_of}
 use Rattle.disk_layer.specs.Disk.{Disk, HasImage, pages_on}
-use Rattle.disk_layer.specs.Pages.{cut}
+use Rattle.page_ground.specs.Pages.{cut}
 use Rattle.disk_layer.proofs.PageLaws.{length-cut, page-cut}
 use Rattle.std.proofs.lemmas.Nat.{mul-le}
 use Rattle.std.proofs.lemmas.Option.{get_or_from_slice_get}

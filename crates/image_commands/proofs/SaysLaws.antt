@@ -7,6 +7,7 @@ use Rattle.spr_io.specs.Berth.{BaySeen}
 use Rattle.spr_io.specs.Texts.{SinkSeen}
 use Rattle.spr_report.specs.declared.status.Status.{Status}
 use Rattle.spr_report.specs.Writing.{Finishes}
+use Rattle.disk_format.specs.declared.shape.ImageShape.{ImageShape}
 use Rattle.file_stores.specs.declared.stop.Stop.{Stop}
 use Rattle.file_stores.specs.declared.stop.Stop.TheVariants as stops
 use Rattle.file_stores.specs.Keys.{image_shape}
@@ -16,12 +17,12 @@ use Rattle.file_stores.specs.Stop.{lost_text, stop_text, stop_status}
 use Rattle.file_stores.specs.Stops.{Untaken}
 use Rattle.file_stores.specs.Written.{Written}
 use Rattle.file_stores.proofs.ReturnLaws.{returned-of}
-use Rattle.image_commands.specs.Fresh.{IsFresh, FailedAt, IsCalm, Part, Breaks, Went}
+use Rattle.image_commands.specs.Fresh.{IsFresh, FailedAt, IsUntouched, Part, Breaks, Went}
 use Rattle.image_commands.specs.Told.{done_status}
 use Rattle.image_commands.specs.Says.{AreFormatted, BrokeOff, FormatStops, SaysFormat, all_fresh, not_fresh}
 
 -- stores that were formatted, or not all of them, and came back
-broke-off : (mount : Mount) (before mid after : BaySeen) (keys lost : List StoreKey) (olds news : List StoreSeen) (key : StoreKey) (Cause : StoreState → StoreState → Type 0) → keys_of olds ≡ keys → AreOut mount before mid olds
+broke-off : (mount : Mount) (before mid after : BaySeen) (keys lost : List StoreKey) (olds news : List StoreSeen) (key : StoreKey) (Cause : ImageShape → StoreState → StoreState → Type 0) → keys_of olds ≡ keys → AreOut mount before mid olds
     → RoseBy 0 before.faults mid.faults → AreGiven mount mid after news lost → Breaks mount olds news key Cause → BrokeOff mount before after keys lost key Cause
 broke-off mount before mid after keys lost olds news key Cause are out calm given breaks = record {
   number = breaks.number;
@@ -32,7 +33,7 @@ broke-off mount before mid after keys lost olds news key Cause are out calm give
 format-stops : (mount : Mount) (before mid after : BaySeen) (keys lost : List StoreKey) (olds news : List StoreSeen) (stop : Stop) → keys_of olds ≡ keys → AreOut mount before mid olds → RoseBy 0 before.faults mid.faults
     → AreGiven mount mid after news lost → Went mount olds news (Some stop) → FormatStops mount before after keys lost stop
 format-stops mount before mid after keys lost olds news (stops.Store key count) are out calm given went = broke-off mount before mid after keys lost olds news key (FailedAt count) are out calm given went
-format-stops mount before mid after keys lost olds news stops.Memory are out calm given went = inr (went.0, broke-off mount before mid after keys lost olds news went.0 IsCalm are out calm given went.1)
+format-stops mount before mid after keys lost olds news stops.Memory are out calm given went = inr (went.0, broke-off mount before mid after keys lost olds news went.0 IsUntouched are out calm given went.1)
 format-stops mount before mid after keys lost olds news (stops.Bay key) are out calm given went = absurd went
 format-stops mount before mid after keys lost olds news (stops.Image key place why) are out calm given went = absurd went
 

@@ -5,7 +5,8 @@ use Rattle.run_defs.specs.declared.store.StoreKey.{StoreKey}
 use Rattle.spr_io.specs.Content.{flushed}
 use Rattle.disk_format.specs.declared.shape.ImageShape.{ImageShape}
 use Rattle.disk_format.specs.Shape.{first_data}
-use Rattle.disk_format.specs.Image.{Imaged, image}
+use Rattle.page_ground.specs.Seen.{Imaged}
+use Rattle.disk_format.specs.Image.{image}
 use Rattle.disk_layer.specs.Disk.{formatted}
 use Rattle.file_stores.specs.declared.stop.Stop.{Stop}
 use Rattle.file_stores.specs.declared.stop.Stop.TheVariants as stops
@@ -30,33 +31,31 @@ pub record IsBegun (shape : ImageShape) (old new : StoreState) : Type 0 where
   pub written : new.content ≡ formatted shape many old.content
 
 -- a store failed while it was formatted, and this is its count then
-pub record FailedAt (count : ℕ) (old new : StoreState) : Type 0 where
+pub record FailedAt (count : ℕ) (shape : ImageShape) (old new : StoreState) : Type 0 where
+  pub begun : IsBegun shape old new
   pub above : old.faults < count
   pub is : new.faults ≡ count
 
--- a store had no fault
-abbrev pub IsCalm : StoreState → StoreState → Type 0
-IsCalm old new = new.faults ≡ old.faults
-
--- a store was not formatted whole, by this cause
-abbrev pub IsHalf : ImageShape → (StoreState → StoreState → Type 0) → StoreState → StoreState → Type 0
-IsHalf shape Cause old new = IsBegun shape old new × Cause old new
+-- memory ran out before a store was formatted: it is as it was
+pub record IsUntouched (shape : ImageShape) (old new : StoreState) : Type 0 where
+  pub content : new.content ≡ old.content
+  pub calm : new.faults ≡ old.faults
 
 -- why a store was not formatted: it failed, or memory ran out
 abbrev pub IsBreak : ImageShape → StoreSeen → StoreSeen → Stop → Type 0
-IsBreak shape old new (stops.Store key count) = (key ≡ old.key) × BecameOne old.state new.state (IsHalf shape (FailedAt count))
-IsBreak shape old new stops.Memory = BecameOne old.state new.state (IsHalf shape IsCalm)
+IsBreak shape old new (stops.Store key count) = (key ≡ old.key) × BecameOne old.state new.state (FailedAt count shape)
+IsBreak shape old new stops.Memory = BecameOne old.state new.state (IsUntouched shape)
 IsBreak shape old new stop = ⊥
 
 -- what becomes of stores of which the one of this number could not be formatted: those before it were, and those after it come
 -- back as they were taken
-pub record Part (mount : Mount) (number : ℕ) (Cause : StoreState → StoreState → Type 0) (at : ℕ) (key : StoreKey) (old new : StoreState) : Type 0 where
+pub record Part (mount : Mount) (number : ℕ) (Cause : ImageShape → StoreState → StoreState → Type 0) (at : ℕ) (key : StoreKey) (old new : StoreState) : Type 0 where
   pub before : at < number → IsFresh (image_shape mount key) old new
-  pub here : at ≡ number → IsHalf (image_shape mount key) Cause old new
+  pub here : at ≡ number → Cause (image_shape mount key) old new
   pub after : number < at → new ≡ old
 
 -- one of the stores could not be formatted
-pub record Breaks (mount : Mount) (olds news : List StoreSeen) (key : StoreKey) (Cause : StoreState → StoreState → Type 0) : Type 0 where
+pub record Breaks (mount : Mount) (olds news : List StoreSeen) (key : StoreKey) (Cause : ImageShape → StoreState → StoreState → Type 0) : Type 0 where
   pub number : ℕ
   pub is : slice_get (keys_of olds) number ≡ Some key
   pub parts : Became olds news (Part mount number Cause)
@@ -65,7 +64,7 @@ pub record Breaks (mount : Mount) (olds news : List StoreSeen) (key : StoreKey) 
 abbrev pub Went : Mount → List StoreSeen → List StoreSeen → Option Stop → Type 0
 Went mount olds news None = Became olds news (λ at key. IsFresh (image_shape mount key))
 Went mount olds news (Some (stops.Store key count)) = Breaks mount olds news key (FailedAt count)
-Went mount olds news (Some stops.Memory) = (key : StoreKey) × Breaks mount olds news key IsCalm
+Went mount olds news (Some stops.Memory) = (key : StoreKey) × Breaks mount olds news key IsUntouched
 Went mount olds news (Some stop) = ⊥
 
 -- what becomes of the next store: it is formatted, unless one before it could not be

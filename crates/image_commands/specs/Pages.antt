@@ -6,8 +6,9 @@ use Rattle.hex.specs.Hex.{encode_lower}
 use Rattle.text_words.specs.Lines.{line_of}
 use Rattle.spr_io.specs.Content.{Content}
 use Rattle.disk_format.specs.declared.shape.ImageShape.{ImageShape}
-use Rattle.disk_format.specs.Image.{Imaged, image}
-use Rattle.disk_layer.specs.Pages.{are_zeros}
+use Rattle.page_ground.specs.Seen.{Imaged}
+use Rattle.disk_format.specs.Image.{image}
+use Rattle.page_ground.specs.Pages.{are_zeros}
 
 -- these are, if that is told, the pages that the blocks stand for; there is one for each page of the shape
 pub record ArePagesOf (shape : ImageShape) (content : Option Content) (pages : List (List ℕ)) : Type 0 where

@@ -7,6 +7,7 @@ use Rattle.spr_io.specs.Texts.{SinkSeen}
 use Rattle.spr_report.specs.declared.status.Status.{Status}
 use Rattle.spr_report.specs.declared.status.Status.TheVariants as statuses
 use Rattle.spr_report.specs.Writing.{Finishes}
+use Rattle.disk_format.specs.declared.shape.ImageShape.{ImageShape}
 use Rattle.file_stores.specs.declared.stop.Stop.{Stop}
 use Rattle.file_stores.specs.declared.stop.Stop.TheVariants as stops
 use Rattle.file_stores.specs.Keys.{image_shape, stores_of_file}
@@ -14,7 +15,7 @@ use Rattle.file_stores.specs.Files.{FileSeen, IsFile, StandsAt}
 use Rattle.file_stores.specs.State.{StoreState, Returned}
 use Rattle.file_stores.specs.Stop.{lost_text, stop_text, stop_status}
 use Rattle.file_stores.specs.Stops.{NotTaken, OutOfMemory, Untaken}
-use Rattle.image_commands.specs.Fresh.{IsFresh, FailedAt, IsCalm, Part}
+use Rattle.image_commands.specs.Fresh.{IsFresh, FailedAt, IsUntouched, Part}
 use Rattle.image_commands.specs.Pages.{page_lines}
 use Rattle.image_commands.specs.Read.{IsRead, IsUnprinted}
 use Rattle.image_commands.specs.Told.{done_status}
@@ -25,17 +26,18 @@ AreFormatted mount before after keys lost = Returned mount before after keys los
 
 -- All stores were taken, and this one could not be formatted whole: those before it have a fresh image, and those after it came
 -- back as they were taken.
-pub record BrokeOff (mount : Mount) (before after : BaySeen) (keys lost : List StoreKey) (key : StoreKey) (Cause : StoreState → StoreState → Type 0) : Type 0 where
+pub record BrokeOff (mount : Mount) (before after : BaySeen) (keys lost : List StoreKey) (key : StoreKey) (Cause : ImageShape → StoreState → StoreState → Type 0) : Type 0 where
   pub number : ℕ
   pub is : slice_get keys number ≡ Some key
   pub back : Returned mount before after keys lost (Part mount number Cause)
 
--- why not all stores were formatted: the bay gave one not; or one failed in it, with this count; or memory ran out
+-- why not all stores were formatted: the bay gave one not; or one failed in it, with this count; or memory ran out, and then
+-- nothing was written on that one
 abbrev pub FormatStops : Mount → BaySeen → BaySeen → List StoreKey → List StoreKey → Stop → Type 0
 FormatStops mount before after keys lost (stops.Bay key) = NotTaken mount before after keys lost key
 FormatStops mount before after keys lost (stops.Store key count) = BrokeOff mount before after keys lost key (FailedAt count)
 FormatStops mount before after keys lost (stops.Image key place why) = ⊥
-FormatStops mount before after keys lost stops.Memory = OutOfMemory mount before after keys lost ⊎ ((key : StoreKey) × BrokeOff mount before after keys lost key IsCalm)
+FormatStops mount before after keys lost stops.Memory = OutOfMemory mount before after keys lost ⊎ ((key : StoreKey) × BrokeOff mount before after keys lost key IsUntouched)
 
 -- Fresh images were written on these stores, or not on all of them.
 pub data SaysFormat (mount : Mount) (before after : BaySeen) (keys : List StoreKey) (text : List ℕ) (status : Status) : Type 0 where

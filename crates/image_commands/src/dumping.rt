@@ -1,7 +1,7 @@
 //! The command that prints the pages of a file.
 
 ghost use Rattle.std.specs.Prelude.{◌≡◌, ◌<◌, ◌*◌, ◌^◌, [], IfOk, length};
-ghost use Rattle.disk_layer.specs.Pages.{cut};
+ghost use Rattle.page_ground.specs.Pages.{cut};
 ghost use Rattle.run_defs.specs.Stack.{pages_of};
 ghost use Rattle.spr_io.specs.Berth.{BaySeen};
 ghost use Rattle.file_stores.specs.Keys.{AreStores, EachAt, stores_of_file};

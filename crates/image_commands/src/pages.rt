@@ -2,7 +2,7 @@
 
 ghost use Rattle.std.specs.Prelude.{◌≡◌, ◌*◌, ◌++◌, ◌∷◌, IfOk, IfErr, OnOk, length};
 ghost use Rattle.disk_format.specs.Shape.{IsShape};
-ghost use Rattle.disk_layer.specs.Pages.{cut};
+ghost use Rattle.page_ground.specs.Pages.{cut};
 ghost use Rattle.run_defs.specs.Stack.{pages_of};
 ghost use Rattle.file_stores.specs.Keys.{stores_of_file};
 ghost use Rattle.file_stores.specs.Held.{keys_of};
@@ -14,8 +14,8 @@ ghost use Rattle.image_commands.specs.Pages.{page_word, page_line, page_lines};
 ghost use Rattle.image_commands.specs.Read.{IsRead, IsUnprinted};
 
 use disk_format::ImageShape;
-use disk_layer::{StoreFault, is_zero_page};
 use file_stores::{FileGround, FileStores, Stop, close_file, open_file, read_file, shape_of};
+use page_ground::{StoreFault, is_zero_page};
 use run_defs::StoreKey;
 use spr_io::Store;
 use stack_accept::Mounted;

@@ -2,17 +2,17 @@
 use Rattle.std.proofs.Common.{◌≡◌, ◌≢◌, ◌⊎◌, inl, inr, ℕ, zero, suc, ◌<◌, ◌≤◌, Bool, true, false, List, [], ◌∷◌, ◌++◌, length, get_or, Option, Some, None, refl, sym, ap, ◌∙◌, subst, arith}
 use Rattle.std.specs.Prelude.{slice_get, is_some}
 use Rattle.std.specs.Option.{option_map}
-use Rattle.disk_format.specs.Image.{Imaged}
-use Rattle.disk_layer.specs.Seen.{Are, DiskSeen, KeptAt, Turns}
-use Rattle.disk_layer.specs.Seen as seen
+use Rattle.page_ground.specs.Seen.{Imaged}
+use Rattle.page_ground.specs.Seen.{Are, DiskSeen, KeptAt, Turns}
+use Rattle.page_ground.specs.Seen as seen
 use Rattle.mirror_rules.specs.Tree.{Image, Cell, Store, Seat, In, Out, Tree, seats}
 use Rattle.mirror_rules.specs.Claims.{Pairs, pairs_none, pairs_more, Every, every_none, every_more, Has, has_here, has_later, IsLive, HasPages, pages_live, pages_left, pages_out, Keeps, keeps_out, keeps_left, keeps_live, keeps_lost, Rose, rose_live, rose_left, rose_out}
 use Rattle.mirror_rules.specs.Claims as claims
 use Rattle.mirror_rules.specs.Fates.{disk_of}
 use Rattle.mirror_rules.specs.Steps.{Act, Write, Says, Done, Fault, is_done, Takes, write_taken, raise_taken, flush_taken, refused, Asked, asked_out, asked_stale, asked_took, asked_lost, asked_none, Looked, looked_out, looked_stale, looked_same, looked_refused, Named, named_here, named_later, Reads, read_taken, read_refused, read_below, read_left, read_right, read_left_only, read_right_only, Round, Raised, raised_whole, raised_again, raised_none, Pays, pays_none, pays_raise, Flushes, flush_whole, flush_lost, flush_none, flush_unraised}
 use Rattle.mirror_rules.proofs.RoundLaws.{pairs-map, reads-each}
-use Rattle.mirror_rules.proofs.PageLaws.{pairs-then, pairs-both}
-use Rattle.mirror_rules.proofs.GuardLaws.{Rises, rises_out, rises_left, rises_live}
+use Rattle.mirror_rules.proofs.PageLaws.{pairs-then}
+use Rattle.mirror_rules.proofs.GuardLaws.{Rises, rises_live}
 use Rattle.mirror_layer.specs.View.{Beside}
 use Rattle.mirror_layer.specs.Ground.{as_imaged, image_told, kept_told, disk_seen, disks_seen, live_pages, pages_told, Differ, Counted, counted}
 use Rattle.mirror_layer.proofs.SeenLaws.{Step, Apart, Somewhere, some_here, some_later, Calm, Blamed}

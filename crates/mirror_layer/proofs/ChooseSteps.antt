@@ -1,6 +1,6 @@
 -- A disk wins, and a winner gives way, over plain variables.
 use Rattle.std.proofs.Common.{◌≡◌, ℕ, suc, ◌+◌, ◌<◌, ◌≤◌, Bool, true, false, not, List, ◌++◌, length, Result, Ok, Err, refl, sym, ap, ◌∙◌, subst, arith}
-use Rattle.disk_layer.specs.declared.fault.StoreFault.{StoreFault}
+use Rattle.page_ground.specs.declared.fault.StoreFault.{StoreFault}
 use Rattle.mirror_rules.specs.Tree.{Image, Cell, Store, Seat, In, Out, top, lives}
 use Rattle.mirror_rules.specs.Claims.{Pairs, pairs_none, pairs_more, Every, every_none, every_more, Has, has_here, has_later}
 use Rattle.mirror_rules.specs.Steps.{Says, Done, Fault, Looked, looked_out, looked_stale, looked_same, looked_refused}

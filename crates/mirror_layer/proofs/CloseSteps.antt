@@ -7,7 +7,8 @@ use Rattle.std.specs.Option.{option_map}
 use Rattle.spr_io.specs.Content.{Content}
 use Rattle.disk_format.specs.declared.shape.ImageShape.{ImageShape}
 use Rattle.disk_format.specs.declared.why.BadImage.{BadImage}
-use Rattle.disk_format.specs.Image.{Imaged, image}
+use Rattle.page_ground.specs.Seen.{Imaged}
+use Rattle.disk_format.specs.Image.{image}
 use Rattle.disk_layer.specs.Disk.{Disk, HasImage, kept_on}
 use Rattle.mirror_rules.specs.Tree.{Cell, Seat, In, Out, closed}
 use Rattle.mirror_rules.specs.Tree as machine

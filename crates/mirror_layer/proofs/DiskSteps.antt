@@ -6,9 +6,10 @@ use Rattle.std.proofs.lemmas.Bool.{eq-eqb}
 use Rattle.spr_io.specs.Content.{Content, written, flushed}
 use Rattle.disk_format.specs.declared.shape.ImageShape.{ImageShape}
 use Rattle.disk_format.specs.VersionOne.{header}
-use Rattle.disk_format.specs.Image.{Imaged, image, pages_of}
-use Rattle.disk_layer.specs.declared.fault.StoreFault.{StoreFault}
-use Rattle.disk_layer.specs.Seen.{IsFault, ReadsPage, with_page}
+use Rattle.page_ground.specs.Seen.{Imaged}
+use Rattle.disk_format.specs.Image.{image, pages_of}
+use Rattle.page_ground.specs.declared.fault.StoreFault.{StoreFault}
+use Rattle.page_ground.specs.Seen.{IsFault, ReadsPage, with_page}
 use Rattle.disk_layer.specs.Disk.{Disk, HasImage, SameBut, seen_of, pages_on, kept_on, counting, headed, settled}
 use Rattle.mirror_rules.specs.Tree.{Image, Cell, Leaf, In}
 use Rattle.mirror_rules.specs.Steps.{Act, Write, Raise, Flush, Says, Done, Fault, faulted, kept_now, Takes, write_taken, raise_taken, flush_taken, Refuses, refused, raise_unkept, raise_kept, Passes, pass_taken, pass_refused, Reads, read_taken, read_refused}

@@ -2,7 +2,7 @@
 use Rattle.std.proofs.Common.{◌≡◌, ℕ, suc, ◌+◌, Bool, true, false, ◌&&◌, ◌||◌, List, [], ◌∷◌, set, Result, Ok, Err, refl, sym, ap, ◌∙◌, subst}
 use Rattle.std.specs.Prelude.{eqb}
 use Rattle.std.proofs.lemmas.Bool.{and_parts}
-use Rattle.disk_layer.specs.declared.fault.StoreFault.{StoreFault}
+use Rattle.page_ground.specs.declared.fault.StoreFault.{StoreFault}
 use Rattle.mirror_rules.specs.Tree.{Cell, Seat, In, Out, generation, seats, is_live}
 use Rattle.mirror_rules.specs.Tree as machine
 use Rattle.mirror_rules.specs.Claims.{Nth, nth_here, nth_later, Every, every_none, every_more, Has, has_here, has_later, IsLive}

@@ -1,11 +1,11 @@
 -- What a ground tells after each of its calls.
 use Rattle.std.proofs.Common.{◌≡◌, ◌⊎◌, inl, inr, ℕ, min, ◌+◌, ◌^◌, ◌<◌, ◌≤◌, nat_lt, arith, Bool, true, false, List, [], ◌∷◌, ◌++◌, set, length, Option, Some, None, IfSome, refl, sym, ap, ◌∙◌, subst, length-set}
 use Rattle.std.proofs.lemmas.Bool.Decides.{nat_tests}
-use Rattle.disk_format.specs.Image.{Imaged}
+use Rattle.page_ground.specs.Seen.{Imaged}
 use Rattle.std.specs.Prelude.{slice_get, OnOk, OnErr, IfErr, Result, Ok, Err}
 use Rattle.disk_format.specs.declared.shape.ImageShape.{ImageShape}
-use Rattle.disk_layer.specs.declared.fault.StoreFault.{StoreFault}
-use Rattle.disk_layer.specs.Seen.{Are, DiskSeen, Keeps, IsCalm, IsFault, ReadsPage, AllKept, KeptAt, with_page}
+use Rattle.page_ground.specs.declared.fault.StoreFault.{StoreFault}
+use Rattle.page_ground.specs.Seen.{Are, DiskSeen, Keeps, IsCalm, IsFault, ReadsPage, AllKept, KeptAt, with_page}
 use Rattle.mirror_rules.specs.Tree.{Image, Cell, Seat, In, Out, Tree, seats, top, limit}
 use Rattle.mirror_rules.specs.Claims.{Pairs, pairs_none, pairs_more, Every, every_none, every_more, Has, IsLive, HasPages, pages_live, KeepsPages, keeping_live, keeping_left, keeping_out, HasLevel, level_live, level_left, Even}
 use Rattle.mirror_rules.specs.Claims as claims

@@ -1,6 +1,6 @@
 -- A disk that joins, over plain variables.
 use Rattle.std.proofs.Common.{◌≡◌, ℕ, suc, ◌+◌, ◌<◌, max, Bool, true, false, ◌||◌, List, [], get_or, set, Result, refl, sym, ap, ◌∙◌, subst, arith}
-use Rattle.disk_layer.specs.declared.fault.StoreFault.{StoreFault}
+use Rattle.page_ground.specs.declared.fault.StoreFault.{StoreFault}
 use Rattle.mirror_rules.specs.Tree.{Cell, Seat, In, Out, Tree, Leaf, seats, generation}
 use Rattle.mirror_rules.specs.Tree as machine
 use Rattle.mirror_rules.specs.Claims.{Pairs, pairs_more, Has, has_here, has_later, Nth, nth_here, nth_later, IsLive}

@@ -7,7 +7,8 @@ use Rattle.spr_io.specs.Content.{Content}
 use Rattle.disk_format.specs.declared.shape.ImageShape.{ImageShape}
 use Rattle.disk_format.specs.declared.why.BadImage.{BadImage}
 use Rattle.disk_format.specs.VersionOne as format
-use Rattle.disk_format.specs.Image.{Imaged, front_of, imaged}
+use Rattle.page_ground.specs.Seen.{Imaged}
+use Rattle.disk_format.specs.Image.{front_of, imaged}
 use Rattle.disk_layer.specs.Disk.{Disk}
 use Rattle.disk_layer.specs.Calls as calls
 use Rattle.mirror_rules.specs.Tree.{Cell, Seat, In, Out, seats}
@@ -55,7 +56,7 @@ bad s b n w e q h = (
 pub met-none : (s t : ShutSeen) → MeetsLeaf s (Ok None) t → Met (s ∷ []) (Out (is_some t.bad) (store_of t) ∷ [])
 met-none s t h = subst (λ (v : ShutSeen). Met (s ∷ []) (Out (is_some v.bad) (store_of v) ∷ [])) (sym h.0) (elim h.1 as (λ _. Met (s ∷ []) (Out (is_some t.bad) (store_of (changed s t.bad t.faults)) ∷ [])) [
   | inl a ↦ record { seen = store_of s ∷ []; found = pairs_more (found-self s) pairs_none; meets = pairs_more (down s t.bad t.faults a.0 a.1) pairs_none }
-  | inr a ↦ let r = bad s t.bad t.faults a.0 a.1 a.2.2 a.2.1 in record { seen = store_of (changed s t.bad t.faults) ∷ []; found = pairs_more r.0 pairs_none; meets = pairs_more r.1 pairs_none }
+  | inr a ↦ let r = bad s t.bad t.faults a.0 a.2 a.3.2 a.3.1 in record { seen = store_of (changed s t.bad t.faults) ∷ []; found = pairs_more r.0 pairs_none; meets = pairs_more r.1 pairs_none }
 ])
 
 pub rested : {cs : List ShutSeen} {xs : List Seat} → Met cs xs → Rested cs xs
@@ -101,7 +102,7 @@ reasons-good s = pairs_more {x = s} {y = None} tt pairs_none
 reasons-none : (s t : ShutSeen) → MeetsLeaf s (Ok None) t → Reasons (s ∷ []) (t.bad ∷ [])
 reasons-none s t h = elim h.1 as (λ _. Reasons (s ∷ []) (t.bad ∷ [])) [
   | inl a ↦ subst (λ v. Reasons (s ∷ []) (v ∷ [])) (sym a.0) (reasons-good s)
-  | inr a ↦ subst (λ v. Reasons (s ∷ []) (v ∷ [])) (sym a.1) (pairs_more {x = s} {y = Some a.0} (a.2.0, a.2.1) pairs_none)
+  | inr a ↦ subst (λ v. Reasons (s ∷ []) (v ∷ [])) (sym a.2) (pairs_more {x = s} {y = Some a.0} (a.3.0, a.3.1) pairs_none)
 ]
 
 pub reasons-at : (s k t : ShutSeen) (o : Option Disk) → o ≡ None → k ≡ s → MeetsLeaf k (Ok o) t → Reasons (s ∷ []) (t.bad ∷ [])

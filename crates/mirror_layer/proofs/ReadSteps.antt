@@ -1,7 +1,7 @@
 -- A read at each kind of part of a ground.
 use Rattle.std.proofs.Common.{◌≡◌, ℕ, Bool, true, false, ◌&&◌, List, [], ◌∷◌, ◌++◌, Result, Ok, Err}
 use Rattle.std.specs.Prelude.{OnOk, IfErr, is_some}
-use Rattle.disk_layer.specs.declared.fault.StoreFault.{StoreFault}
+use Rattle.page_ground.specs.declared.fault.StoreFault.{StoreFault}
 use Rattle.disk_layer.specs.Disk.{Disk, kept_on}
 use Rattle.mirror_rules.specs.Tree.{Tree, Leaf}
 use Rattle.mirror_rules.specs.Tree as machine

@@ -2,7 +2,7 @@
 use Rattle.std.proofs.Common.{◌≡◌, ℕ, Bool, true, false, List, [], ◌∷◌, ◌++◌, Option, Some, None, refl, subst}
 use Rattle.std.specs.Prelude.{is_some, IfSome, IfNone}
 use Rattle.disk_format.specs.declared.why.BadImage.{BadImage}
-use Rattle.disk_layer.specs.declared.fault.StoreFault.{StoreFault}
+use Rattle.page_ground.specs.declared.fault.StoreFault.{StoreFault}
 use Rattle.mirror_rules.specs.Tree.{Cell, Store, Seat, In, Out}
 use Rattle.mirror_rules.specs.Claims.{Every, every_none, every_more}
 use Rattle.mirror_rules.specs.Opening.{IsBad, is_bad, NotGood, LastDown, last_here, last_later}

@@ -7,8 +7,9 @@ use Rattle.spr_io.proofs.Sound.{map_zeros}
 use Rattle.disk_format.specs.declared.shape.ImageShape.{ImageShape}
 use Rattle.disk_format.specs.declared.why.BadImage.{BadImage}
 use Rattle.disk_format.specs.Shape.{first_data}
-use Rattle.disk_format.specs.Image.{Imaged, image, pages_of, page_of}
-use Rattle.disk_layer.specs.declared.fault.StoreFault.{StoreFault}
+use Rattle.page_ground.specs.Seen.{Imaged}
+use Rattle.disk_format.specs.Image.{image, pages_of, page_of}
+use Rattle.page_ground.specs.declared.fault.StoreFault.{StoreFault}
 use Rattle.disk_layer.specs.Disk.{Disk, HasImage, pages_on, kept_on, formatted, laid}
 use Rattle.disk_layer.specs.Calls.{IsNone, IsNoneOrFresh}
 use Rattle.mirror_rules.specs.Tree.{Cell, Seat, In, Out, Tree, generation, lives, seats, is_live}

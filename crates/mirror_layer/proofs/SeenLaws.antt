@@ -3,9 +3,9 @@ use Rattle.std.proofs.Common.{◌≡◌, ◌≢◌, ◌⊎◌, inl, inr, ℕ, ze
 use Rattle.std.specs.Prelude.{Contains, is_some}
 use Rattle.std.proofs.lemmas.Bool.{eq-eqb, ne_eqb}
 use Rattle.std.proofs.lemmas.Bool.Decides.{eqb_tells}
-use Rattle.disk_format.specs.Image.{Imaged}
-use Rattle.disk_layer.specs.declared.fault.StoreFault.{StoreFault}
-use Rattle.disk_layer.specs.Seen.{DiskSeen, Seen, Keeps, IsCalm, IsFault, KeptAt, Turns, held_in, is_up_in, kept_in, faults_in, opened_in, live_in, numbers_in, pages_in}
+use Rattle.page_ground.specs.Seen.{Imaged}
+use Rattle.page_ground.specs.declared.fault.StoreFault.{StoreFault}
+use Rattle.page_ground.specs.Seen.{DiskSeen, Seen, Keeps, IsCalm, IsFault, KeptAt, Turns, held_in, is_up_in, kept_in, faults_in, opened_in, live_in, numbers_in, pages_in}
 use Rattle.mirror_rules.specs.Claims.{Pairs, pairs_none, pairs_more, Every, every_none, every_more}
 
 -- one disk in a call, where the ground's pages were such at its start and at its end

@@ -8,7 +8,8 @@ use Rattle.disk_format.specs.declared.shape.ImageShape.{ImageShape}
 use Rattle.disk_format.specs.declared.image.Image.{Image}
 use Rattle.disk_format.specs.declared.why.BadImage.{BadImage}
 use Rattle.disk_format.specs.VersionOne.{image_in}
-use Rattle.disk_format.specs.Image.{Imaged, image, imaged, pages_of, page_of, front_of}
+use Rattle.page_ground.specs.Seen.{Imaged}
+use Rattle.disk_format.specs.Image.{image, imaged, pages_of, page_of, front_of}
 use Rattle.disk_format.proofs.RowLaws.{image-parts}
 use Rattle.disk_format.proofs.EntryLaws.{length-entries_in}
 use Rattle.mirror_rules.specs.Tree as machine

@@ -3,7 +3,7 @@ use Rattle.std.proofs.Common.{◌≤◌, List, ◌++◌, refl, arith}
 use Rattle.std.proofs.lemmas.Bool.{eq-eqb}
 use Rattle.disk_layer.specs.Disk.{Disk}
 use Rattle.disk_layer.specs.Disk as disk_layer
-use Rattle.disk_layer.specs.Seen.{Keeps}
+use Rattle.page_ground.specs.Seen.{Keeps}
 use Rattle.mirror_rules.specs.Tree.{Seat, Out, top, limit}
 use Rattle.mirror_rules.specs.Claims.{Pairs, pairs_none, pairs_more}
 use Rattle.mirror_rules.proofs.RoundLaws.{top_append}

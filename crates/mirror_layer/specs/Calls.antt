@@ -1,7 +1,7 @@
 -- The calls of a ground to its disks, as the machine's.
 use Rattle.std.specs.Prelude.{◌≡◌, ℕ, ◌<◌, ◌≤◌, ◌^◌, List, length, Bool, true, is_some, Result, Ok, Err}
 use Rattle.std.specs.List.{list_all}
-use Rattle.disk_layer.specs.declared.fault.StoreFault.{StoreFault}
+use Rattle.page_ground.specs.declared.fault.StoreFault.{StoreFault}
 use Rattle.disk_layer.specs.Disk.{Disk, kept_on}
 use Rattle.mirror_rules.specs.Steps.{Act, Says, Done, Fault, Reads}
 use Rattle.mirror_rules.specs.Steps as steps

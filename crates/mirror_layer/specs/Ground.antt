@@ -2,9 +2,9 @@
 use Rattle.std.specs.Prelude.{◌≡◌, ◌≢◌, ℕ, ◌≤◌, List, [], ◌∷◌, length, Bool, true, false, Option, Some, None, Result}
 use Rattle.std.specs.Option.{option_map}
 use Rattle.disk_format.specs.declared.shape.ImageShape.{ImageShape}
-use Rattle.disk_format.specs.Image.{Imaged}
-use Rattle.disk_layer.specs.declared.fault.StoreFault.{StoreFault}
-use Rattle.disk_layer.specs.Seen.{DiskSeen, Seen}
+use Rattle.page_ground.specs.Seen.{Imaged}
+use Rattle.page_ground.specs.declared.fault.StoreFault.{StoreFault}
+use Rattle.page_ground.specs.Seen.{DiskSeen, Seen}
 use Rattle.mirror_rules.specs.Tree.{Image, Seat, In, Out, top, limit}
 use Rattle.mirror_rules.specs.Claims.{Pairs, Every, Has, IsLive, HasPages, Even}
 use Rattle.mirror_rules.specs.Fates.{disk_of, faults_of}

@@ -1,6 +1,6 @@
 -- A disk that joins a ground, as steps of the machine. The disk is taken out of the ground meanwhile; at its place stands a disk that is out.
 use Rattle.std.specs.Prelude.{◌≡◌, ◌≢◌, ℕ, ◌<◌, List, [], set, get_or, Bool, true, false, not, eqb, is_some, Result, Ok, Err}
-use Rattle.disk_layer.specs.declared.fault.StoreFault.{StoreFault}
+use Rattle.page_ground.specs.declared.fault.StoreFault.{StoreFault}
 use Rattle.disk_layer.specs.Disk.{Disk, kept_on}
 use Rattle.mirror_rules.specs.Tree.{Cell, Seat, In, Out}
 use Rattle.mirror_rules.specs.Tree as machine

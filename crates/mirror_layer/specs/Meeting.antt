@@ -1,5 +1,5 @@
 -- The opening of each disk of a ground.
-use Rattle.std.specs.Prelude.{◌≡◌, ◌≢◌, ◌⊎◌, ◌<◌, List, [], ◌∷◌, ◌++◌, true, false, Option, Some, None, IfSome, Result, Ok, Err}
+use Rattle.std.specs.Prelude.{◌≡◌, ◌≢◌, ◌⊎◌, ◌<◌, Bool, List, [], ◌∷◌, ◌++◌, true, false, Option, Some, None, IfSome, Result, Ok, Err}
 use Rattle.spr_io.specs.Content.{Content}
 use Rattle.disk_format.specs.declared.shape.ImageShape.{ImageShape}
 use Rattle.disk_format.specs.declared.why.BadImage.{BadImage}
@@ -56,7 +56,7 @@ abbrev pub MeetsLeaf : ShutSeen → Result (Option Disk) OpenWhy → ShutSeen �
 MeetsLeaf s (Ok (Some d)) t = calls.Opened (record { disk = s.disk; shape = s.shape; content = s.content; faults = s.faults }) d
 MeetsLeaf s (Ok None) t =
     (t ≡ record s { bad = t.bad; faults = t.faults })
-    × (((t.bad ≡ None) × (s.faults < t.faults)) ⊎ ((b : BadImage) × (t.bad ≡ Some b) × IsRefusal (record { disk = s.disk; shape = s.shape; content = s.content; faults = s.faults }) t.faults (whys.BadImage b)))
+    × (((t.bad ≡ None) × (s.faults < t.faults)) ⊎ ((b : BadImage) × (blank : Bool) × (t.bad ≡ Some b) × IsRefusal (record { disk = s.disk; shape = s.shape; content = s.content; faults = s.faults }) t.faults (whys.BadImage b blank)))
 MeetsLeaf s (Err e) t = Unit {0}
 
 -- why blocks are no image, if they are told; it is never that memory ran out

@@ -1,7 +1,7 @@
 -- The disk at a place of a ground, and the exchange of it for another leaf.
 use Rattle.std.specs.Prelude.{◌≡◌, ℕ, List, set, Bool, true, is_some, Result}
 use Rattle.disk_format.specs.declared.shape.ImageShape.{ImageShape}
-use Rattle.disk_layer.specs.declared.fault.StoreFault.{StoreFault}
+use Rattle.page_ground.specs.declared.fault.StoreFault.{StoreFault}
 use Rattle.mirror_rules.specs.Tree.{Cell, Seat, In, Out, seats}
 use Rattle.mirror_rules.specs.Tree as machine
 use Rattle.mirror_rules.specs.Claims.{Nth}

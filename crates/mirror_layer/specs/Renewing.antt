@@ -1,6 +1,6 @@
 -- A bad disk is formatted, and joins. The disk is taken out of the ground meanwhile; at its place stands a disk that is out.
 use Rattle.std.specs.Prelude.{◌≡◌, ℕ, ◌<◌, List, set, Bool, true, Option, Some, None, is_some, Result}
-use Rattle.disk_layer.specs.declared.fault.StoreFault.{StoreFault}
+use Rattle.page_ground.specs.declared.fault.StoreFault.{StoreFault}
 use Rattle.disk_layer.specs.Disk.{Disk}
 use Rattle.disk_layer.specs.Calls.{Stored, Fresh, IsNone, IsNoneOrFresh}
 use Rattle.mirror_rules.specs.Tree.{Seat, Out}

@@ -3,7 +3,8 @@ use Rattle.std.specs.Prelude.{◌≡◌, ℕ, ◌<◌, ◌≤◌, List, [], leng
 use Rattle.std.specs.Option.{option_map}
 use Rattle.spr_io.specs.Content.{Content}
 use Rattle.disk_format.specs.declared.shape.ImageShape.{ImageShape}
-use Rattle.disk_format.specs.Image.{Imaged, image}
+use Rattle.page_ground.specs.Seen.{Imaged}
+use Rattle.disk_format.specs.Image.{image}
 use Rattle.mirror_rules.specs.Tree.{Image, Seat, In, Out}
 use Rattle.mirror_rules.specs.Tree as machine
 use Rattle.mirror_rules.specs.Claims.{Pairs, Every, Has, Nth}

@@ -3,7 +3,8 @@ use Rattle.std.specs.Prelude.{ℕ, List, [], ◌∷◌, ◌++◌, Bool, true, fa
 use Rattle.std.specs.Option.{option_map}
 use Rattle.spr_io.specs.Content.{Content}
 use Rattle.disk_format.specs.declared.shape.ImageShape.{ImageShape}
-use Rattle.disk_format.specs.Image.{Imaged, image}
+use Rattle.page_ground.specs.Seen.{Imaged}
+use Rattle.disk_format.specs.Image.{image}
 use Rattle.disk_layer.specs.Disk.{pages_on, kept_on}
 use Rattle.disk_layer.specs.Disk as disk_layer
 use Rattle.mirror_rules.specs.Tree.{Image, Cell, Store, Seat, In, Out, Tree, Leaf, closed}

@@ -1,7 +1,7 @@
 //! A ground as a stack asks for it.
 
 ghost use Rattle.std.specs.Prelude.{◌≡◌, ◌<◌, ℕ, List, [], ◌∷◌, Bool, Some, OnOk, OnErr, IfOk, IfErr, length, true};
-ghost use Rattle.disk_layer.specs.Seen.{Keeps, IsCalm, IsFault, ReadsPage, AllKept, with_page};
+ghost use Rattle.page_ground.specs.Seen.{Keeps, IsCalm, IsFault, ReadsPage, AllKept, with_page};
 ghost use Rattle.mirror_rules.specs.Tree as machine;
 ghost use Rattle.mirror_rules.specs.Claims.{Every};
 ghost use Rattle.mirror_rules.specs.Guards.{Guarding, Within, Lower, live_at};
@@ -23,7 +23,8 @@ use crate::node::Shut;
 use crate::open::open_over;
 use crate::refuse::OpenAll;
 use disk_format::ImageShape;
-use disk_layer::{Disk, Ground, StoreFault};
+use disk_layer::Disk;
+use page_ground::{Ground, StoreFault};
 use spr_io::Store;
 use stack_accept::GroundPlan;
 use std::alloc::Global;

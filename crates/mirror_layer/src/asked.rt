@@ -6,7 +6,8 @@ ghost use Rattle.mirror_rules.specs.Steps as steps;
 ghost use Rattle.mirror_layer.specs.View.{beside_of, leaf_of};
 ghost use Rattle.mirror_layer.specs.Calls.{Suits, act_of, said, ReadsLeaf};
 
-use disk_layer::{Disk, Generations, Ground, StoreFault};
+use disk_layer::{Disk, Generations};
+use page_ground::{Ground, StoreFault};
 use spr_io::Store;
 use std::marker::Model;
 

@@ -18,7 +18,7 @@ use crate::cede::{cede, live_count};
 use crate::flush::top;
 use crate::node::{Mark, Node, Unopened};
 use disk_format::ImageShape;
-use disk_layer::StoreFault;
+use page_ground::StoreFault;
 
 /// Whether a disk has this generation, and no call to it has failed since it was opened.
 fn is_calm_at<D: Side>(disk: &Held<D>, best: u64) -> bool

@@ -15,7 +15,7 @@ use crate::join::join;
 use crate::node::{Mark, Node, Unopened};
 use crate::place::exchange_at;
 use disk_format::ImageShape;
-use disk_layer::StoreFault;
+use page_ground::StoreFault;
 
 /// What became of a disk that may join.
 #[derive(Clone, Copy)]

@@ -9,7 +9,7 @@ ghost use Rattle.mirror_layer.specs.Calls.{answered};
 use crate::asked::{Call, Side, level};
 use crate::node::{Mark, Node, Unopened};
 use crate::round::pass;
-use disk_layer::StoreFault;
+use page_ground::StoreFault;
 
 /// The greatest generation that there may be.
 const LIMIT: u64 = 9_223_372_036_854_775_807;

@@ -1,7 +1,7 @@
 //! A ground: disks in mirrors, as what lies under a file.
 
 ghost use Rattle.std.specs.Prelude.{◌≡◌, ◌<◌, ℕ, List, [], ◌∷◌, Bool, Some, OnOk, OnErr, IfErr, length, true};
-ghost use Rattle.disk_layer.specs.Seen.{Keeps, IsCalm, IsFault, ReadsPage, AllKept, with_page};
+ghost use Rattle.page_ground.specs.Seen.{Keeps, IsCalm, IsFault, ReadsPage, AllKept, with_page};
 ghost use Rattle.mirror_rules.specs.Tree as machine;
 ghost use Rattle.mirror_rules.specs.Claims.{Every};
 ghost use Rattle.mirror_rules.specs.Guards.{Guarding, Within, Lower, live_at};
@@ -16,7 +16,7 @@ use crate::flush::{flush, generation};
 use crate::node::{Node, Unopened};
 use crate::round::{pass, read};
 use disk_format::ImageShape;
-use disk_layer::{Ground, StoreFault};
+use page_ground::{Ground, StoreFault};
 use std::marker::Model;
 
 /// The disks under a file, in mirrors. Its pages are those of each live disk.

@@ -12,7 +12,7 @@ use crate::flush::generation;
 use crate::node::{Node, Unopened};
 use crate::round::read;
 use disk_format::ImageShape;
-use disk_layer::StoreFault;
+use page_ground::StoreFault;
 
 /// What became of a page of a disk that joins.
 #[derive(Clone, Copy)]

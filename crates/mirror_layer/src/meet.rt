@@ -30,7 +30,7 @@ fn meet_leaf<S: Store>(alloc: Global, shut: &mut Shut<S>) -> Result<Option<Disk<
         Err(err) => {
             shut.store = Some(err.store);
             match err.why {
-                OpenWhy::BadImage { bad } => match FreshImage::new(alloc, &shut.shape) {
+                OpenWhy::BadImage { bad, blank: _ } => match FreshImage::new(alloc, &shut.shape) {
                     Ok(fresh) => {
                         shut.fresh = Some(fresh);
                         shut.bad = Some(bad);

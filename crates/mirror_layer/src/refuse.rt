@@ -10,7 +10,8 @@ ghost use Rattle.mirror_layer.specs.Refusing.{IsFirstBad, Refuses};
 
 use crate::node::{Node, Shut};
 use disk_format::BadImage;
-use disk_layer::{Disk, StoreFault};
+use disk_layer::Disk;
+use page_ground::StoreFault;
 use spr_io::Store;
 use thiserror::Error;
 

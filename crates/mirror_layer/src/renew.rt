@@ -19,7 +19,8 @@ use crate::node::{Mark, Node, Shut, Unopened};
 use crate::place::exchange_at;
 use crate::round::pass;
 use disk_format::ImageShape;
-use disk_layer::{Disk, StoreFault};
+use disk_layer::Disk;
+use page_ground::StoreFault;
 use spr_io::Store;
 
 /// Raises a ground of generation 1 to 2, before a disk is formatted. Ends if no live disk takes it.

@@ -8,7 +8,7 @@ ghost use Rattle.mirror_layer.specs.Calls.{SuitsAll, HasPages, act_of, said, Rea
 
 use crate::asked::{Call, Side, ask, read_disk};
 use crate::node::{Node, Unopened, is_live, leave_out};
-use disk_layer::StoreFault;
+use page_ground::StoreFault;
 
 /// Asks each live side, the left one first. One that refuses while the other takes it becomes stale.
 ///

@@ -1,5 +1,5 @@
 -- What a bay has under a name: a store, a store that was taken, or none.
-use Rattle.std.specs.Prelude.{◌≡◌, ℕ, List, Option, Some, None, Bool, true, false}
+use Rattle.std.specs.Prelude.{◌≡◌, ℕ, List, Option, Some, None, IfSome, is_some, Bool, true, false}
 use Rattle.std.specs.Option.{option_map}
 use Rattle.spr_io.specs.Content.{Content, zeros, all_kept}
 
@@ -9,6 +9,10 @@ pub record Berth : Type 0 where
   pub holds : Option (Option Content)
   pub out : Bool
   pub faults : ℕ
+
+-- whether something lies there, if it is told what does
+abbrev pub Lies : Option (Option Content) → Bool → Type 0
+Lies holds there = IfSome holds (λ held. there ≡ is_some held)
 
 -- what a store that is taken holds: what lay there as it was read, all of it kept, or zeros if nothing lay there
 abbrev pub Opens : ℕ → ℕ → Option (Option Content) → Option Content → Type 0

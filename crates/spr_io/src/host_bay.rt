@@ -12,6 +12,7 @@ use crate::outside::{Bay, BayErr, Failed, Store};
 use crate::raw::RawFile;
 use std::alloc::{AllocError, Global};
 use std::fs::{File, OpenOptions};
+use std::io::ErrorKind;
 use std::marker::Model;
 use std::rt::Files;
 use std::{fs, io};
@@ -96,6 +97,15 @@ impl Entry {
         self.count = count;
         self.spoiled = spoiled;
         true
+    }
+}
+
+/// Whether a host file has any byte; it is not opened, and not made if it is missing.
+fn is_there<R: Files>(rt: &R, path: &str) -> io::Result<bool> {
+    match fs::metadata(rt, path) {
+        Ok(found) => Ok(found.len() > 0),
+        Err(e) if e.kind() == ErrorKind::NotFound => Ok(false),
+        Err(e) => Err(e),
     }
 }
 
@@ -245,6 +255,20 @@ impl<R: Files<File = File> + Drop> Bay for HostBay<R> {
     type Store = HostStore<HostFile>;
 
     ghost told = { λ b. record { berths = berth_in b.entries; faults = b.faults } };
+
+    /// Whether the file is there and is not empty, also while its store is out.
+    fn has(&mut self, disk: &str, file: &str) -> Result<bool, BayErr> {
+        let Ok(path) = format!(in self.alloc; "{disk}.{file}.img") else {
+            return Err(BayErr::Memory);
+        };
+        match is_there(&self.rt, path.as_str()) {
+            Ok(there) => Ok(there),
+            Err(_) => {
+                count_fault(&mut self.faults);
+                Err(BayErr::Failed)
+            }
+        }
+    }
 
     fn take(
         &mut self,

@@ -21,6 +21,6 @@ pub use host_store::HostStore;
 pub use memory::MemStore;
 pub use memory_bay::MemBay;
 pub use memory_texts::{MemShelf, MemSink};
-pub use outside::{Bay, BayErr, Failed, Gate, OpenGate, Shelf, ShelfErr, Sink, Store};
+pub use outside::{Bay, BayErr, Failed, Shelf, ShelfErr, Sink, Store};
 pub use ram_file::RamFile;
 pub use raw::RawFile;

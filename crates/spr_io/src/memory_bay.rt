@@ -1,11 +1,11 @@
 //! A bay of stores in memory.
 
-ghost use Rattle.std.specs.Prelude.{◌≡◌, ◌≢◌, ◌↔◌, ◌∷◌, ◌++◌, ◌&&◌, [], ℕ, List, IsTrue, IfOk, OnOk, OnErr, IfErr, IsErr, IsSome, IfSome, IfNone, length, position, not, is_none, true, false, Some, None, if◌then◌else◌};
+ghost use Rattle.std.specs.Prelude.{◌≡◌, ◌≢◌, ◌↔◌, ◌∷◌, ◌++◌, ◌&&◌, [], ℕ, List, IsTrue, IfOk, OnOk, OnErr, IfErr, IsErr, IsSome, IfSome, IfNone, length, position, not, is_none, is_some, true, false, Some, None, if◌then◌else◌};
 ghost use Rattle.std.specs.Option.{option_copied};
 ghost use Rattle.spr_io.specs.Causes.{HasCause};
 ghost use Rattle.spr_io.specs.Calls.{is_next_to_fail, one_more, no_calls, one_fault};
 ghost use Rattle.spr_io.specs.Content.{HasShape, KeepsShape, HasNothingPending};
-ghost use Rattle.spr_io.specs.Berth.{Opens, taken, given, lost, SameElsewhere, SameBerths};
+ghost use Rattle.spr_io.specs.Berth.{Lies, Opens, taken, given, lost, SameElsewhere, SameBerths};
 ghost use Rattle.spr_io.specs.Memory.{fits_shape};
 ghost use Rattle.spr_io.specs.MemoryBay.{is_slot, slot_of, stored, in_slot, berth_of, SetsSlot, is_out, refuses_shape, take_fails, give_fails, taken_store};
 
@@ -280,6 +280,19 @@ impl Bay for MemBay {
     type Store = MemStore;
 
     ghost told = { λ b. record { berths = berth_of b; faults = b.faults } };
+
+    /// It never fails.
+    fn has(&mut self, disk: &str, file: &str) -> Result<bool, BayErr>
+        ensures value { result ≡ Ok (is_some (stored self.old disk.now file.now)) }
+        ensures unchanged { self.new ≡ self.old }
+        ensures told { IfOk result (Lies (berth_of self.old disk.now file.now).holds) }
+        ensures same { SameBerths (berth_of self.old) (berth_of self.new) }
+        ensures cause { HasCause self.old.faults self.new.faults (result ≡ Err BayErr.Failed) }
+        ensures calm { OnOk result (self.new.faults ≡ self.old.faults) }
+        ensures memory { result ≡ Err BayErr.Memory → self.new.faults ≡ self.old.faults }
+    {
+        Ok(self.look(disk, file).is_some())
+    }
 
     fn take(&mut self, disk: &str, file: &str, size: u32, blocks: u32) -> Result<MemStore, BayErr>
         ensures failed { result ≡ Err BayErr.Failed ↔ IsTrue (take_fails self.old disk.now file.now size blocks) }

@@ -1,14 +1,13 @@
-//! What the program asks of the world outside of it: five traits.
+//! What the program asks of the world outside of it: four traits.
 //!
 //! A value of each tells contracts what it holds, if that is known, and counts its faults.
 
 ghost use Rattle.std.specs.Prelude.{◌≡◌, ◌<◌, ◌≤◌, ℕ, List, Option, IfOk, OnOk, OnErr, IsErr, length, take, true, false};
 ghost use Rattle.spr_io.specs.Causes.{Rose, HasCause, Counts};
 ghost use Rattle.spr_io.specs.Content.{Content, ReadsBlock, IsShaped, KeepsShape, HasNothingPending, written, flushed};
-ghost use Rattle.spr_io.specs.Berth.{Berth, Berths, BaySeen, Opens, taken, given, lost, SameElsewhere, SameBerths};
+ghost use Rattle.spr_io.specs.Berth.{Berth, Berths, BaySeen, Lies, Opens, taken, given, lost, SameElsewhere, SameBerths};
 ghost use Rattle.spr_io.specs.Texts.{ShelfSeen, SinkSeen, Appends, after_write};
 
-use hist_plain::Event;
 use thiserror::Error;
 
 /// The outside failed; the count of what was called says so.
@@ -123,6 +122,16 @@ pub trait Bay {
     /// What lies under each disk and file, and how many faults of the bay itself there were.
     ghost told: { Self → BaySeen };
 
+    /// Whether something lies under a disk and a file. It makes nothing there.
+    ///
+    /// Of a store that is out nothing lies there, if the bay tells what lies where.
+    fn has(&mut self, disk: &str, file: &str) -> Result<bool, BayErr>
+        ensures told { IfOk result (Lies ((told self.old).berths disk.now file.now).holds) }
+        ensures same { SameBerths (told self.old).berths (told self.new).berths }
+        ensures cause { HasCause (told self.old).faults (told self.new).faults (result ≡ Err BayErr.Failed) }
+        ensures calm { OnOk result ((told self.new).faults ≡ (told self.old).faults) }
+        ensures memory { result ≡ Err BayErr.Memory → (told self.new).faults ≡ (told self.old).faults };
+
     /// Takes the store of a disk and a file, of `size` bytes a block; one that is not there starts as zeros.
     ///
     /// What the store reads is kept: nothing that was written before it was taken waits for a flush.
@@ -176,19 +185,4 @@ pub trait Sink {
         ensures cause { HasCause (told self.old).faults (told self.new).faults (IsErr result) }
         ensures nothing { result ≡ Ok 0 → 0 < length bytes.now → Rose (told self.old).faults (told self.new).faults }
         ensures calm { IfOk result (λ n. 0 < n → (told self.new).faults ≡ (told self.old).faults) };
-}
-
-/// What may happen between two steps of a caller; it tells nothing.
-pub trait Gate: Sync {
-    /// Is called after each hold that entered one other event on the way to an access of `caller` in a file, with that
-    /// event, while no lock is held.
-    fn between(&self, caller: u32, file: u32, event: &Event);
-}
-
-/// A gate that does nothing.
-#[derive(Clone, Copy, Debug)]
-pub struct OpenGate;
-
-impl Gate for OpenGate {
-    fn between(&self, _caller: u32, _file: u32, _event: &Event) {}
 }

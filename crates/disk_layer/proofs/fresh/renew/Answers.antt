@@ -4,7 +4,8 @@ use Rattle.disk_format.specs.declared.shape.ImageShape.{ImageShape}
 use Rattle.disk_format.specs.Shape.{first_data}
 use Rattle.disk_layer.specs.Disk.{Suits, formatted}
 use Rattle.disk_layer.specs.Calls.{IsNone, IsNoneOrFresh}
-use Rattle.disk_layer.proofs.DiskLaws.{sound-fresh, keeps-suits}
+use Rattle.disk_layer.proofs.DiskLaws.{sound-fresh}
+use Rattle.disk_layer.proofs.MappedLaws.{keeps-suits}
 use Rattle.disk_layer.proofs.RenewLaws.{none-or-fresh, over-told}
 use Rattle.disk_layer.proofs.fresh.renew.Goals as goal
 

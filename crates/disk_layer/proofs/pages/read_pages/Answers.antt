@@ -4,8 +4,8 @@ use Rattle.std.proofs.lemmas.List.{length-take, length-drop}
 use Rattle.std.proofs.lemmas.Nat.{mul-le}
 use Rattle.disk_format.specs.declared.shape.ImageShape.{ImageShape}
 use Rattle.disk_layer.specs.Disk.{Disk, pages_on, counting}
-use Rattle.disk_layer.specs.Seen.{ReadsPage}
-use Rattle.disk_layer.specs.Pages.{cut}
+use Rattle.page_ground.specs.Seen.{ReadsPage}
+use Rattle.page_ground.specs.Pages.{cut}
 use borrow.Rule.Slice.PartMut.{put_mid}
 use Rattle.disk_layer.proofs.PageLaws.{read-next}
 use Rattle.disk_layer.proofs.pages.read_pages.Goals as goal

@@ -1,6 +1,6 @@
 use Rattle.std.proofs.Common.{◌≡◌, IfSome, take}
 use Rattle.disk_layer.specs.Disk.{pages_on}
-use Rattle.disk_layer.specs.Pages.{cut}
+use Rattle.page_ground.specs.Pages.{cut}
 use Rattle.disk_layer.proofs.pages.read_pages.Given as goal
 
 -- the pages so far were read, and nothing else changed

@@ -4,8 +4,8 @@ use Rattle.std.proofs.lemmas.List.{length-take, length-drop}
 use Rattle.std.proofs.lemmas.Nat.{mul-le}
 use Rattle.std.proofs.lemmas.Result.{err_from_is_err_and}
 use Rattle.disk_format.specs.declared.shape.ImageShape.{ImageShape}
-use Rattle.disk_layer.specs.Seen.{ReadsPage}
-use Rattle.disk_layer.specs.Pages.{cut}
+use Rattle.page_ground.specs.Seen.{ReadsPage}
+use Rattle.page_ground.specs.Pages.{cut}
 use Rattle.disk_layer.proofs.PageLaws.{read-next, read-all}
 use Rattle.mirror_layer.specs.Ground.{Ground, seen_of}
 use Rattle.file_stores.proofs.ReadLaws.{all-self, all-read, all-refused, ground-many}

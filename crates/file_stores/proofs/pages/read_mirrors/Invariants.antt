@@ -1,5 +1,5 @@
 use Rattle.std.proofs.Common.{◌≡◌, IfSome, take, false}
-use Rattle.disk_layer.specs.Pages.{cut}
+use Rattle.page_ground.specs.Pages.{cut}
 use Rattle.mirror_layer.specs.Ground.{seen_of}
 use Rattle.file_stores.specs.Reading.{AllStay}
 use Rattle.file_stores.proofs.pages.read_mirrors.Given as goal

@@ -1,5 +1,5 @@
 use Rattle.std.proofs.Common.{◌≡◌, ◌+◌, ◌-◌, ◌*◌, ◌++◌, ℕ, List, take, drop, ap, sym, ◌∙◌, arith}
-use Rattle.disk_layer.specs.Pages.{cut}
+use Rattle.page_ground.specs.Pages.{cut}
 use Rattle.image_commands.specs.Pages.{page_line, page_lines}
 use Rattle.image_commands.proofs.LineLaws.{lines-next}
 use Rattle.image_commands.proofs.pages.lines_of.Goals as goal

@@ -1,5 +1,5 @@
 use Rattle.std.proofs.Common.{◌≡◌}
-use Rattle.disk_layer.specs.Pages.{cut}
+use Rattle.page_ground.specs.Pages.{cut}
 use Rattle.image_commands.specs.Pages.{page_lines}
 use Rattle.image_commands.proofs.pages.lines_of.Given as goal
 

@@ -1,5 +1,5 @@
 use Rattle.std.proofs.Common.{subst, refl, arith}
-use Rattle.disk_layer.specs.Seen.{Keeps}
+use Rattle.page_ground.specs.Seen.{Keeps}
 use Rattle.disk_layer.specs.Disk.{Disk, HasImage, seen_of}
 use Rattle.disk_layer.proofs.DiskLaws.{sound-image, keeps-same}
 use Rattle.disk_layer.proofs.layer.Disk.sound.Goals as goal

@@ -2,7 +2,7 @@ use Rattle.std.proofs.Common.{◌≡◌, ◌≤◌, Option, sym, ap, ◌∙◌, 
 use Rattle.spr_io.specs.Content.{Content, written}
 use Rattle.disk_format.specs.VersionOne.{header}
 use Rattle.disk_layer.specs.Front.{FrontSeen, IsMap}
-use Rattle.disk_layer.specs.Seen.{Keeps}
+use Rattle.page_ground.specs.Seen.{Keeps}
 use Rattle.disk_layer.specs.Disk.{Disk, IsSound, seen_of, pages_on}
 use Rattle.disk_layer.proofs.SeenLaws.{calm-of}
 use Rattle.disk_layer.proofs.DiskLaws.{disk_of, told_pages, sound-image, sound-same, sound-flushed, sound-header, sound-draft, pages-flushed, pages-headed, keeps-same, keeps-written, keeps-flushed}

@@ -1,6 +1,6 @@
 use Rattle.std.proofs.Common.{◌≡◌, ◌<◌, ℕ, Bool, List, [], Some, refl}
 use Rattle.std.specs.Prelude.{OnOk, IfErr}
-use Rattle.disk_layer.specs.Seen.{Keeps, IsCalm, IsFault, AllKept}
+use Rattle.page_ground.specs.Seen.{Keeps, IsCalm, IsFault, AllKept}
 use Rattle.mirror_rules.specs.Tree.{Seat, Tree, seats, top, limit}
 use Rattle.mirror_rules.specs.Claims.{Every}
 use Rattle.mirror_rules.specs.Steps.{Flushes}

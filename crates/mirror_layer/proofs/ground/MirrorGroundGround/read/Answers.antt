@@ -1,6 +1,6 @@
 use Rattle.std.proofs.Common.{◌≡◌, ◌<◌, ℕ, Bool, List, length, sym, refl, subst, ap, ◌∙◌}
 use Rattle.std.specs.Prelude.{OnOk, IfErr}
-use Rattle.disk_layer.specs.Seen.{Keeps, IsCalm, IsFault, ReadsPage}
+use Rattle.page_ground.specs.Seen.{Keeps, IsCalm, IsFault, ReadsPage}
 use Rattle.mirror_rules.specs.Tree.{Tree, seats}
 use Rattle.mirror_rules.specs.Steps.{Look}
 use Rattle.mirror_rules.specs.Guards.{Guarding}

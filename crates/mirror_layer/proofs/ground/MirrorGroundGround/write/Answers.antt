@@ -1,6 +1,6 @@
 use Rattle.std.proofs.Common.{◌≡◌, ◌<◌, ℕ, Bool, List, ◌∷◌, length, sym, refl, subst, ap, ◌∙◌}
 use Rattle.std.specs.Prelude.{OnOk, OnErr, IfErr}
-use Rattle.disk_layer.specs.Seen.{Keeps, IsCalm, IsFault, with_page}
+use Rattle.page_ground.specs.Seen.{Keeps, IsCalm, IsFault, with_page}
 use Rattle.mirror_rules.specs.Tree.{Seat, Tree, seats}
 use Rattle.mirror_rules.specs.Steps.{Says, Puts}
 use Rattle.mirror_rules.specs.Guards.{Guarding}
