@@ -9,11 +9,12 @@ use Rattle.stack_accept.specs.Mount.{Mount}
 use Rattle.spr_io.specs.Content.{Content, HasShape, IsShaped}
 use Rattle.disk_format.specs.declared.shape.ImageShape.{ImageShape}
 use Rattle.disk_format.specs.Shape.{blocks_of}
-use Rattle.disk_format.specs.Image.{Imaged, image, pages_of as pages_in_blocks}
+use Rattle.page_ground.specs.Seen.{Imaged}
+use Rattle.disk_format.specs.Image.{image, pages_of as pages_in_blocks}
 use Rattle.disk_format.proofs.MapLaws.{sizes-all}
 use Rattle.disk_layer.specs.Disk.{Disk, HasImage, kept_on, pages_on}
-use Rattle.disk_layer.specs.Seen.{live_in, numbers_in, opened_in, faults_in, pages_in as told_in}
-use Rattle.disk_layer.specs.Seen.{kept_in as kept_by}
+use Rattle.page_ground.specs.Seen.{live_in, numbers_in, opened_in, faults_in, pages_in as told_in}
+use Rattle.page_ground.specs.Seen.{kept_in as kept_by}
 use Rattle.disk_layer.specs.Calls as disks
 use Rattle.tower_log.specs.declared.logged.Logged.{Logged}
 use Rattle.tower_log.specs.Notes.{Rises, counts_of}

@@ -7,9 +7,10 @@ use Rattle.script_text.specs.declared.script.Reply.{Reply}
 use Rattle.script_text.specs.declared.script.Reply.TheVariants.{Done}
 use Rattle.stack_accept.specs.Mount.{Mount}
 use Rattle.disk_format.specs.declared.shape.ImageShape.{ImageShape}
-use Rattle.disk_format.specs.Image.{Imaged, image}
-use Rattle.disk_layer.specs.Seen.{AreBehind, Seen, held_in, faults_in, live_in, opened_in, pages_in as told_in}
-use Rattle.disk_layer.specs.Seen.{kept_in as kept_by}
+use Rattle.page_ground.specs.Seen.{Imaged}
+use Rattle.disk_format.specs.Image.{image}
+use Rattle.page_ground.specs.Seen.{AreBehind, Seen, held_in, faults_in, live_in, opened_in, pages_in as told_in}
+use Rattle.page_ground.specs.Seen.{kept_in as kept_by}
 use Rattle.tower_core.specs.Legal.{FitsFile, IsLegal, file_after}
 use Rattle.tower_core.specs.Trail.{IsRun, start, state_of}
 use Rattle.tower_core.specs.TreeShape.{TreeShape}
@@ -24,6 +25,7 @@ use Rattle.tower_shows.proofs.Stays.{told_stays}
 use Rattle.stack_engine.specs.Engine.{EngineSeen, IsSound, events_in, file_in, log_in, sides_in, tree_in}
 use Rattle.stack_engine.specs.Opened.{AreAnswers, IsOf, KeepsSince, last_from}
 use Rattle.stack_engine.specs.Start as engines
+use Rattle.spr_volume.specs.Needed.{AreNeeded}
 use Rattle.spr_volume.specs.Later.{AreAnswered, AreLater, IsLater, IsNoteOf, IsOnDisk, KeepsFirst, TurnsFirst}
 use Rattle.run_defs.specs.declared.store.StoreKey.{StoreKey}
 use Rattle.run_defs.specs.Stack.{pages_of}
@@ -99,6 +101,12 @@ module _ (mount : Mount) (file : ℕ) (before after : Seen) (e0 e1 : EngineSeen)
       (subst (λ (t : TreeShape). AreAnswered t start run.later.more) run.opens.tree_is
       (subst (λ (l : List Logged). AreAnswered (tree_in e0) (state_of (tree_in e0) (trail_of l)) run.later.more) run.opens.no_log run.later.answered))
 
+  needed-is : AreNeeded mount.tree (pages_of mount file) [] (log_in e1)
+  needed-is = subst (λ (l : List Logged). AreNeeded mount.tree (pages_of mount file) [] l) log-is
+      (subst (λ (f : PagedFile). AreNeeded mount.tree f.pages [] run.later.more) run.opens.file_is
+      (subst (λ (t : TreeShape). AreNeeded t (file_in e0).pages [] run.later.more) run.opens.tree_is
+      (subst (λ (l : List Logged). AreNeeded (tree_in e0) (file_in e0).pages (trail_of l) run.later.more) run.opens.no_log run.later.needed)))
+
   -- its log is the file's
   pub of-file : (disks : ℕ) → disks ≡ length mount.disks → ((disk : ℕ) → Contains (live_in before.disks) disk → disk < disks) → IsOfFile mount file (log_in e1)
   of-file disks same few = record {
@@ -107,6 +115,7 @@ module _ (mount : Mount) (file : ℕ) (before after : Seen) (e0 e1 : EngineSeen)
     few = run.sound.few;
     notes = subst (λ n. AllByRecursion (IsOfDisks n) (log_in e1)) same (notes-of (log_in e1) disks-later.notes);
     answers = λ opening. answers-but-bytes mount.tree mount.page_size (pages_of mount file) opening (log_in e1) (at-mount (λ t f. IsRun t f.pages start (events_in e1)) run.sound.true_to.run) answered-is;
+    needed = needed-is;
   }
     where
       notes-of : (log : List Logged) → AllByRecursion (IsNoteOf (live_in before.disks)) log → AllByRecursion (IsOfDisks disks) log

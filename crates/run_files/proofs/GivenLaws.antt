@@ -6,7 +6,8 @@ use Rattle.stack_accept.specs.Mount.{Mount}
 use Rattle.spr_io.specs.Content.{Content, IsShaped}
 use Rattle.disk_format.specs.declared.shape.ImageShape.{ImageShape}
 use Rattle.disk_format.specs.Shape.{blocks_of}
-use Rattle.disk_format.specs.Image.{Imaged, image}
+use Rattle.page_ground.specs.Seen.{Imaged}
+use Rattle.disk_format.specs.Image.{image}
 use Rattle.disk_format.proofs.MapLaws.{sizes-all}
 use Rattle.mirror_rules.specs.Tree.{Image, Seat, In, Out, Tree, Leaf, Coherent, Mirror, seats}
 use Rattle.mirror_rules.specs.Tree as machine

@@ -7,8 +7,8 @@ use Rattle.hist_plain.specs.declared.event.Keep.{Keep}
 use Rattle.script_text.specs.declared.script.Reply.{Reply}
 use Rattle.stack_accept.specs.Mount.{Mount}
 use Rattle.spr_io.specs.Content.{Content}
-use Rattle.disk_layer.specs.Seen.{kept_in}
-use Rattle.disk_layer.specs.Seen.{pages_in as told_in}
+use Rattle.page_ground.specs.Seen.{kept_in}
+use Rattle.page_ground.specs.Seen.{pages_in as told_in}
 use Rattle.mirror_layer.specs.Ground.{seen_of}
 use Rattle.tower_core.specs.Legal.{IsLegal}
 use Rattle.tower_log.specs.declared.logged.Logged.{Logged}

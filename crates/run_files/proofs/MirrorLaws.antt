@@ -11,9 +11,10 @@ use Rattle.stack_accept.specs.Plan.{disks_in, numbers_below}
 use Rattle.spr_io.specs.Content.{Content, IsShaped}
 use Rattle.disk_format.specs.Shape.{blocks_of}
 use Rattle.disk_format.specs.declared.shape.ImageShape.{ImageShape}
-use Rattle.disk_format.specs.Image.{Imaged, image}
-use Rattle.disk_layer.specs.Seen.{faults_in, live_in, numbers_in, opened_in, pages_in as told_in}
-use Rattle.disk_layer.specs.Seen.{kept_in as kept_by}
+use Rattle.page_ground.specs.Seen.{Imaged}
+use Rattle.disk_format.specs.Image.{image}
+use Rattle.page_ground.specs.Seen.{faults_in, live_in, numbers_in, opened_in, pages_in as told_in}
+use Rattle.page_ground.specs.Seen.{kept_in as kept_by}
 use Rattle.mirror_rules.specs.Claims.{Every, every_none, every_more, Has, HasPages, IsLive}
 use Rattle.mirror_layer.specs.View.{Beside}
 use Rattle.mirror_layer.specs.Calls.{all_told}

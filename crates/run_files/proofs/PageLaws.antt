@@ -11,7 +11,8 @@ use Rattle.disk_format.specs.declared.why.BadImage.{BadImage}
 use Rattle.disk_format.specs.Shape.{blocks_of}
 use Rattle.disk_format.specs.Table.{first_place}
 use Rattle.disk_format.specs.VersionOne.{is_entry, image_in}
-use Rattle.disk_format.specs.Image.{Imaged, front_of, image, imaged, page_of, pages_of}
+use Rattle.page_ground.specs.Seen.{Imaged}
+use Rattle.disk_format.specs.Image.{front_of, image, imaged, page_of, pages_of}
 use Rattle.disk_format.proofs.EntryLaws.{length-entries_in}
 use Rattle.disk_format.proofs.MapLaws.{Sizes, map-good}
 use Rattle.disk_format.proofs.RowLaws.{image-parts}

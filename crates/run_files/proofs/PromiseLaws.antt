@@ -9,8 +9,9 @@ use Rattle.stack_engine.specs.Opened.{from_after}
 use Rattle.stack_accept.specs.Mount.{Mount}
 use Rattle.spr_io.specs.Content.{Content}
 use Rattle.disk_format.specs.declared.shape.ImageShape.{ImageShape}
-use Rattle.disk_format.specs.Image.{Imaged, image}
-use Rattle.disk_layer.specs.Seen.{AreBehind, DiskSeen, held_in, is_up_in}
+use Rattle.page_ground.specs.Seen.{Imaged}
+use Rattle.disk_format.specs.Image.{image}
+use Rattle.page_ground.specs.Seen.{AreBehind, DiskSeen, held_in, is_up_in}
 use Rattle.mirror_rules.specs.Claims.{Every, Has, nth_here, nth_later}
 use Rattle.mirror_rules.specs.Guards.{Among, among}
 use Rattle.mirror_layer.specs.View.{Beside}

@@ -11,7 +11,7 @@ use Rattle.disk_format.specs.declared.shape.ImageShape.{ImageShape}
 use Rattle.disk_format.specs.Image.{image, pages_of}
 use Rattle.disk_layer.specs.Disk.{Disk, HasImage}
 use Rattle.disk_layer.specs.Calls as disks
-use Rattle.disk_layer.specs.Seen.{Seen, live_in}
+use Rattle.page_ground.specs.Seen.{Seen, live_in}
 use Rattle.mirror_rules.specs.Claims.{Every, every_more}
 use Rattle.mirror_layer.specs.View.{Beside}
 use Rattle.mirror_layer.specs.Ground.{Ground, Differ, seen_of}

@@ -2,7 +2,7 @@
 use Rattle.std.proofs.Common.{◌≡◌, ℕ, zero, suc, [], ◌∷◌, List, refl, sym, ap, arith}
 use Rattle.std.specs.Prelude.{Contains}
 use Rattle.disk_layer.specs.Disk.{Disk}
-use Rattle.disk_layer.specs.Seen.{numbers_in}
+use Rattle.page_ground.specs.Seen.{numbers_in}
 use Rattle.spr_volume.specs.Later.{IsOnDisk}
 use Rattle.file_stores.specs.WholeDisk.{seen_whole}
 use Rattle.file_stores.proofs.WholeLaws.{is-live}

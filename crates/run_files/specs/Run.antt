@@ -23,6 +23,7 @@ use Rattle.tower_shows.specs.Began.{ArePagesOf}
 use Rattle.tower_shows.specs.Since.{AreSince}
 use Rattle.stack_engine.specs.Opened.{AreAnswers, last_from}
 use Rattle.spr_volume.specs.Later.{notes_in}
+use Rattle.spr_volume.specs.Needed.{AreNeeded}
 use Rattle.run_defs.specs.declared.store.StoreKey.{StoreKey}
 use Rattle.run_defs.specs.Stack.{pages_of}
 use Rattle.client_objects.specs.Views.{names_at_start}
@@ -31,12 +32,13 @@ use Rattle.run_defs.specs.Fits.{FitsScript, EachAnswered}
 use Rattle.spr_io.specs.Content.{Content}
 use Rattle.spr_io.specs.Berth.{BaySeen}
 use Rattle.disk_format.specs.declared.shape.ImageShape.{ImageShape}
-use Rattle.disk_format.specs.Image.{Imaged, image}
+use Rattle.page_ground.specs.Seen.{Imaged}
+use Rattle.disk_format.specs.Image.{image}
 use Rattle.spr_report.specs.declared.status.Status.{Status}
 use Rattle.spr_report.specs.declared.status.Status.TheVariants as statuses
 use Rattle.spr_report.specs.Report.{report}
-use Rattle.disk_layer.specs.Seen.{is_up_in, kept_in, live_in, numbers_in}
-use Rattle.disk_layer.specs.Seen.{pages_in as told_in}
+use Rattle.page_ground.specs.Seen.{is_up_in, kept_in, live_in, numbers_in}
+use Rattle.page_ground.specs.Seen.{pages_in as told_in}
 use Rattle.mirror_layer.specs.Ground.{Ground, IsGround, seen_of}
 use Rattle.mirror_layer.specs.Bringing.{OpenedOver}
 use Rattle.mirror_layer.specs.Stores.{GivesBack}
@@ -69,14 +71,16 @@ AreAnswersButBytes shape size opening log = (place : ℕ) (entry : Entry) → sl
     → entry.answer ≡ option_map {T = Told} (λ told. told.answer) (reply (plain_shape shape size) (file_after shape size opening (take place (trail_of log))) entry.event)
 
 -- A file's log, whatever its store tells: each event stays in the file and was allowed where it stands, so that one writer or
--- many readers had each page at each layer; there are no more events than a file may have; each note is of a disk of the stack; and, whatever bytes
--- the file began with, each answer is the plain file's at its place, but for the bytes of a read.
+-- many readers had each page at each layer; there are no more events than a file may have; each note is of a disk of the stack; whatever bytes
+-- the file began with, each answer is the plain file's at its place, but for the bytes of a read; and no page message is needless: each comes
+-- next, where it stands, for an access or for a sync.
 pub record IsOfFile (mount : Mount) (file : ℕ) (log : List Logged) : Type 0 where
   pub run : IsRun mount.tree (pages_of mount file) start (trail_of log)
   pub fits : AllByRecursion (FitsFile mount.page_size (pages_of mount file)) (trail_of log)
   pub few : place_of log ≤ MAX_EVENTS
   pub notes : AllByRecursion (IsOfDisks (length mount.disks)) log
   pub answers : (opening : List ℕ) → AreAnswersButBytes mount.tree mount.page_size opening log
+  pub needed : AreNeeded mount.tree (pages_of mount file) [] log
 
 -- the files' logs, one for each; one whose closing sync is done ends with it
 pub record AreOfFiles (mount : Mount) (closer : ℕ) (closing : List Reply) (logs : List (List Logged)) : Type 0 where

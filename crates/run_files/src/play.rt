@@ -12,13 +12,13 @@ ghost use Rattle.run_files.specs.Room.{HasAnswerRoom};
 
 use crate::room::Asked;
 use client_objects::start_names;
-use disk_layer::Ground;
+use hist_plain::Gate;
 use name_context::Names;
+use page_ground::Ground;
 use pager_channel::Ops;
 use run_phases::{Worker, close_files, run_phases};
 use script_text::{Reply, Said, Script};
 use spr_client::Common;
-use spr_io::Gate;
 use spr_volume::{Pass, Volume};
 use stack_accept::Mounted;
 use stack_engine::Tower;

@@ -26,11 +26,12 @@ use crate::room::{Asked, Files, Shelves, room_for_answers, room_for_stores};
 use file_stores::{
     FileStores, Held, Stop, by_file, finish_lost, give_back, put_files, stopped, take_stores,
 };
+use hist_plain::Gate;
 use name_context::Names;
 use pager_channel::Ops;
 use run_defs::StoreKey;
 use script_text::Script;
-use spr_io::{Bay, Gate, Sink};
+use spr_io::{Bay, Sink};
 use spr_report::{Run, Status, finish, report};
 use stack_accept::Mounted;
 use std::alloc::{AllocError, Global};

@@ -65,7 +65,8 @@ use Rattle.spr_report.specs.declared.status.Status.TheVariants as statuses
 use Rattle.disk_format.specs.declared.image.Image.{Image}
 use Rattle.disk_format.specs.declared.shape.ImageShape.{ImageShape}
 use Rattle.disk_format.specs.declared.why.BadImage.{BadImage}
-use Rattle.disk_format.specs.Image.{Imaged, front_of, image}
+use Rattle.page_ground.specs.Seen.{Imaged}
+use Rattle.disk_format.specs.Image.{front_of, image}
 use Rattle.disk_format.specs.Image as images
 use Rattle.disk_format.specs.VersionOne.{image_in}
 use Rattle.mirror_rules.specs.Tree.{Seat}

@@ -2,7 +2,7 @@
 use denote.RattleType.{RattleType}
 use denote.Struct.Declared.{shape}
 use denote.Param.Send.{IsSend, IsSync, recorded_send, recorded_sync, struct_send, struct_sync, view_send, view_sync}
-use Rattle.disk_layer.specs.declared.under.Ground.{Ghosts}
+use Rattle.page_ground.specs.declared.ground.Ground.{Ghosts}
 use Rattle.hist_lock.proofs.lock.HistLock.TheSendSync as lock
 use Rattle.hist_lock.proofs.lock.Seat.TheSendSync as seat
 use Rattle.hist_lock.specs.contracts.lock.HistLock as HistLock

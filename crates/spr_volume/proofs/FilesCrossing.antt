@@ -7,7 +7,7 @@ use mir.Syntax.{Sym}
 use Rattle.std.proofs.Common.{List, [], ◌∷◌}
 use denote.Param.Send.{AllSend, IsSend, IsSync, recorded_send, recorded_sync, sendable, struct_send, struct_sync, view_send, view_sync}
 use Rattle.std.proofs.Crossing.{Vec-send, Vec-sync, crosses}
-use Rattle.disk_layer.specs.declared.under.Ground.{Ghosts}
+use Rattle.page_ground.specs.declared.ground.Ground.{Ghosts}
 use Rattle.tower_log.specs.contracts.logged.Logged as Logged
 use Rattle.stack_engine.specs.contracts.tower.Tower as Tower
 use Rattle.stack_engine.proofs.tower.Tower.TheSendSync as tower

@@ -17,9 +17,10 @@ use Rattle.stack_engine.specs.declared.moved.Moved.{Moved}
 use Rattle.stack_engine.specs.declared.moved.Moved.TheVariants.{Busy, Done, Stepped}
 use Rattle.stack_engine.specs.declared.refusal.StepErr.{StepErr}
 use Rattle.stack_engine.specs.declared.refusal.StepErr.TheVariants.{StoreFault, TrailFull, Memory}
+use Rattle.stack_engine.specs.Engine.{EngineSeen}
 use Rattle.stack_engine.specs.Tower.{TowerSeen}
 use Rattle.spr_volume.specs.TowerCalls.{Moves, Tries}
-use Rattle.spr_volume.specs.TowerShared.{IsPlain, by}
+use Rattle.spr_volume.specs.TowerShared.{by}
 use Rattle.spr_volume.specs.FileCalls.{Called}
 use Rattle.spr_volume.specs.Holds.{Held, IsSame}
 use Rattle.spr_volume.specs.FilePasses.{FileSeat, Quietly, is_own}
@@ -107,12 +108,9 @@ held_is s n caller event old new out r place follows t at seen = record {
   moves = t.moves;
 }
 
--- the answers of what was given are the plain file's
-pub plain_given : (began part : TowerSeen) (log seen : List Logged) → began ≡ part → seen ≡ log → IsPlain began.engine log → IsPlain part.engine seen
-plain_given began part log seen is given plain =
-    let P : TowerSeen → Type 0 = λ t. IsPlain t.engine seen in
-    let Q : List Logged → Type 0 = λ l. IsPlain began.engine l in
-    subst P is (subst Q (sym given) plain)
+-- what was known of what was given is known then
+pub known_given : (P : EngineSeen → List Logged → Type 0) (began part : TowerSeen) (log seen : List Logged) → began ≡ part → seen ≡ log → P began.engine log → P part.engine seen
+known_given P began part log seen is given h = subst (λ (t : TowerSeen). P t.engine seen) is (subst (P began.engine) (sym given) h)
 
 -- HOLDS OF ONE CALL
 

@@ -7,9 +7,9 @@ use Rattle.std.proofs.lemmas.List.Sums.{fold-append}
 use Rattle.std.proofs.lemmas.Bool.Decides.{nat_tests}
 use Rattle.hist_plain.specs.declared.event.Event.{Event}
 use Rattle.hist_plain.specs.declared.event.Event.TheVariants as events
-use Rattle.disk_format.specs.Image.{Imaged}
-use Rattle.disk_layer.specs.Seen.{Are, KeptAt, Seen, Turns, faults_in, held_in, live_in, pages_in}
-use Rattle.disk_layer.specs.Seen.{kept_in as kept_on}
+use Rattle.page_ground.specs.Seen.{Imaged}
+use Rattle.page_ground.specs.Seen.{Are, KeptAt, Seen, Turns, faults_in, held_in, live_in, pages_in}
+use Rattle.page_ground.specs.Seen.{kept_in as kept_on}
 use Rattle.tower_core.specs.Trail.{State, start, state_after, state_of}
 use Rattle.tower_core.specs.TreeShape.{TreeShape}
 use Rattle.hist_plain.specs.Event.{caller_of}
@@ -30,6 +30,8 @@ use Rattle.stack_engine.specs.Moves.{Enters, Goes, IsRefused}
 use Rattle.stack_engine.specs.Opened.{IsOf, KeepsSince, from_after, last_from}
 use Rattle.stack_engine.proofs.Entering.{at_same, if_some_on, some_image, such_pages}
 use Rattle.stack_engine.proofs.Logs.{counts_of-append}
+use Rattle.spr_volume.specs.Needed.{AreNeeded}
+use Rattle.spr_volume.proofs.Needing.{IsFor, needed_on}
 use Rattle.spr_volume.specs.Later.{AreAnswered, AreLater, IsLater, IsNoteOf, IsOnDisk, IsTurned, KeepsFirst, TurnsFirst, answer_by, notes_in}
 
 -- LISTS
@@ -176,6 +178,7 @@ pub record IsTry (more : List Logged) (old new : EngineSeen) : Type 0 where
   pub notes : AllByRecursion (IsNoteOf (live_in old.ground.disks)) more
   pub paid : IsPaid more old.ground new.ground
   pub answered : AreAnswered (tree_in old) (state_in old) more
+  pub needed : AreNeeded (tree_in old) (file_in old).pages (events_in old) more
   pub calm : (disk : ℕ) → IsOnDisk disk old.ground → counts_of disk more ≡ [] → faults_in new.ground.disks disk ≡ faults_in old.ground.disks disk
 
 -- pages of a told ground are from the first place on
@@ -267,19 +270,21 @@ module _ (more : List Logged) (old new : EngineSeen) (sound : IsSound old) (soun
     log = move.log;
     disks = later_once more old.ground new.ground move.goes.call move.notes move.paid;
     answered = move.answered;
+    needed = move.needed;
     calm = move.calm;
     kept = λ opening first disk of live. keeps_first opening first disk of live;
     turned = λ opening first disk of. turns_first opening first disk of;
   }
 
 -- an event was entered without a fault
-pub try_entered : (entry : Entry) (old new : EngineSeen) → Enters entry old new → entry.answer ≡ answer_by (state_in old) entry.event → IsTry (Entered entry ∷ []) old new
-try_entered entry old new enters is = record {
+pub try_entered : (entry : Entry) (old new : EngineSeen) → Enters entry old new → entry.answer ≡ answer_by (state_in old) entry.event → IsFor old entry.event → IsTry (Entered entry ∷ []) old new
+try_entered entry old new enters is needed = record {
   goes = enters.goes;
   log = enters.log;
   notes = (tt, tt);
   paid = unnoted (Entered entry ∷ []) old.ground new.ground enters.goes.call refl;
   answered = (is, tt);
+  needed = (needed, tt);
   calm = λ disk on none. calm_on old.ground new.ground disk enters.goes.call on enters.calm;
 }
 
@@ -303,6 +308,7 @@ try_refused caller old new (StoreFault disk count) refused = record {
   notes = (refused.why.1.named, tt);
   paid = λ d live. let rose = refused.why.1.all d (live_once old.ground new.ground d refused.goes.call live) in omega (arith, rose);
   answered = tt;
+  needed = tt;
   calm = λ d on none. absurd (one_note (disk == d) count (own_note disk d (on.alone disk refused.why.1.named)) none);
 }
 try_refused caller old new TrailFull refused = record {
@@ -311,6 +317,7 @@ try_refused caller old new TrailFull refused = record {
   notes = tt;
   paid = unnoted [] old.ground new.ground refused.goes.call refl;
   answered = tt;
+  needed = tt;
   calm = λ d on none. ap (λ (s : Seen). faults_in s.disks d) refused.why.2;
 }
 try_refused caller old new Memory refused = record {
@@ -319,6 +326,7 @@ try_refused caller old new Memory refused = record {
   notes = tt;
   paid = unnoted [] old.ground new.ground refused.goes.call refl;
   answered = tt;
+  needed = tt;
   calm = λ d on none. calm_on old.ground new.ground d refused.goes.call on refused.why.2;
 }
 
@@ -330,6 +338,7 @@ try_none old new same = subst (IsTry [] old) (sym same) (record {
   notes = tt;
   paid = unnoted [] old.ground old.ground (inl refl) refl;
   answered = tt;
+  needed = tt;
   calm = λ disk on none. refl;
 })
 
@@ -343,6 +352,7 @@ later_refl e = record {
   log = sym (append-nil (log_in e));
   disks = later_once [] e.ground e.ground (inl refl) tt (unnoted [] e.ground e.ground (inl refl) refl);
   answered = tt;
+  needed = tt;
   calm = λ disk on none. refl;
   kept = λ opening first disk of live was. was;
   turned = λ opening first disk of was. was;
@@ -376,6 +386,9 @@ later_trans a b c p q = record {
   log = q.log ∙ ap (λ (l : List Logged). l ++ q.more) p.log ∙ append_assoc (log_in a) p.more q.more;
   disks = disks_on p.more q.more a.ground b.ground c.ground p.disks q.disks;
   answered = answered_on (tree_in a) (state_in a) p.more q.more p.answered (subst (λ (s : State). AreAnswered (tree_in a) s q.more) state_is (subst (λ (t : TreeShape). AreAnswered t (state_of t (events_in b)) q.more) p.file.tree q.answered));
+  needed = needed_on (tree_in a) (file_in a).pages (events_in a) p.more q.more p.needed
+      (at_same (λ (t : TreeShape) (f : PagedFile). AreNeeded t f.pages (events_in a ++ trail_of p.more) q.more) b.tables a.tables (record { tree = sym p.file.tree; file = sym p.file.file })
+      (subst (λ (es : List Event). AreNeeded (tree_in b) (file_in b).pages es q.more) events_are q.needed));
   calm = λ disk on none.
       let both = none-append (counts_of disk p.more) (counts_of disk q.more) (sym (counts_of-append disk p.more q.more) ∙ none) in
       q.calm disk (on_later disk p.more a.ground b.ground p.disks on) both.1 ∙ p.calm disk on both.0;
@@ -383,5 +396,8 @@ later_trans a b c p q = record {
   turned = λ opening first disk of was. q.turned opening first disk (p.of opening of) (p.turned opening first disk of was);
 }
   where
+    events_are : events_in b ≡ events_in a ++ trail_of p.more
+    events_are = ap trail_of p.log ∙ trail_of-append (log_in a) p.more
+
     state_is : state_of (tree_in a) (events_in b) ≡ fold (state_after (tree_in a)) (state_in a) (trail_of p.more)
-    state_is = ap (state_of (tree_in a)) (ap trail_of p.log ∙ trail_of-append (log_in a) p.more) ∙ fold-append (state_after (tree_in a)) start (events_in a) (trail_of p.more)
+    state_is = ap (state_of (tree_in a)) events_are ∙ fold-append (state_after (tree_in a)) start (events_in a) (trail_of p.more)

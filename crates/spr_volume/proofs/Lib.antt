@@ -1,5 +1,6 @@
 pub mod Both
 pub mod Crossing
+pub mod Needing
 pub mod Laters
 pub mod Sharing
 pub mod Trying

@@ -8,13 +8,12 @@ use Rattle.hist_lock.specs.Known.{IsFree}
 use Rattle.tower_core.proofs.Steps.{slice_get-set_same, slice_get-set_other}
 use Rattle.tower_log.specs.declared.logged.Logged.{Logged}
 use Rattle.stack_engine.specs.declared.refusal.StepErr.{StepErr}
-use Rattle.stack_engine.specs.Engine.{log_in}
+use Rattle.stack_engine.specs.Engine.{EngineSeen, log_in}
 use Rattle.stack_engine.specs.Tower.{TowerSeen}
-use Rattle.spr_volume.specs.TowerShared.{IsPlain}
 use Rattle.spr_volume.specs.declared.answered.Answered.{Answered}
 use Rattle.spr_volume.specs.FileCalls.{Called, CalledAt}
 use Rattle.spr_volume.specs.Holds.{IsSame}
-use Rattle.spr_volume.specs.FilePasses.{AllQuietly, AreBack, FileLock, FileSeat, FilesSeen, IsBack, IsLock, IsPass, IsSeat, FilesKnown, KnowsPlain, Owner, Quietly, known, logs, owner, owner_of, whole, with_range}
+use Rattle.spr_volume.specs.FilePasses.{AllQuietly, AreBack, FileLock, FileSeat, FilesSeen, IsBack, IsLock, IsPass, IsSeat, FilesKnown, Owner, Quietly, known, logs, owner, owner_of, whole, with_range}
 use Rattle.spr_volume.specs.Rows.{AreClosed, AreFree, AreFresh, AreMet, AreNeighbours, AreWhole, IsWithin, above, below}
 use Rattle.spr_volume.proofs.Holding.{quietly_same}
 use Rattle.spr_volume.proofs.RowLemmas.{cons_is, all_get, all_map, all_set, free_at, free_length, free_rows, fresh_closed, fresh_whole, get_map, length-map, set_same, whole_length}
@@ -97,13 +96,12 @@ called_at p seats first end caller k IsIts s u out r e at range same called =
           ∙ ap (λ (o : Option (List Logged)). unwrap_or o []) (slice_get-set_other (map (λ (x : FileSeat). x.seen) seats) k other u.seen ne);
     })
 
--- the answers that the pass then knows of the file
-pub plain_at : (v : FilesSeen) (first end file : ℕ) (seats : List FileSeat) (l : FileLock) (s u : FileSeat) → IsAt v first end seats file l s → IsPlain l.part.engine u.seen → KnowsPlain v (pass_of first end (set seats file u)) file
-plain_at v first end file seats l s u at plain t is =
+-- what holds of what the pass then knows of the file
+pub known_at : (P : EngineSeen → List Logged → Type 0) (v : FilesSeen) (first end file : ℕ) (seats : List FileSeat) (l : FileLock) (s u : FileSeat) → IsAt v first end seats file l s → P l.part.engine u.seen
+    → (t : TowerSeen) → slice_get v.towers file ≡ Some t → P t.engine (known (pass_of first end (set seats file u)) file)
+known_at P v first end file seats l s u at h t is =
     let same : l.part ≡ t = same_Some l.part t (sym at.tower ∙ is) in
-    let P : TowerSeen → Type 0 = λ x. IsPlain x.engine u.seen in
-    let Q : List Logged → Type 0 = λ log. IsPlain t.engine log in
-    subst Q (sym (known_set seats file s u at.seat)) (subst P same plain)
+    subst (P t.engine) (sym (known_set seats file s u at.seat)) (subst (λ (x : TowerSeen). P x.engine u.seen) same h)
 
 -- the pass after a call
 pub called_is : (first end k capacity : ℕ) (seats : List FileSeat) (room : List TowerSeen) (s u : FileSeat) → IsPass first end seats room capacity → IsSeat first end s → IsSame s u → IsPass first end (set seats k u) room capacity

@@ -4,7 +4,7 @@ use denote.RattleType.{RattleType}
 use denote.Struct.Declared.{shape}
 use denote.Param.Send.{IsSend, IsSync, recorded_send, sendable, struct_send, view_send}
 use Rattle.std.proofs.Crossing.{crosses}
-use Rattle.disk_layer.specs.declared.under.Ground.{Ghosts}
+use Rattle.page_ground.specs.declared.ground.Ground.{Ghosts}
 use Rattle.tower_log.specs.contracts.logged.Logged as Logged
 use Rattle.stack_engine.specs.contracts.tower.Tower as Tower
 use Rattle.stack_engine.proofs.tower.Tower.TheSendSync as tower

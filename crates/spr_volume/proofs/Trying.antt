@@ -1,24 +1,27 @@
 -- One try of a call: what it adds to the log, and that the file stays the same file later on.
-use Rattle.std.proofs.Common.{◌≡◌, ℕ, List, [], length, Option, Some, None, Result, Ok, Err, IfOk, IfErr, refl, sym, ap, ◌∙◌}
+use Rattle.std.proofs.Common.{◌≡◌, ℕ, ◌≤◌, IsTrue, List, [], length, Option, Some, None, Result, Ok, Err, IfOk, IfErr, refl, sym, ap, ◌∙◌}
 use Rattle.hist_plain.specs.declared.event.Answer.TheVariants as answers
 use Rattle.hist_plain.specs.declared.event.Event.{Event}
 use Rattle.hist_plain.specs.declared.event.Event.TheVariants as events
 use Rattle.hist_plain.specs.declared.event.Keep.{Keep}
 use Rattle.hist_plain.specs.declared.event.Op.{Op}
-use Rattle.hist_plain.specs.Event.{caller_of}
+use Rattle.hist_plain.specs.Event.{caller_of, fits_page}
 use Rattle.hist_plain.specs.History.{mine}
+use Rattle.tower_core.specs.TreeShape.{IsUpper}
 use Rattle.tower_log.specs.declared.logged.Logged.{Logged}
+use Rattle.tower_log.specs.Log.{place_of}
 use Rattle.stack_engine.specs.declared.moved.Moved.{Moved}
 use Rattle.stack_engine.specs.declared.moved.Moved.TheVariants.{Busy, Done, Stepped}
 use Rattle.stack_engine.specs.declared.refusal.StepErr.{StepErr}
 use Rattle.stack_engine.specs.declared.refusal.StepErr.TheVariants.{StoreFault, TrailFull, Memory}
-use Rattle.stack_engine.specs.Engine.{EngineSeen, IsSound, events_in, log_in, state_in}
+use Rattle.stack_engine.specs.Engine.{EngineSeen, IsSound, events_in, file_in, log_in, state_in, tree_in}
 use Rattle.stack_engine.specs.Messages.{IsPageMessage}
 use Rattle.stack_engine.specs.Moves.{FindsZeros, IsRefused, Sends, StandsFor, bytes_to}
 use Rattle.stack_engine.specs.Tower.{Advances, AdvancesSync, Fails, IsDone, TowerSeen}
 use Rattle.stack_engine.proofs.Planning.{plan_kind, sync_kind}
 use Rattle.spr_volume.specs.TowerCalls.{Moves, Refuses, Tries, access_of, sync_of}
 use Rattle.spr_volume.specs.Later.{IsLater}
+use Rattle.spr_volume.proofs.Needing.{IsFor, for_access, for_sync}
 use Rattle.spr_volume.proofs.Laters.{IsTry, later_trans, later_try, noted_by, try_entered, try_none, try_refused, unanswered}
 
 -- MESSAGES are nobody's
@@ -48,10 +51,10 @@ pub record IsTried (caller : ℕ) (event : Event) (old new : EngineSeen) (out : 
 
 module _ (caller : ℕ) (event : Event) (old new : EngineSeen) (out : List ℕ) where
   -- a page message was sent for it
-  sent : (asked message : Event) → IsPageMessage asked → Sends asked old new message → IsTried caller event old new out (Ok (Stepped message))
-  sent asked message kind sends = record {
+  sent : (asked message : Event) → IsPageMessage asked → Sends asked old new message → IsFor old message → IsTried caller event old new out (Ok (Stepped message))
+  sent asked message kind sends needed = record {
     last = _;
-    is_try = try_entered _ old new sends.enters (unanswered (state_in old) message (stands_quiet old new asked message kind sends.stands));
+    is_try = try_entered _ old new sends.enters (unanswered (state_in old) message (stands_quiet old new asked message kind sends.stands)) needed;
     moves = (_, refl, refl, stands_quiet old new asked message kind sends.stands);
   }
 
@@ -64,30 +67,33 @@ module _ (caller : ℕ) (event : Event) (old new : EngineSeen) (out : List ℕ) 
   refused_so err refused = record { last = noted_by caller err; is_try = try_refused caller old new err refused; moves = refuses err refused }
 
 -- A TRY OF AN ACCESS, which has the caller's next number
-module _ (caller number node life : ℕ) (op : Op) (old new : TowerSeen) (out : List ℕ) (number_is : number ≡ length (mine (events_in old.engine) caller)) (sound : IsSound old.engine) where
+module _ (caller number node life : ℕ) (op : Op) (old new : TowerSeen) (out : List ℕ) (number_is : number ≡ length (mine (events_in old.engine) caller)) (sound : IsSound old.engine) (upper : IsUpper (tree_in old.engine) node)
+    (fits : IsTrue (fits_page (file_in old.engine).page_size (file_in old.engine).pages op)) where
   pub tried_access : (r : Result Moved StepErr) → IfOk r (Advances caller number node life op old new) → IfOk r (λ moved. IsDone answers.Bytes moved → out ≡ bytes_to old.engine node life op)
       → IfErr r (Fails caller old new) → IsTried caller (access_of caller node life op (events_in old.engine)) old.engine new.engine out r
   tried_access (Ok (Done answer)) hits bytes fails = record {
     last = _;
-    is_try = try_entered _ old.engine new.engine hits.makes.enters (ap Some hits.makes.is);
+    is_try = try_entered _ old.engine new.engine hits.makes.enters (ap Some hits.makes.is) (λ quiet. absurd cc);
     moves = (_, refl, record { event_is = ap (λ (n : ℕ). events.Access caller n node life op) number_is; answer_is = refl; bytes = λ read. sym (bytes read) });
   }
   tried_access (Ok (Stepped message)) steps bytes fails =
-      sent caller _ old.engine new.engine out steps.asked message (plan_kind _ _ _ node steps.page steps.want steps.asked steps.steps.plan) steps.sends
+      let kind = plan_kind _ _ _ node steps.page steps.want steps.asked steps.steps.plan in
+      sent caller _ old.engine new.engine out steps.asked message kind steps.sends (for_access caller node life op old new message upper fits steps kind)
   tried_access (Ok (Busy holder)) waits bytes fails = record { last = []; is_try = try_none old.engine new.engine (ap (λ (t : TowerSeen). t.engine) waits.same); moves = refl }
   tried_access (Err err) advances bytes fails = refused_so caller _ old.engine new.engine out err fails.refused
 
 -- A TRY OF A SYNC, which has the caller's next number
-module _ (caller number node from : ℕ) (keep : Keep) (old new : TowerSeen) (number_is : number ≡ length (mine (events_in old.engine) caller)) where
+module _ (caller number node from : ℕ) (keep : Keep) (old new : TowerSeen) (number_is : number ≡ length (mine (events_in old.engine) caller)) (upper : IsUpper (tree_in old.engine) node)
+    (reached : from ≤ place_of (log_in old.engine)) where
   pub tried_sync : (r : Result Moved StepErr) → IfOk r (AdvancesSync caller number node from keep old new) → IfErr r (Fails caller old new)
       → IsTried caller (sync_of caller node from keep (events_in old.engine)) old.engine new.engine [] r
   tried_sync (Ok (Done answer)) syncs fails = record {
     last = _;
-    is_try = try_entered _ old.engine new.engine syncs.enters refl;
+    is_try = try_entered _ old.engine new.engine syncs.enters refl (λ quiet. absurd cc);
     moves = (_, refl, record { event_is = ap (λ (n : ℕ). events.Synced caller n node from keep) number_is; answer_is = ap Some (sym syncs.is); bytes = λ read. refl });
   }
   tried_sync (Ok (Stepped message)) settles fails =
-      sent caller _ old.engine new.engine [] message message (sync_kind _ _ settles.page node from keep message settles.settles.plan) settles.sends
+      sent caller _ old.engine new.engine [] message message (sync_kind _ _ settles.page node from keep message settles.settles.plan) settles.sends (for_sync node from keep old new message upper reached settles)
   tried_sync (Ok (Busy holder)) never fails = absurd never
   tried_sync (Err err) advances fails = refused_so caller _ old.engine new.engine [] err fails.refused
 

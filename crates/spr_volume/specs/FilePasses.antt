@@ -8,7 +8,7 @@ use Rattle.tower_log.specs.declared.logged.Logged.{Logged}
 use Rattle.stack_engine.specs.Engine.{log_in}
 use Rattle.stack_engine.specs.Tower.{TowerSeen}
 use Rattle.spr_volume.specs.Later.{IsLater}
-use Rattle.spr_volume.specs.TowerShared.{IsPlain, SharedSeen, by}
+use Rattle.spr_volume.specs.TowerShared.{IsNeeded, IsPlain, SharedSeen, by}
 
 -- the lock of a file, and what a seat of it knows
 abbrev pub FileLock : Type 0
@@ -104,6 +104,10 @@ AllQuietly first end old new = (file : ℕ) → Quietly first end (known old fil
 -- the answers that a pass knows of a file are the plain file's
 abbrev pub KnowsPlain : FilesSeen → FilesKnown → ℕ → Type 0
 KnowsPlain v p file = (t : TowerSeen) → slice_get v.towers file ≡ Some t → IsPlain t.engine (known p file)
+
+-- the page messages that a pass knows of a file are needed
+abbrev pub KnowsNeeded : FilesSeen → FilesKnown → ℕ → Type 0
+KnowsNeeded v p file = (t : TowerSeen) → slice_get v.towers file ≡ Some t → IsNeeded t.engine (known p file)
 
 -- WHAT A FILE IS AFTER ALL CALLS: the tower that was handed in, later on, of which every caller was one of those below end
 pub record IsBack (end : ℕ) (old new : TowerSeen) : Type 0 where

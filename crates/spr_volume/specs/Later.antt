@@ -5,9 +5,9 @@ use Rattle.hist_plain.specs.declared.event.Answer.{Answer}
 use Rattle.hist_plain.specs.declared.event.Answer.TheVariants as answers
 use Rattle.hist_plain.specs.declared.event.Event.{Event}
 use Rattle.hist_plain.specs.declared.event.Event.TheVariants as events
-use Rattle.disk_format.specs.Image.{Imaged}
-use Rattle.disk_layer.specs.Seen.{Seen, faults_in, held_in, is_up_in, live_in, numbers_in, opened_in, pages_in}
-use Rattle.disk_layer.specs.Seen.{kept_in as kept_on}
+use Rattle.page_ground.specs.Seen.{Imaged}
+use Rattle.page_ground.specs.Seen.{Seen, faults_in, held_in, is_up_in, live_in, numbers_in, opened_in, pages_in}
+use Rattle.page_ground.specs.Seen.{kept_in as kept_on}
 use Rattle.tower_core.specs.Trail.{State, state_after}
 use Rattle.tower_core.specs.TreeShape.{TreeShape}
 use Rattle.tower_log.specs.declared.logged.Logged.{Logged}
@@ -18,6 +18,7 @@ use Rattle.tower_shows.specs.Since.{AreSince}
 use Rattle.stack_engine.specs.Engine.{EngineSeen, events_in, file_in, log_in, state_in, tree_in}
 use Rattle.stack_engine.specs.Moves.{answer_to}
 use Rattle.stack_engine.specs.Opened.{IsOf, KeepsSince, last_from}
+use Rattle.spr_volume.specs.Needed.{AreNeeded}
 
 -- this disk alone is live
 pub record IsOnDisk (disk : ℕ) (ground : Seen) : Type 0 where
@@ -92,6 +93,7 @@ pub record IsLater (old new : EngineSeen) : Type 0 where
   pub disks : AreLater more old.ground new.ground
   -- whatever lies under the file
   pub answered : AreAnswered (tree_in old) (state_in old) more
+  pub needed : AreNeeded (tree_in old) (file_in old).pages (events_in old) more
   -- if one disk alone is live, its count rises only with a note of it
   pub calm : (disk : ℕ) → IsOnDisk disk old.ground → counts_of disk more ≡ [] → faults_in new.ground.disks disk ≡ faults_in old.ground.disks disk
   pub kept : (opening : List ℕ) (first : Option (Option Imaged)) (disk : ℕ) → IsOf opening old → Contains (live_in new.ground.disks) disk

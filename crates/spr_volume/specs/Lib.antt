@@ -1,5 +1,6 @@
 pub mod Calls
 pub mod Passes
+pub mod Needed
 pub mod Later
 pub mod TowerShared
 pub mod TowerCalls

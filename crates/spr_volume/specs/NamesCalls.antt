@@ -6,7 +6,6 @@ use Rattle.name_context.specs.declared.entry.NameEntry.{NameEntry}
 use Rattle.name_context.specs.declared.entry.NameErr.{NameErr}
 use Rattle.name_context.specs.Calls.{Answered}
 use Rattle.name_context.specs.History.{names_after}
-use Rattle.name_context.specs.Listed.{listed}
 use Rattle.name_context.specs.Names.{Name, kept_at, kept_object}
 use Rattle.spr_volume.specs.NamesShared.{Quietly, names_with}
 

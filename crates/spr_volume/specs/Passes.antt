@@ -1,14 +1,13 @@
 -- What contracts see of a volume and of a pass.
-use Rattle.std.specs.Prelude.{◌≡◌, ℕ, false, List, [], map, slice_get, Option, Some, unwrap_or}
+use Rattle.std.specs.Prelude.{◌≡◌, ℕ, false, List, [], slice_get, Option, Some, unwrap_or}
 use Rattle.atomic_table.specs.Seated.{TableId}
 use Rattle.hist_lock.specs.Ranges.{Added}
 use Rattle.tower_log.specs.declared.logged.Logged.{Logged}
-use Rattle.stack_engine.specs.Engine.{log_in}
 use Rattle.stack_engine.specs.Tower.{TowerSeen}
 use Rattle.name_context.specs.declared.entry.NameEntry.{NameEntry}
 use Rattle.name_context.specs.History.{NamesSeen}
 use Rattle.name_context.specs.Names.{Name}
-use Rattle.spr_volume.specs.TowerShared.{IsPlain}
+use Rattle.spr_volume.specs.TowerShared.{IsNeeded, IsPlain}
 use Rattle.spr_volume.specs.FilePasses.{FilesSeen, FilesKnown, Owner}
 pub use Rattle.spr_volume.specs.FilePasses.{AreBack, IsBack, Quietly, is_own, logs}
 use Rattle.spr_volume.specs.NamesShared.{NamesLock, NamesSeat}
@@ -110,6 +109,10 @@ pub record AllQuietly (first end : ℕ) (old new : Knows) : Type 0 where
 -- the answers that a pass knows of a file are the plain file's
 abbrev pub KnowsPlain : VolumeSeen → Knows → ℕ → Type 0
 KnowsPlain v p file = (t : TowerSeen) → slice_get v.towers file ≡ Some t → IsPlain t.engine (known p file)
+
+-- the page messages that a pass knows of a file are needed
+abbrev pub KnowsNeeded : VolumeSeen → Knows → ℕ → Type 0
+KnowsNeeded v p file = (t : TowerSeen) → slice_get v.towers file ≡ Some t → IsNeeded t.engine (known p file)
 
 -- WHAT THE NAMES ARE AFTER ALL CALLS: those that were handed in, with calls more, each of a caller below end
 pub record AreNamesBack (end : ℕ) (old new : NamesSeen) : Type 0 where

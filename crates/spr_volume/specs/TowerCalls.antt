@@ -1,5 +1,5 @@
 -- What a caller asks for, and how far one try of it got.
-use Rattle.std.specs.Prelude.{◌≡◌, ℕ, ◌<◌, ◌≤◌, List, [], ◌∷◌, ◌++◌, length, Some, None, Result, Ok, Err}
+use Rattle.std.specs.Prelude.{◌≡◌, ℕ, ◌<◌, ◌≤◌, List, [], ◌∷◌, ◌++◌, length, None, Some, Result, Ok, Err}
 use Rattle.hist_plain.specs.declared.TheConstants.{MAX_EVENTS}
 use Rattle.hist_plain.specs.declared.event.Answer.{Answer}
 use Rattle.hist_plain.specs.declared.event.Answer.TheVariants as answers
@@ -7,7 +7,7 @@ use Rattle.hist_plain.specs.declared.event.Event.{Event}
 use Rattle.hist_plain.specs.declared.event.Event.TheVariants as events
 use Rattle.hist_plain.specs.declared.event.Keep.{Keep}
 use Rattle.hist_plain.specs.declared.event.Op.{Op}
-use Rattle.hist_plain.specs.Event.{caller_of, page_of_op}
+use Rattle.hist_plain.specs.Event.{caller_of}
 use Rattle.hist_plain.specs.History.{mine}
 use Rattle.tower_log.specs.declared.logged.Entry.{Entry}
 use Rattle.tower_log.specs.declared.logged.Logged.{Logged}
@@ -17,8 +17,6 @@ use Rattle.stack_engine.specs.declared.moved.Moved.{Moved}
 use Rattle.stack_engine.specs.declared.moved.Moved.TheVariants.{Busy, Done, Stepped}
 use Rattle.stack_engine.specs.declared.refusal.StepErr.{StepErr}
 use Rattle.stack_engine.specs.declared.refusal.StepErr.TheVariants.{StoreFault, TrailFull, Memory}
-use Rattle.stack_engine.specs.declared.turns.Turn.{Turn}
-use Rattle.stack_engine.specs.Turns.{blocker}
 
 -- the access that a caller makes after these events
 abbrev pub access_of : ℕ → ℕ → ℕ → Op → List Event → Event
@@ -47,15 +45,6 @@ Moves caller event before last out (Ok (Done answer)) = (entry : Entry) × (last
 Moves caller event before last out (Ok (Stepped message)) = (entry : Entry) × (last ≡ Entered entry ∷ []) × (entry.event ≡ message) × (caller_of message ≡ None)
 Moves caller event before last out (Ok (Busy holder)) = last ≡ []
 Moves caller event before last out (Err err) = Refuses caller before last err
-
--- what holds of the caller that a try waits for
-abbrev pub IfBusy : Moved → (ℕ → Type 0) → Type 0
-IfBusy (Busy holder) P = P holder
-IfBusy moved P = Unit {0}
-
--- by these turns another caller is before this one at the page of its access
-abbrev pub IsBefore : ℕ → Op → List Turn → ℕ → Type 0
-IsBefore caller op turns holder = (page : ℕ) × (page_of_op op ≡ Some page) × (blocker caller page turns ≡ Some holder)
 
 -- ONE TRY of a call whose event, after the events so far, is this
 pub record Tries (caller : ℕ) (event : List Event → Event) (old new : List Logged) (out : List ℕ) (r : Result Moved StepErr) : Type 0 where

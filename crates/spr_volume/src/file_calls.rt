@@ -8,7 +8,7 @@ ghost use Rattle.hist_plain.specs.Plain.{asked_by};
 ghost use Rattle.tower_core.specs.TreeShape.{IsUpper};
 ghost use Rattle.tower_log.specs.Log.{place_of};
 ghost use Rattle.stack_engine.specs.Engine.{file_in, tree_in};
-ghost use Rattle.spr_volume.specs.TowerShared.{IsPlain};
+ghost use Rattle.spr_volume.specs.TowerShared.{IsNeeded, IsPlain};
 ghost use Rattle.spr_volume.specs.FileCalls.{Called, IsAccess, IsSync};
 ghost use Rattle.spr_volume.specs.Holds.{IsSame};
 
@@ -16,10 +16,9 @@ use crate::answered::Answered;
 use crate::holds::{hold_access, hold_place, hold_sync};
 use crate::patience::Patience;
 use crate::shared_tower::SharedTower;
-use disk_layer::Ground;
 use hist_lock::{HistLock, Seat};
-use hist_plain::{Keep, Op};
-use spr_io::Gate;
+use hist_plain::{Gate, Keep, Op};
+use page_ground::Ground;
 use stack_engine::{Moved, StepErr};
 use std::sync::Wait;
 
@@ -44,6 +43,7 @@ pub(crate) fn access<G: Ground, R: Wait, T: Gate>(
     ensures seat { IsSame seat.old seat.new }
     ensures called { Called seat.old.first seat.old.end caller (IsAccess caller node life op.now) seat.old.seen seat.new.seen out.new result }
     ensures plain { IsPlain lock.now.part.engine seat.new.seen }
+    ensures needed { IsNeeded lock.now.part.engine seat.new.seen }
 {
     let mut patience = Patience::new(caller);
     for _ in rt.forever() {
@@ -81,6 +81,7 @@ pub(crate) fn sync<G: Ground, R: Wait, T: Gate>(
     ensures called { Called seat.old.first seat.old.end caller (IsSync caller node keep (place_of seat.old.seen)) seat.old.seen seat.new.seen [] result }
     ensures done { IfOk result (λ answered. answered.answer ≡ ADone) }
     ensures plain { IsPlain lock.now.part.engine seat.new.seen }
+    ensures needed { IsNeeded lock.now.part.engine seat.new.seen }
 {
     let from = hold_place(rt, lock, seat);
     let mut patience = Patience::new(caller);

@@ -10,13 +10,12 @@ ghost use Rattle.tower_log.specs.Log.{place_of};
 ghost use Rattle.stack_engine.specs.Engine.{file_in, tree_in};
 ghost use Rattle.stack_engine.specs.Tower.{TowerSeen};
 ghost use Rattle.spr_volume.specs.Calls.{CalledAt, IsAccess, IsSync};
-ghost use Rattle.spr_volume.specs.Passes.{IsOf, KnowsPlain, known};
+ghost use Rattle.spr_volume.specs.Passes.{IsOf, KnowsNeeded, KnowsPlain, known};
 
 use crate::answered::Answered;
 use crate::mounted::{Pass, Volume};
-use disk_layer::Ground;
-use hist_plain::{Keep, Op};
-use spr_io::Gate;
+use hist_plain::{Gate, Keep, Op};
+use page_ground::Ground;
 use stack_engine::StepErr as CallErr;
 use std::sync::Wait;
 
@@ -43,6 +42,7 @@ impl<G: Ground> Volume<G> {
         requires out { length out.old ≡ asked_by op.now }
         ensures called { CalledAt file caller (IsAccess caller node life op.now) pass.old pass.new out.new result }
         ensures plain { KnowsPlain self.now pass.new file }
+        ensures needed { KnowsNeeded self.now pass.new file }
     {
         let files = &mut pass.files;
         self.files
@@ -65,6 +65,7 @@ impl<G: Ground> Volume<G> {
         requires upper { (t : TowerSeen) → slice_get self.now.towers file ≡ Some t → IsUpper (tree_in t.engine) node }
         ensures called { CalledAt file caller (IsAccess caller node 0 AOpen) pass.old pass.new [] result }
         ensures plain { KnowsPlain self.now pass.new file }
+        ensures needed { KnowsNeeded self.now pass.new file }
     {
         self.files
             .open(rt, &mut pass.files, caller, file, node, gate)
@@ -89,6 +90,7 @@ impl<G: Ground> Volume<G> {
         ensures called { CalledAt file caller (IsSync caller node keep (place_of (known pass.old file))) pass.old pass.new [] result }
         ensures done { IfOk result (λ answered. answered.answer ≡ ADone) }
         ensures plain { KnowsPlain self.now pass.new file }
+        ensures needed { KnowsNeeded self.now pass.new file }
     {
         self.files
             .sync(rt, &mut pass.files, caller, file, node, keep, gate)

@@ -10,14 +10,14 @@ ghost use Rattle.tower_log.specs.Log.{place_of};
 ghost use Rattle.stack_engine.specs.Engine.{file_in, tree_in};
 ghost use Rattle.stack_engine.specs.Tower.{IsDone};
 ghost use Rattle.spr_volume.specs.TowerCalls.{access_of, sync_of};
-ghost use Rattle.spr_volume.specs.TowerShared.{IsPlain};
+ghost use Rattle.spr_volume.specs.TowerShared.{IsNeeded, IsPlain};
 ghost use Rattle.spr_volume.specs.Holds.{Held, IsSame};
 ghost use Rattle.spr_volume.specs.FilePasses.{Quietly};
 
 use crate::shared_tower::SharedTower;
-use disk_layer::Ground;
 use hist_lock::{HistLock, Seat};
 use hist_plain::{Keep, Op};
+use page_ground::Ground;
 use stack_engine::{Moved, StepErr};
 use std::sync::Wait;
 
@@ -51,12 +51,13 @@ pub(crate) fn hold_access<G: Ground, R: Wait>(
     ensures seat { IsSame seat.old seat.new }
     ensures held { Held seat.old.first seat.old.end caller (access_of caller node life op.now) seat.old.seen seat.new.seen out.new result.moved result.place }
     ensures plain { IsPlain lock.now.part.engine seat.new.seen }
+    ensures needed { IsNeeded lock.now.part.engine seat.new.seen }
 {
     let mut file = lock.take(rt, seat);
     let place = file.place();
     let nodes = file.nodes();
     let moved = file.try_access(caller, node, life, op, out);
-    // The proof reads here that the answers are the plain file's.
+    // The proof reads here that the answers are the plain file's, and that the messages are needed.
     file.sound();
     lock.give(seat, file);
     Hold {
@@ -84,12 +85,13 @@ pub(crate) fn hold_sync<G: Ground, R: Wait>(
     ensures held { Held seat.old.first seat.old.end caller (sync_of caller node from keep) seat.old.seen seat.new.seen [] result.moved result.place }
     ensures done { IfOk result.moved (λ moved. (answer : _) → IsDone answer moved → answer ≡ ADone) }
     ensures plain { IsPlain lock.now.part.engine seat.new.seen }
+    ensures needed { IsNeeded lock.now.part.engine seat.new.seen }
 {
     let mut file = lock.take(rt, seat);
     let place = file.place();
     let nodes = file.nodes();
     let moved = file.try_sync(caller, node, from, keep);
-    // The proof reads here that the answers are the plain file's.
+    // The proof reads here that the answers are the plain file's, and that the messages are needed.
     file.sound();
     lock.give(seat, file);
     Hold {

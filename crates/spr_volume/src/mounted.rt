@@ -4,9 +4,9 @@ ghost use Rattle.std.specs.Prelude.{◌≡◌, ◌<◌, IfErr, IfOk, OnErr, OnOk
 ghost use Rattle.spr_volume.specs.Passes.{AllQuietly, AreBack, AreNamesBack, IsMounted, IsOf, as_known, logs, whole, with_range};
 
 use crate::shared_files::{FilesPass, SharedFiles};
-use disk_layer::Ground;
 use hist_lock::{HistLock, Seat};
 use name_context::Names;
+use page_ground::Ground;
 use stack_engine::Tower;
 use std::alloc::{AllocError, Global};
 use std::marker::Model;

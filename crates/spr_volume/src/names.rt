@@ -12,8 +12,8 @@ ghost use Rattle.spr_volume.specs.Passes.{IsOf};
 
 use crate::mounted::{Pass, Volume};
 use crate::names_calls::{bind, context, list, resolve, unbind};
-use disk_layer::Ground;
 use name_context::{NameErr, Stored};
+use page_ground::Ground;
 use seen_values::{Path, Text};
 use std::sync::Wait;
 

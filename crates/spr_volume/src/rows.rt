@@ -6,8 +6,8 @@ ghost use Rattle.stack_engine.specs.Tower.{TowerSeen};
 ghost use Rattle.spr_volume.specs.Rows.{AreClosed, AreFree, AreFresh, AreMet, AreNeighbours, AreWhole, IsClosed, IsWhole, IsWithin, above, below};
 
 use crate::shared_tower::SharedTower;
-use disk_layer::Ground;
 use hist_lock::{HistLock, Seat};
+use page_ground::Ground;
 use stack_engine::Tower;
 use std::alloc::{AllocError, Global};
 

@@ -11,16 +11,15 @@ ghost use Rattle.tower_log.specs.Log.{place_of};
 ghost use Rattle.stack_engine.specs.Engine.{file_in, tree_in};
 ghost use Rattle.stack_engine.specs.Tower.{TowerSeen};
 ghost use Rattle.spr_volume.specs.FileCalls.{CalledAt, IsAccess, IsSync};
-ghost use Rattle.spr_volume.specs.FilePasses.{AllQuietly, AreBack, IsMounted, IsOf, FilesKnown, KnowsPlain, known, logs, whole, with_logs, with_range};
+ghost use Rattle.spr_volume.specs.FilePasses.{AllQuietly, AreBack, IsMounted, IsOf, FilesKnown, KnowsNeeded, KnowsPlain, known, logs, whole, with_logs, with_range};
 
 use crate::answered::Answered;
 use crate::file_calls;
 use crate::rows::{Rows, close_all, lock_all, meet_all, split_all};
 use crate::shared_tower::SharedTower;
-use disk_layer::Ground;
 use hist_lock::{HistLock, Seat};
-use hist_plain::{Keep, Op};
-use spr_io::Gate;
+use hist_plain::{Gate, Keep, Op};
+use page_ground::Ground;
 use stack_engine::{StepErr, Tower};
 use std::alloc::{AllocError, Global};
 use std::marker::Model;
@@ -125,6 +124,7 @@ impl<G: Ground> SharedFiles<G> {
         requires out { length out.old ≡ asked_by op.now }
         ensures called { CalledAt file caller (IsAccess caller node life op.now) pass.old pass.new out.new result }
         ensures plain { KnowsPlain self.now pass.new file }
+        ensures needed { KnowsNeeded self.now pass.new file }
     {
         let index = file as usize;
         let lock = &self.locks[index];
@@ -158,6 +158,7 @@ impl<G: Ground> SharedFiles<G> {
         requires upper { (t : TowerSeen) → slice_get self.now.towers file ≡ Some t → IsUpper (tree_in t.engine) node }
         ensures called { CalledAt file caller (IsAccess caller node 0 AOpen) pass.old pass.new [] result }
         ensures plain { KnowsPlain self.now pass.new file }
+        ensures needed { KnowsNeeded self.now pass.new file }
     {
         self.access(rt, pass, caller, file, node, 0, &Op::Open, &mut [], gate)
     }
@@ -181,6 +182,7 @@ impl<G: Ground> SharedFiles<G> {
         ensures called { CalledAt file caller (IsSync caller node keep (place_of (known pass.old file))) pass.old pass.new [] result }
         ensures done { IfOk result (λ answered. answered.answer ≡ ADone) }
         ensures plain { KnowsPlain self.now pass.new file }
+        ensures needed { KnowsNeeded self.now pass.new file }
     {
         let index = file as usize;
         let lock = &self.locks[index];

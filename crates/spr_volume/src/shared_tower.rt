@@ -1,20 +1,21 @@
 //! A tower as its callers share it.
 
-ghost use Rattle.std.specs.Prelude.{◌≡◌, ◌≤◌, [], IfOk, IsTrue, length};
+ghost use Rattle.std.specs.Prelude.{◌≡◌, ◌≤◌, [], IfErr, IfOk, IsTrue, length};
 ghost use Rattle.hist_plain.specs.declared.event.Answer.TheVariants.{Done as ADone};
 ghost use Rattle.hist_plain.specs.Event.{fits_page};
+ghost use Rattle.hist_plain.specs.History.{mine};
 ghost use Rattle.hist_plain.specs.Plain.{asked_by};
 ghost use Rattle.tower_core.specs.TreeShape.{IsUpper, nodes};
 ghost use Rattle.tower_log.specs.Log.{place_of};
-ghost use Rattle.stack_engine.specs.Engine.{IsSound, file_in, tree_in};
-ghost use Rattle.stack_engine.specs.Tower.{IsDone};
-ghost use Rattle.spr_volume.specs.TowerCalls.{IfBusy, IsBefore, Tries, access_of, sync_of};
+ghost use Rattle.stack_engine.specs.Engine.{IsSound, events_in, file_in, tree_in};
+ghost use Rattle.stack_engine.specs.Tower.{Advances, AdvancesSync, Fails, IsDone};
+ghost use Rattle.spr_volume.specs.TowerCalls.{Tries, access_of, sync_of};
 ghost use Rattle.spr_volume.specs.Later.{IsLater};
-ghost use Rattle.spr_volume.specs.TowerShared.{IsPlain, log_of, shared};
+ghost use Rattle.spr_volume.specs.TowerShared.{IsNeeded, IsPlain, log_of, shared};
 
-use disk_layer::Ground;
 use hist_lock::Storied;
 use hist_plain::{Keep, Op};
+use page_ground::Ground;
 use stack_engine::{Logged, Moved, StepErr, Tower};
 use std::marker::Model;
 use std::snapshot::Snapshot;
@@ -84,10 +85,12 @@ impl<G: Ground> SharedTower<G> {
         tower
     }
 
-    /// What holds of every shared tower: it is the one that was handed in, later on, and its answers are the plain file's.
+    /// What holds of every shared tower: it is the one that was handed in, later on, its answers are the plain file's, and each page
+    /// message came next for a call.
     pub fn sound(&self)
         ensures later { IsLater self.now.began.engine self.now.tower.engine }
         ensures plain { IsPlain self.now.began.engine (log_of self.now) }
+        ensures needed { IsNeeded self.now.began.engine (log_of self.now) }
     {
         self.tower.sound();
     }
@@ -122,7 +125,8 @@ impl<G: Ground> SharedTower<G> {
         requires out { length out.old ≡ asked_by op.now }
         ensures began { self.new.began ≡ self.old.began }
         ensures tries { Tries caller (access_of caller node life op.now) (log_of self.old) (log_of self.new) out.new result }
-        ensures waits { IfOk result (λ moved. IfBusy moved (IsBefore caller op.now self.old.tower.turns)) }
+        ensures advances { IfOk result (Advances caller (length (mine (events_in self.old.tower.engine) caller)) node life op.now self.old.tower self.new.tower) }
+        ensures fails { IfErr result (Fails caller self.old.tower self.new.tower) }
     {
         let number = self.tower.number(caller);
         self.tower.sound();
@@ -147,7 +151,8 @@ impl<G: Ground> SharedTower<G> {
         ensures began { self.new.began ≡ self.old.began }
         ensures tries { Tries caller (sync_of caller node from keep) (log_of self.old) (log_of self.new) [] result }
         ensures done { IfOk result (λ moved. (answer : _) → IsDone answer moved → answer ≡ ADone) }
-        ensures waits { IfOk result (λ moved. IfBusy moved (λ holder. ⊥)) }
+        ensures advances { IfOk result (AdvancesSync caller (length (mine (events_in self.old.tower.engine) caller)) node from keep self.old.tower self.new.tower) }
+        ensures fails { IfErr result (Fails caller self.old.tower self.new.tower) }
     {
         let number = self.tower.number(caller);
         self.tower.sound();

@@ -1,7 +1,7 @@
 use Rattle.std.proofs.Common.{refl, ap, ◌∙◌}
 use Rattle.spr_volume.specs.TowerCalls.{access_of}
-use Rattle.spr_volume.specs.TowerShared.{log_of}
-use Rattle.spr_volume.proofs.Holding.{held_is, plain_given, same_hold, tries_grow}
+use Rattle.spr_volume.specs.TowerShared.{IsNeeded, IsPlain, log_of}
+use Rattle.spr_volume.proofs.Holding.{held_is, known_given, same_hold, tries_grow}
 use Rattle.spr_volume.proofs.holds.hold_access.Goals as goal
 
 pub give-requires-clause-list : goal.give-requires-clause-list
@@ -19,4 +19,8 @@ returns-clause-held g c =
 
 pub returns-clause-plain : goal.returns-clause-plain
 returns-clause-plain g c =
-    plain_given c.try_access-moved.new.self.began c.args.lock.now.part (log_of c.try_access-moved.new.self) c.give.new.seat.seen (c.try_access-moved.ensures.began ∙ c.take-file.ensures.part) (ap (λ k. k.seen) c.give.ensures) c.sound.ensures.plain
+    known_given IsPlain c.try_access-moved.new.self.began c.args.lock.now.part (log_of c.try_access-moved.new.self) c.give.new.seat.seen (c.try_access-moved.ensures.began ∙ c.take-file.ensures.part) (ap (λ k. k.seen) c.give.ensures) c.sound.ensures.plain
+
+pub returns-clause-needed : goal.returns-clause-needed
+returns-clause-needed g c =
+    known_given IsNeeded c.try_access-moved.new.self.began c.args.lock.now.part (log_of c.try_access-moved.new.self) c.give.new.seat.seen (c.try_access-moved.ensures.began ∙ c.take-file.ensures.part) (ap (λ k. k.seen) c.give.ensures) c.sound.ensures.needed

@@ -1,7 +1,7 @@
 use Rattle.std.proofs.Common.{[], refl, ap, ◌∙◌, arith}
 use Rattle.spr_volume.specs.TowerCalls.{sync_of}
-use Rattle.spr_volume.specs.TowerShared.{log_of}
-use Rattle.spr_volume.proofs.Holding.{held_is, plain_given, same_hold, tries_grow, place_later}
+use Rattle.spr_volume.specs.TowerShared.{IsNeeded, IsPlain, log_of}
+use Rattle.spr_volume.proofs.Holding.{held_is, known_given, same_hold, tries_grow, place_later}
 use Rattle.spr_volume.proofs.holds.hold_sync.Goals as goal
 
 pub try_sync-moved-requires-clause-from : goal.try_sync-moved-requires-clause-from
@@ -25,4 +25,8 @@ returns-clause-held g c =
 
 pub returns-clause-plain : goal.returns-clause-plain
 returns-clause-plain g c =
-    plain_given c.try_sync-moved.new.self.began c.args.lock.now.part (log_of c.try_sync-moved.new.self) c.give.new.seat.seen (c.try_sync-moved.ensures.began ∙ c.take-file.ensures.part) (ap (λ k. k.seen) c.give.ensures) c.sound.ensures.plain
+    known_given IsPlain c.try_sync-moved.new.self.began c.args.lock.now.part (log_of c.try_sync-moved.new.self) c.give.new.seat.seen (c.try_sync-moved.ensures.began ∙ c.take-file.ensures.part) (ap (λ k. k.seen) c.give.ensures) c.sound.ensures.plain
+
+pub returns-clause-needed : goal.returns-clause-needed
+returns-clause-needed g c =
+    known_given IsNeeded c.try_sync-moved.new.self.began c.args.lock.now.part (log_of c.try_sync-moved.new.self) c.give.new.seat.seen (c.try_sync-moved.ensures.began ∙ c.take-file.ensures.part) (ap (λ k. k.seen) c.give.ensures) c.sound.ensures.needed

@@ -3,7 +3,8 @@ use Rattle.tower_log.specs.declared.logged.Logged.{Logged}
 use Rattle.tower_log.specs.Log.{place_of}
 use Rattle.spr_volume.specs.FileCalls.{Called, IsSync}
 use Rattle.spr_volume.specs.FilePasses.{known}
-use Rattle.spr_volume.proofs.Passing.{called_at, called_is, caller_at, knows_at, found_at, plain_at}
+use Rattle.spr_volume.specs.TowerShared.{IsNeeded, IsPlain}
+use Rattle.spr_volume.proofs.Passing.{called_at, called_is, caller_at, knows_at, found_at, known_at}
 use Rattle.spr_volume.proofs.shared_files.SharedFiles.sync.Goals as goal
 
 pub sync-requires-clause-seat : goal.sync-requires-clause-seat
@@ -37,7 +38,13 @@ pub returns-clause-plain : goal.returns-clause-plain
 returns-clause-plain g c =
     let at = found_at c.args.self.now c.args.pass.now c.self.inside.end c.pass.inside.first c.pass.inside.end c.args.file c.self.inside.locks.items c.pass.inside.seats.items c.index-lock.result.now c.index_mut.result.now c.self.view_is c.pass.view_is
     c.requires.pass c.requires.file c.pass.invariant.seated c.index-lock.ensures c.index_mut.ensures.value in
-    plain_at c.args.self.now c.pass.inside.first c.pass.inside.end c.args.file c.pass.inside.seats.items c.index-lock.result.now c.index_mut.result.now c.sync.new.seat at c.sync.ensures.plain
+    known_at IsPlain c.args.self.now c.pass.inside.first c.pass.inside.end c.args.file c.pass.inside.seats.items c.index-lock.result.now c.index_mut.result.now c.sync.new.seat at c.sync.ensures.plain
+
+pub returns-clause-needed : goal.returns-clause-needed
+returns-clause-needed g c =
+    let at = found_at c.args.self.now c.args.pass.now c.self.inside.end c.pass.inside.first c.pass.inside.end c.args.file c.self.inside.locks.items c.pass.inside.seats.items c.index-lock.result.now c.index_mut.result.now c.self.view_is c.pass.view_is
+    c.requires.pass c.requires.file c.pass.invariant.seated c.index-lock.ensures c.index_mut.ensures.value in
+    known_at IsNeeded c.args.self.now c.pass.inside.first c.pass.inside.end c.args.file c.pass.inside.seats.items c.index-lock.result.now c.index_mut.result.now c.sync.new.seat at c.sync.ensures.needed
 
 pub invariant_of-pass : goal.invariant_of-pass
 invariant_of-pass g c =
