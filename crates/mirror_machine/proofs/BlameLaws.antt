@@ -81,7 +81,7 @@ fills-blame (fill_gone h) f = named-blamed f h.found
 make-count : {told : Bool} {g : ℕ} {G : List (List ℕ)} {b s : Store} {c : Cell} → Makes told g G b c → Counts s (Out Blank b) → Counts s (In true c)
 make-count f (counts e l) = counts (f.disk ∙ e) (omega (arith, f.faults))
 
-unmade-count : {n g : ℕ} {G : List (List ℕ)} {b t s : Store} → Unmade n g G b t → Counts s (Out Blank b) → Counts s (Out Down t)
+unmade-count : {told : Bool} {n g : ℕ} {G : List (List ℕ)} {b t s : Store} → Unmade told n g G b t → Counts s (Out Blank b) → Counts s (Out Down t)
 unmade-count (unmade_blank d e i z) (counts q l) = counts (d ∙ q) (omega (arith, e))
 unmade-count (unmade_whole d e i z) (counts q l) = counts (d ∙ q) (omega (arith, e))
 

@@ -132,7 +132,7 @@ not-blank-met filled_in s (fine_left l f) = fine_left l f
 not-blank-met filled_bad s (fine_bad e b) = fine_bad e b
 not-blank-met filled_down s (fine_down l) = fine_down l
 
-unmade-met : {n g : ℕ} {G : List (List ℕ)} {b t : Store} → Unmade n g G b t → (s : Store) → Fine true false s (Out Blank b) → Met s (Out Down t)
+unmade-met : {told : Bool} {n g : ℕ} {G : List (List ℕ)} {b t : Store} → Unmade told n g G b t → (s : Store) → Fine true false s (Out Blank b) → Met s (Out Down t)
 unmade-met (unmade_blank d e i z) s (fine_blank l q) = fine_down (omega arith)
 unmade-met (unmade_whole d e i z) s (fine_blank l q) = fine_down (omega arith)
 

@@ -306,9 +306,9 @@ made-state : {v : Medium} {F G : List (List ℕ)} {g : ℕ} {s b : Store} {c : C
 made-state {v} {F} {G} {g} {s} {b} {c} m e (state_blank a q) = subst (λ d. State v F g s (In true d)) (sym (m.cell refl))
     (state_live a (record { now = fate_made e refl; kept = λ u i k. subst (λ (j : Image). Fate F g None j) (some-same (made_image g G) i k) (fate_made e refl) }) e refl (λ u. refl))
 
-unmade-state : {v : Medium} {F G : List (List ℕ)} {n g : ℕ} {s b t : Store} → Unmade n g G b t → (length G ≡ n → G ≡ F) → State v F g s (Out Blank b) → State v F g s (Out Down t)
+unmade-state : {v : Medium} {F G : List (List ℕ)} {n g : ℕ} {s b t : Store} → Unmade true n g G b t → (length G ≡ n → G ≡ F) → State v F g s (Out Blank b) → State v F g s (Out Down t)
 unmade-state (unmade_blank d f i z) e (state_blank a q) = state_down (i ∙ sym a)
-unmade-state (unmade_whole d f l i) e (state_blank a q) = state_unmade a i (fate_made (e l) refl)
+unmade-state (unmade_whole d f l i) e (state_blank a q) = state_unmade a (i refl) (fate_made (e l) refl)
 
 begun-state : {v : Medium} {F : List (List ℕ)} {g : ℕ} {s b t : Store} → Begun b t → State v F g s (Out Blank b) → State v F g s (Out Blank t)
 begun-state (begun d f i z) (state_blank a q) = state_blank a i

@@ -87,9 +87,9 @@ pub record Makes (told : Bool) (g : ℕ) (F : List (List ℕ)) (b : Store) (c : 
 
 -- a disk that refused a call of its making: it is blank still, since its header is the last thing that it gets; or it refused the
 -- flush behind the header, and has all n pages
-pub data Unmade (n g : ℕ) (F : List (List ℕ)) (s t : Store) : Type 0 where
-  unmade_blank : t.disk ≡ s.disk → s.faults < t.faults → t.image ≡ None → t.blank ≡ true → Unmade n g F s t
-  unmade_whole : t.disk ≡ s.disk → s.faults < t.faults → length F ≡ n → t.image ≡ Some (made_image g F) → Unmade n g F s t
+pub data Unmade (told : Bool) (n g : ℕ) (F : List (List ℕ)) (s t : Store) : Type 0 where
+  unmade_blank : t.disk ≡ s.disk → s.faults < t.faults → t.image ≡ None → t.blank ≡ true → Unmade told n g F s t
+  unmade_whole : t.disk ≡ s.disk → s.faults < t.faults → length F ≡ n → (told ≡ true → t.image ≡ Some (made_image g F)) → Unmade told n g F s t
 
 -- a disk whose making was broken off by a refusal of the ground: blank still
 pub data Begun (s t : Store) : Type 0 where
@@ -108,7 +108,7 @@ pub data Renews (told : Bool) (g n : ℕ) : (i m : ℕ) → List Seat → Says �
   renew_made : {i m : ℕ} {b : Store} {c : Cell} {F : List (List ℕ)} {s : Says} {xs ys zs us : List Seat} → Fills n 0 xs (Done true) F ys → Makes told g F b c → Only (Out Blank b) (In true c) i ys zs
       → Renews told g n (i + 1) m zs s us → Renews told g n i (suc m) xs s us
   -- it refused a call, once k pages of the ground were read
-  renew_left : {i m k : ℕ} {b t : Store} {F : List (List ℕ)} {s : Says} {xs ys zs us : List Seat} → k ≤ n → Fills k 0 xs (Done true) F ys → Unmade n g F b t → Only (Out Blank b) (Out Down t) i ys zs
+  renew_left : {i m k : ℕ} {b t : Store} {F : List (List ℕ)} {s : Says} {xs ys zs us : List Seat} → k ≤ n → Fills k 0 xs (Done true) F ys → Unmade told n g F b t → Only (Out Blank b) (Out Down t) i ys zs
       → Renews told g n (i + 1) m zs s us → Renews told g n i (suc m) xs s us
   renew_gone : {i m d k : ℕ} {b t : Store} {F : List (List ℕ)} {xs ys zs : List Seat} → Fills n 0 xs (Fault d k) F ys → Begun b t → Only (Out Blank b) (Out Blank t) i ys zs → Renews told g n i (suc m) xs (Fault d k) zs
 

@@ -1,0 +1,48 @@
+-- A ground of disks that were opened well, over plain variables.
+use Rattle.std.proofs.Common.{◌≡◌, ℕ, Bool, List, Option, refl, sym, subst}
+use Rattle.spr_io.specs.Content.{Content}
+use Rattle.disk_format.specs.declared.shape.ImageShape.{ImageShape}
+use Rattle.stack_accept.specs.Plan.{Plan}
+use Rattle.mirror_machine.specs.Tree.{Seat}
+use Rattle.mirror_machine.specs.Guards.{Direct}
+use Rattle.mirror_machine.specs.Opening.{Opens, Good}
+use Rattle.mirror_machine.proofs.GenLaws.{levels-near}
+use Rattle.mirror_machine.proofs.OpenLaws.{state-pages, wins-size}
+use Rattle.mirror_machine.proofs.GivesLaws.{opens-answer, always}
+use Rattle.mirror_machine.proofs.LevelLaws.{opens-level, opens-even}
+use Rattle.mirror_ground.specs.View.{Beside}
+use Rattle.mirror_ground.specs.Ground.{Ground, IsGround}
+use Rattle.mirror_ground.specs.Bringing.{IsReady, OpenedOver}
+use Rattle.mirror_ground.proofs.EnterSteps.{told-every}
+use Rattle.mirror_ground.proofs.SizeSteps.{sizes}
+use Rattle.mirror_ground.proofs.LastSteps.{lasting, given, blames}
+use Rattle.mirror_ground.proofs.BringSteps.{lies-there, lies-shapes}
+
+pub is-ground : {T : Type 0} {content : T → Option Content} {faults : T → ℕ} {shape : ImageShape} {stores : List T} {plan : Plan} {beside : List Beside} {us : List Seat} {owed : Bool} {g : ℕ} {places : List (Option T)} {emptied : List T} {room : ℕ}
+    → IsReady content faults shape stores plan beside us owed g places emptied room → IsGround (record { shape = shape; owed = owed; generation = g; row = us; beside = beside })
+is-ground {shape = shape} {beside = beside} {us = us} {owed = owed} {g = g} r = record {
+  live = r.live;
+  there = lies-there r.seen.lies;
+  shapes = lies-shapes r.seen.lies;
+  differ = r.differ;
+  counts = r.counts;
+  pages = λ told.
+      let z = sizes r.seen.brought r.seen.lies (told-every beside told) in
+      let a = opens-answer Direct (subst (λ t. Opens t shape.pages r.seen.row (Good owed g) us) told r.opens) r.seen.meets z (always z) in
+      (a.0.w.pages, state-pages a.2, wins-size a.0.met a.0.wins z);
+  near = levels-near r.within (opens-level r.opens r.seen.meets).0;
+  even = opens-even r.opens r.seen.meets;
+  within = r.within;
+}
+
+pub opened-over : {T : Type 0} {content : T → Option Content} {faults : T → ℕ} {shape : ImageShape} {stores : List T} {plan : Plan} {beside : List Beside} {us : List Seat} {owed : Bool} {k : ℕ} {places : List (Option T)} {emptied : List T} {room : ℕ} (g : Ground)
+    → IsReady content faults shape stores plan beside us owed k places emptied room → g ≡ record { shape = shape; owed = owed; generation = k; row = us; beside = beside } → OpenedOver content faults shape stores plan g
+opened-over {content = content} {faults = faults} {shape = shape} {stores = stores} {plan = plan} {beside = beside} {us = us} {owed = owed} {k = k} g r e =
+    subst (OpenedOver content faults shape stores plan) (sym e) (record {
+      seen = r.seen;
+      opens = r.opens;
+      shaped = refl;
+      fair = blames (Good owed k) r.opens r.seen.meets;
+      lasting = λ told. lasting (subst (λ t. Opens t shape.pages r.seen.row (Good owed k) us) told r.opens) r.seen.meets (sizes r.seen.brought r.seen.lies (told-every beside told));
+      given = λ told. given (subst (λ t. Opens t shape.pages r.seen.row (Good owed k) us) told r.opens) r.seen.meets (sizes r.seen.brought r.seen.lies (told-every beside told));
+    })

@@ -1,0 +1,16 @@
+pub mod Shut
+pub mod View
+pub mod Calls
+pub mod Ground
+pub mod Joining
+pub mod Places
+pub mod Winning
+pub mod Ceding
+pub mod Choosing
+pub mod Stores
+pub mod Meeting
+pub mod Filling
+pub mod Refusing
+pub mod Renewing
+pub mod Lasting
+pub mod Bringing

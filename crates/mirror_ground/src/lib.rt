@@ -1,0 +1,29 @@
+//! Mirrors over disks, as what lies under a file, by the rules of `mirror_machine`.
+#![tactic(auto)]
+
+mod admit;
+mod any;
+mod asked;
+mod cede;
+mod choose;
+mod close;
+mod enter;
+mod fill;
+mod flush;
+mod ground;
+mod join;
+mod meet;
+mod node;
+mod open;
+mod place;
+mod plan;
+mod refuse;
+mod renew;
+mod round;
+mod win;
+
+pub use any::AnyGround;
+pub use asked::{Call, Held, Side, hold};
+pub use ground::MirrorGround;
+pub use node::{Kept, Mark, Node, Shut, Unopened};
+pub use refuse::{OpenAll, Refusal};
