@@ -1,9 +1,9 @@
 //! The forms of the outside over the host's files and its standard output.
 
-use hist_plain::{Event, Op};
+use hist_plain::{Event, Gate, Op, OpenGate};
 use spr_io::{
-    Bay, BayErr, Failed, Gate, HostBay, HostFile, HostShelf, HostStore, OpenGate, RamFile, Shelf,
-    ShelfErr, Sink, StdSink, Store,
+    Bay, BayErr, Failed, HostBay, HostFile, HostShelf, HostStore, RamFile, Shelf, ShelfErr, Sink,
+    StdSink, Store,
 };
 use std::fs;
 use std::test::Fail;

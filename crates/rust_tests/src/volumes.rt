@@ -4,10 +4,9 @@
 ghost use Rattle.std.specs.Prelude.{◌≡◌, ◌<◌, ◌≤◌, IfOk};
 ghost use Rattle.rust_tests.specs.Sample.{HasOne, IsFor, IsSmall};
 
-use disk_layer::Ground;
 use hist_lock::{HistLock, Seat};
-use hist_plain::{Answer, Bytes, Event, MAX_EVENTS, Op, fits};
-use spr_io::{Gate, OpenGate};
+use hist_plain::{Answer, Bytes, Event, Gate, MAX_EVENTS, Op, OpenGate, fits};
+use page_ground::Ground;
 use spr_volume::{FilesPass, Pass, SharedFiles, SharedTower, Volume};
 use stack_engine::{Moved, StepErr, Tower, Trail};
 use std::alloc::{AllocError, Global};

@@ -1,11 +1,12 @@
 //! The answers to the steps of cases are compared.
 
+use crate::files::{CaseFile, exit_code, read_files};
 use crate::steps::{Step, steps_of};
 use crate::trial::Trial;
 use std::alloc::{AllocError, Global};
+use std::io;
 use std::process::ExitCode;
 use std::rt::{Env, Files};
-use std::{env, fs, io};
 
 /// What was found in a file so far.
 #[derive(Drop)]
@@ -63,16 +64,15 @@ impl Count {
     }
 }
 
-/// Does the cases of a text, tells each step whose answer is another than is wanted and how many cases and steps there were, and
+/// Does the cases of a file, tells each step whose answer is another than is wanted and how many cases and steps there were, and
 /// answers whether all were as wanted.
-pub fn try_text<R: Print, T: Trial>(
+pub fn try_file<R: Print, T: Trial>(
     rt: &R,
     alloc: Global,
-    name: &str,
-    text: &str,
+    file: &CaseFile,
     trial: &mut T,
 ) -> io::Result<bool> {
-    let steps = steps_of(alloc, text)?;
+    let (name, steps) = (file.name.as_str(), steps_of(alloc, file.text.as_str())?);
     let mut count = Count::new();
     for step in &steps {
         if step.begins {
@@ -92,9 +92,8 @@ pub fn run_trial<R: Print + Env + Files + AllocGlobal, T: Trial>(
     trial: &mut T,
 ) -> io::Result<ExitCode> {
     let mut is_good = true;
-    for name in env::args(rt)?.skip(1) {
-        let text = fs::read_to_string(rt, name.as_str())?;
-        is_good &= try_text(rt, rt.alloc(), name.as_str(), text.as_str(), trial)?;
+    for file in &read_files(rt)? {
+        is_good &= try_file(rt, rt.alloc(), file, trial)?;
     }
-    Ok(ExitCode::from(if is_good { 0 } else { 1 }))
+    Ok(exit_code(is_good))
 }

@@ -2,11 +2,13 @@
 //! that stands in the case.
 #![tactic(auto)]
 
+mod files;
 mod judge;
 mod line;
 mod steps;
 mod trial;
 
-pub use judge::{Count, run_trial, try_text};
+pub use files::{CaseFile, exit_code, read_files};
+pub use judge::{Count, run_trial, try_file};
 pub use steps::{Step, steps_of};
 pub use trial::Trial;

@@ -1,15 +1,16 @@
 //! A bay of stores in memory.
 
-use crate::halt::{Halt, failing, number};
-use crate::say::{say, say_done};
+use crate::say::say_done;
 use crate::store::{block_of, kept_of, say_block};
 use spr_io::{Bay, BayErr, MemBay, MemStore, Store};
 use std::alloc::Global;
+use trial_words::{Failing, Halt, number, say};
 
 /// A bay with no store: `take N ..` and `give N ..` are the calls that are to fail.
 fn new_bay(alloc: Global, fails: &[&str]) -> Result<MemBay, Halt> {
-    let takes = failing(alloc, fails, "take")?;
-    let gives = failing(alloc, fails, "give")?;
+    let failing = Failing::of(fails, &["take", "give"])?;
+    let takes = failing.ordinals(alloc, "take")?;
+    let gives = failing.ordinals(alloc, "give")?;
     Ok(MemBay::new(alloc, &takes, &gives)?)
 }
 

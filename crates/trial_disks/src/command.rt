@@ -1,12 +1,12 @@
 //! The commands over the images of a stack's files.
 
-use crate::halt::{Halt, number};
 use crate::stop::say_status;
 use image_commands::{dump_file, format_files};
 use spr_io::{MemBay, MemSink};
 use spr_report::Status;
 use stack_accept::Mounted;
 use std::alloc::Global;
+use trial_words::{Halt, number};
 
 /// Prints the pages of a file.
 fn dump(

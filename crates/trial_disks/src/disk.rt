@@ -4,21 +4,22 @@ ghost use Rattle.std.specs.Prelude.{◌≡◌, IfOk, length};
 ghost use Rattle.disk_layer.specs.Disk.{Suits};
 
 use crate::bay::taken;
-use crate::halt::{Halt, byte, long, number};
-use crate::say::{say, say_bad, say_bytes, say_called};
+use crate::say::{say_bad, say_bytes, say_called};
 use crate::shape::{fits, shape};
-use disk_layer::{Disk, FreshImage, Ground, OpenErr, OpenWhy, is_zero_page, read_pages};
+use disk_layer::{Disk, FreshImage, OpenErr, OpenWhy, read_pages};
+use page_ground::{Ground, is_zero_page};
 use spr_io::MemStore;
 use std::alloc::Global;
+use trial_words::{Halt, byte, long, number, say};
 
 /// A disk on a store in memory.
 pub type Ram = Disk<MemStore>;
 
 /// The number of the disk.
-const NUMBER: u32 = 7;
+pub const NUMBER: u32 = 7;
 
 /// The store in hand, which is taken out of it, if it has the blocks of a disk.
-fn suitable(held: &mut Option<MemStore>) -> Result<MemStore, Halt>
+pub fn suitable(held: &mut Option<MemStore>) -> Result<MemStore, Halt>
     ensures { IfOk result (λ store. Suits (record { page_size = 64; pages = 2 }) store.size (length store.content.blocks)) }
 {
     let store = taken(held)?;
@@ -29,10 +30,16 @@ fn suitable(held: &mut Option<MemStore>) -> Result<MemStore, Halt>
     }
 }
 
-/// Appends why a disk was not opened.
-fn say_why(answer: &mut String, why: OpenWhy) -> Result<(), Halt> {
+/// Appends why a disk was not opened, and that it is blank, if it is.
+pub fn say_why(answer: &mut String, why: OpenWhy) -> Result<(), Halt> {
     match why {
-        OpenWhy::BadImage { bad } => Ok(say_bad(answer, &bad)?),
+        OpenWhy::BadImage { bad, blank } => {
+            say_bad(answer, &bad)?;
+            if blank {
+                say(answer, "blank")?;
+            }
+            Ok(())
+        }
         OpenWhy::StoreFault { fault } => Ok(say_called(answer, Err(fault))?),
         OpenWhy::Memory => Err(Halt::Memory),
     }

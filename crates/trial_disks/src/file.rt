@@ -5,17 +5,17 @@ ghost use Rattle.file_stores.specs.Under.{seen_under};
 ghost use Rattle.file_stores.specs.Files.{IsFile};
 ghost use Rattle.run_defs.specs.Stack.{pages_of};
 
-use crate::halt::{Halt, byte, number};
-use crate::say::{say, say_bytes, say_called};
+use crate::say::{say_bytes, say_called};
 use crate::stop::say_stop;
-use disk_layer::Ground;
 use file_stores::{
     FileGround, FileStores, Unopened, as_file, close_file, open_file, stores_of_one, take_stores,
 };
+use page_ground::Ground;
 use run_defs::{disk_name, file_name, pages_of};
 use spr_io::{Bay, MemBay, MemStore};
 use stack_accept::Mounted;
 use std::alloc::Global;
+use trial_words::{Halt, byte, number, say};
 
 /// What lies under a file that is open, of pages of 64 bytes.
 #[derive(Drop)]

@@ -3,12 +3,12 @@
 ghost use Rattle.std.specs.Prelude.{IfOk};
 ghost use Rattle.disk_format.specs.Shape.{IsShape};
 
-use crate::halt::{Halt, byte, number};
-use crate::say::{say, say_bad, say_bytes};
+use crate::say::{say_bad, say_bytes};
 use disk_format::{
     Image, ImageShape, check_image, map_entry, read_header, write_header, written_header_is_read,
 };
 use std::alloc::Global;
+use trial_words::{Halt, byte, number, say};
 
 /// The front of an image, and how many pages it is to have.
 #[derive(Drop)]

@@ -6,16 +6,17 @@ ghost use Rattle.mirror_rules.specs.Claims.{Every};
 ghost use Rattle.stack_accept.specs.Plan.{OnDisk, OnMirror, plan_of};
 
 use crate::disk::Ram;
-use crate::halt::{Halt, byte, long, number};
-use crate::say::{say, say_bad, say_bytes, say_called};
+use crate::say::{say_bad, say_bytes, say_called};
 use crate::shape::{fits, shape};
 use crate::store::{block_of, new_store};
 use disk_format::check_image;
-use disk_layer::{Disk, Ground};
+use disk_layer::Disk;
 use mirror_layer::{AnyGround, OpenAll, Refusal};
+use page_ground::Ground;
 use spr_io::{MemStore, Store};
 use stack_accept::GroundPlan;
 use std::alloc::{AllocError, Global};
+use trial_words::{Halt, byte, long, number, say};
 
 /// A mirror that is open, over disks of two pages of 64 bytes.
 #[derive(Drop)]

@@ -1,14 +1,9 @@
 //! Lines of answers.
 
 use disk_format::BadImage;
-use disk_layer::StoreFault;
-use std::alloc::{AllocError, Global};
-
-/// Appends a line.
-pub fn say(answer: &mut String, line: &str) -> Result<(), AllocError> {
-    answer.push_str(line)?;
-    answer.push('\n')
-}
+use page_ground::StoreFault;
+use std::alloc::AllocError;
+use trial_words::{say, without_zeros};
 
 /// Appends whether a call did what it was asked.
 pub fn say_done(answer: &mut String, is_done: bool) -> Result<(), AllocError> {
@@ -27,24 +22,6 @@ pub fn say_called(answer: &mut String, called: Result<(), StoreFault>) -> Result
 pub fn say_bad(answer: &mut String, bad: &BadImage) -> Result<(), AllocError> {
     let (place, word) = (bad.place, bad.why.word());
     writeln!(answer, "no image, {place} {word}")
-}
-
-/// Appends bytes as text.
-pub fn say_text(alloc: Global, answer: &mut String, bytes: &[u8]) -> Result<(), AllocError> {
-    let text = String::from_utf8_lossy(alloc, bytes)?;
-    answer.push_str(text.as_str())
-}
-
-/// The bytes without the zeros at their end.
-fn without_zeros(bytes: &[u8]) -> &[u8] {
-    let mut rest = bytes;
-    for _ in 0..bytes.len() {
-        match rest {
-            [front @ .., 0] => rest = front,
-            _ => break,
-        }
-    }
-    rest
 }
 
 /// Appends a line of bytes in hexadecimal, without the zeros at their end. If they are zeros alone, it is `zeros`; if they are

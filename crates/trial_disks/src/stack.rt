@@ -1,11 +1,10 @@
 //! The stack of a case.
 
-use crate::halt::{Halt, number};
-use crate::say::say;
 use run_defs::StoreKey;
 use stack_accept::{Mounted, accept};
 use stack_text::parse_stack;
 use std::alloc::{AllocError, Global};
+use trial_words::{Halt, number, say};
 
 /// Mounts the stack of a text.
 pub fn mounted(alloc: Global, text: &[u8]) -> Result<Mounted, Halt> {

@@ -1,16 +1,16 @@
 //! Why a command stops before its work, and what it writes then.
 
-use crate::halt::{Halt, long, number};
-use crate::say::say;
 use crate::stack::{key_of, say_key};
 use disk_format::{BadImage, ImageWhy};
-use disk_layer::{OpenWhy, StoreFault};
+use disk_layer::OpenWhy;
 use file_stores::{Stop, stopped};
+use page_ground::StoreFault;
 use run_defs::StoreKey;
 use spr_io::MemSink;
 use spr_report::Status;
 use stack_accept::Mounted;
 use std::alloc::{AllocError, Global};
+use trial_words::{Halt, long, number, say};
 
 /// Appends the number of a status.
 pub fn say_status(answer: &mut String, status: Status) -> Result<(), AllocError> {
@@ -82,6 +82,7 @@ fn refusal_of(words: &[&str]) -> Result<OpenWhy, Halt> {
     match words {
         ["image", place, why] => Ok(OpenWhy::BadImage {
             bad: BadImage::new(number(place)?, why_of(why)?),
+            blank: false,
         }),
         ["store", disk, count] => Ok(OpenWhy::StoreFault {
             fault: StoreFault {

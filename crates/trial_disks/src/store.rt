@@ -2,16 +2,17 @@
 
 ghost use Rattle.std.specs.Prelude.{◌≡◌, length, IfOk, IfSome};
 
-use crate::halt::{Halt, byte, bytes, failing, long, number};
 use crate::say::{say_bytes, say_done};
 use spr_io::{MemStore, Store};
 use std::alloc::Global;
+use trial_words::{Failing, Halt, byte, bytes, number};
 
 /// A store of zeros of which some calls are to fail: `read N .. write N .. flush N ..`.
 pub fn new_store(alloc: Global, size: u32, blocks: u32, fails: &[&str]) -> Result<MemStore, Halt> {
-    let reads = failing(alloc, fails, "read")?;
-    let writes = failing(alloc, fails, "write")?;
-    let flushes = failing(alloc, fails, "flush")?;
+    let failing = Failing::of(fails, &["read", "write", "flush"])?;
+    let reads = failing.ordinals(alloc, "read")?;
+    let writes = failing.ordinals(alloc, "write")?;
+    let flushes = failing.ordinals(alloc, "flush")?;
     Ok(MemStore::new(alloc, size, blocks, &reads, &writes, &flushes)?)
 }
 

@@ -1,7 +1,6 @@
 //! The stores of a stack: which there are, and how they are taken of a bay, parted by their files, and given back.
 
-use crate::halt::{Halt, number};
-use crate::say::{say, say_done};
+use crate::say::say_done;
 use crate::stack::{say_key, say_keys};
 use crate::stop::say_stop;
 use file_stores::{
@@ -11,6 +10,7 @@ use run_defs::StoreKey;
 use spr_io::{MemBay, MemStore, Store};
 use stack_accept::Mounted;
 use std::alloc::Global;
+use trial_words::{Halt, number, say};
 
 /// Takes the stores of a bay and gives them back; appends how many were taken, why no more, and which were lost.
 fn borrow(

@@ -1,13 +1,14 @@
 //! A shelf and a sink in memory.
 
-use crate::halt::{Halt, failing, number};
-use crate::say::{say, say_done, say_text};
+use crate::say::say_done;
 use spr_io::{MemShelf, MemSink, Shelf, ShelfErr, Sink};
 use std::alloc::Global;
+use trial_words::{Failing, Halt, number, say, say_text};
 
 /// A shelf, and what was read of it.
 #[derive(Drop)]
 pub struct ShelfCase {
+    alloc: Global,
     shelf: MemShelf,
     read: Vec<u8>,
 }
@@ -15,28 +16,24 @@ pub struct ShelfCase {
 impl ShelfCase {
     /// A shelf with no text: `read N ..` are the reads that are to fail.
     pub fn new(alloc: Global, fails: &[&str]) -> Result<ShelfCase, Halt> {
+        let reads = Failing::of(fails, &["read"])?.ordinals(alloc, "read")?;
         Ok(ShelfCase {
-            shelf: MemShelf::new(alloc, &failing(alloc, fails, "read")?)?,
+            alloc,
+            shelf: MemShelf::new(alloc, &reads)?,
             read: Vec::new(alloc),
         })
     }
 
     /// Does a step of the shelf: a text is put on it, or read, or what was read is told.
-    pub fn step(
-        &mut self,
-        alloc: Global,
-        words: &[&str],
-        body: &[u8],
-        answer: &mut String,
-    ) -> Result<(), Halt> {
+    pub fn step(&mut self, words: &[&str], body: &[u8], answer: &mut String) -> Result<(), Halt> {
         match words {
-            ["put", name] => Ok(self.shelf.put(alloc, name, body)?),
+            ["put", name] => Ok(self.shelf.put(self.alloc, name, body)?),
             ["read", name, limit] => match self.shelf.read(name, number(limit)?, &mut self.read) {
                 Ok(()) => Ok(say_done(answer, true)?),
                 Err(ShelfErr::Failed) => Ok(say_done(answer, false)?),
                 Err(ShelfErr::Memory) => Err(Halt::Memory),
             },
-            ["text"] => Ok(say_text(alloc, answer, &self.read)?),
+            ["text"] => Ok(say_text(self.alloc, answer, &self.read)?),
             _ => Err(Halt::Unread),
         }
     }
@@ -44,7 +41,7 @@ impl ShelfCase {
 
 /// An empty sink that takes so many bytes at a write: `write N ..` are the writes that are to fail.
 pub fn new_sink(alloc: Global, most: u32, fails: &[&str]) -> Result<MemSink, Halt> {
-    let writes = failing(alloc, fails, "write")?;
+    let writes = Failing::of(fails, &["write"])?.ordinals(alloc, "write")?;
     if most == 0 {
         return Err(Halt::Impossible);
     }

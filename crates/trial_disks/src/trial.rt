@@ -2,8 +2,8 @@
 
 use crate::disk::Ram;
 use crate::file::FileCase;
-use crate::halt::{Halt, number};
 use crate::image::Front;
+use crate::making::MakingCase;
 use crate::mirror::MirrorCase;
 use crate::stop::StopCase;
 use crate::texts::{ShelfCase, sink_step};
@@ -12,6 +12,7 @@ use spr_io::{MemBay, MemSink, MemStore};
 use stack_accept::Mounted;
 use std::alloc::{AllocError, Global};
 use trial_cases::Trial;
+use trial_words::{Halt, end_step, number};
 
 /// What the steps of a case have made so far.
 #[derive(Drop)]
@@ -24,6 +25,7 @@ pub struct DiskTrial {
     bay: Option<MemBay>,
     image: Option<Front>,
     disk: Option<Ram>,
+    making: MakingCase,
     mirror: MirrorCase,
     stack: Option<Mounted>,
     file: FileCase,
@@ -41,6 +43,7 @@ impl DiskTrial {
             bay: None,
             image: None,
             disk: None,
+            making: MakingCase::new(),
             mirror: MirrorCase::new(alloc),
             stack: None,
             file: FileCase::new(),
@@ -55,7 +58,7 @@ impl DiskTrial {
             return Ok(());
         }
         match &mut self.shelf {
-            Some(shelf) => shelf.step(self.alloc, words, body, answer),
+            Some(shelf) => shelf.step(words, body, answer),
             None => Err(Halt::Impossible),
         }
     }
@@ -109,6 +112,10 @@ impl DiskTrial {
             "bay" => bay::step(alloc, &mut self.bay, &mut self.store, rest, answer),
             "image" => self.image_step(rest, answer),
             "disk" => disk::step(alloc, &mut self.disk, &mut self.store, rest, answer),
+            "making" => {
+                let (disk, store) = (&mut self.disk, &mut self.store);
+                self.making.step(alloc, disk, store, rest, answer)
+            }
             "mirror" => self.mirror.step(alloc, rest, answer),
             _ => self.stack_step(subject, rest, answer),
         }
@@ -122,11 +129,6 @@ impl Trial for DiskTrial {
     }
 
     fn step(&mut self, words: &[&str], body: &[u8], answer: &mut String) -> Result<(), AllocError> {
-        match self.done(words, body, answer) {
-            Ok(()) => Ok(()),
-            Err(Halt::Memory) => Err(AllocError),
-            Err(Halt::Unread) => answer.push_str("no such step\n"),
-            Err(Halt::Impossible) => answer.push_str("impossible\n"),
-        }
+        end_step(self.done(words, body, answer), answer)
     }
 }

@@ -3,10 +3,10 @@
 ghost use Rattle.std.specs.Prelude.{◌≡◌};
 ghost use Rattle.hist_plain.specs.Plain.{asked_by};
 
-use crate::halt::{Halt, bytes, number, put_hex};
 use hist_plain::{Answer, Bytes, Keep, Op};
 use pager_channel::Ops;
 use std::alloc::Global;
+use trial_words::{Halt, bytes, number, put_hex, three, two};
 
 /// The numbers of an interface text that declares the operations in this order, those of the length first.
 pub fn operations() -> Ops {
@@ -26,16 +26,15 @@ pub fn keep_of(word: &str) -> Result<Keep, Halt> {
 pub fn access_named(alloc: Global, name: &str, rest: &[&str]) -> Result<Op, Halt> {
     match (name, rest) {
         ("open", []) => Ok(Op::Open),
-        ("read", [page, off, len]) => Ok(Op::Read {
-            page: number(page)?,
-            off: number(off)?,
-            len: number(len)?,
-        }),
-        ("write", [page, off, word]) => Ok(Op::Write {
-            page: number(page)?,
-            off: number(off)?,
-            bytes: Bytes::from_vec(bytes(alloc, word)?),
-        }),
+        ("read", [page, off, len]) => {
+            let (page, off, len) = three(page, off, len)?;
+            Ok(Op::Read { page, off, len })
+        }
+        ("write", [page, off, word]) => {
+            let (page, off) = two(page, off)?;
+            let bytes = Bytes::from_vec(bytes(alloc, word)?);
+            Ok(Op::Write { page, off, bytes })
+        }
         ("clear", [page]) => Ok(Op::Clear {
             page: number(page)?,
         }),

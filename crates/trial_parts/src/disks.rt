@@ -3,15 +3,16 @@
 ghost use Rattle.std.specs.Prelude.{IfOk, IsTrue, ◌≡◌, ◌≤◌, ℕ};
 ghost use Rattle.disk_format.specs.Shape.{IsShape};
 ghost use Rattle.disk_layer.specs.Disk.{seen_of};
-ghost use Rattle.disk_layer.specs.Seen.{faults_in, opened_in};
+ghost use Rattle.page_ground.specs.Seen.{faults_in, opened_in};
 ghost use Rattle.page_exchange.specs.Tables.{IsUnderFile};
 
-use crate::halt::{Halt, number};
 use disk_format::ImageShape;
-use disk_layer::{Disk, Ground};
+use disk_layer::Disk;
+use page_ground::Ground;
 use page_messages::PagedFile;
 use spr_io::MemStore;
 use std::alloc::Global;
+use trial_words::{Halt, number};
 
 /// A disk on a store in memory.
 pub type Ram = Disk<MemStore>;

@@ -1,21 +1,28 @@
 //! Page messages in words, and how far a try of a call got.
 
+ghost use Rattle.std.specs.Prelude.{◌≡◌};
+ghost use Rattle.hist_plain.specs.Event.{page_of, page_of_op};
+
 use crate::accesses::put_given;
-use crate::halt::Halt;
 use hist_plain::{Event, Op};
 use stack_engine::{Moved, StepErr};
 use std::alloc::Global;
+use trial_words::Halt;
 
-/// The page of an access, or page 0.
-fn page_of_access(op: &Op) -> u32 {
+/// The page of an access, if it is of a page.
+fn page_of_access(op: &Op) -> Option<u32>
+    ensures { result ≡ page_of_op op.now }
+{
     match op {
-        Op::Read { page, .. } | Op::Write { page, .. } | Op::Clear { page } => *page,
-        Op::Open => 0,
+        Op::Read { page, .. } | Op::Write { page, .. } | Op::Clear { page } => Some(*page),
+        Op::Open => None,
     }
 }
 
-/// The page of an event, or page 0.
-pub fn page_shown(event: &Event) -> u32 {
+/// The page of an event, if it is of a page.
+pub fn page_of(event: &Event) -> Option<u32>
+    ensures { result ≡ page_of event.now }
+{
     match event {
         Event::Access { op, .. } => page_of_access(op),
         Event::PageIn { page, .. }
@@ -26,9 +33,14 @@ pub fn page_shown(event: &Event) -> u32 {
         | Event::FlushBack { page, .. }
         | Event::DenyWrites { page, .. }
         | Event::WriteBack { page, .. }
-        | Event::DeleteRange { page, .. } => *page,
-        Event::DestroyCache { .. } | Event::DonePager { .. } | Event::Synced { .. } => 0,
+        | Event::DeleteRange { page, .. } => Some(*page),
+        Event::DestroyCache { .. } | Event::DonePager { .. } | Event::Synced { .. } => None,
     }
+}
+
+/// The page of an event, or page 0.
+pub fn page_shown(event: &Event) -> u32 {
+    page_of(event).unwrap_or(0)
 }
 
 /// The name of a page message.

@@ -1,17 +1,37 @@
 //! Towers over a file of pages of 64 bytes on a disk in memory.
 
-ghost use Rattle.std.specs.Prelude.{◌≡◌, IfOk, IsTrue};
-ghost use Rattle.tower_core.specs.TreeShape.{IsUpper};
+ghost use Rattle.std.specs.Prelude.{◌≡◌, ◌≤◌, IfOk, IsTrue, ℕ};
+ghost use Rattle.disk_layer.specs.Disk.{seen_of};
+ghost use Rattle.page_ground.specs.Seen.{faults_in, opened_in};
+ghost use Rattle.page_exchange.specs.Tables.{IsUnderFile};
+ghost use Rattle.page_messages.specs.Paged.{IsPagedFile};
+ghost use Rattle.tower_core.specs.TreeShape.{IsUpper, frames_of};
 ghost use Rattle.stack_engine.specs.Engine.{file_in, tree_in};
 
 use crate::accesses::operations;
 use crate::disks::{Ram, disk, file_of, is_under};
-use crate::halt::{Halt, number};
 use crate::trees::{has_small_frames, tree_of};
 use hist_plain::MAX_PAGES;
+use page_messages::PagedFile;
 use stack_engine::Tower;
 use std::alloc::Global;
 use tower_core::Tree;
+use trial_words::{Halt, number};
+
+/// A tower of this tree and file over a disk.
+fn opened(alloc: Global, tree: Tree, file: PagedFile, ground: Ram) -> Result<Tower<Ram>, Halt>
+    requires paged { IsPagedFile file }
+    requires frames { (node : ℕ) → frames_of tree node ≤ 1024 }
+    requires under { IsUnderFile (seen_of ground) file }
+    requires counts { (disk : ℕ) → opened_in (seen_of ground).disks disk ≤ faults_in (seen_of ground).disks disk }
+    ensures tree { IfOk result (λ t. tree_in t.engine ≡ tree) }
+    ensures file { IfOk result (λ t. file_in t.engine ≡ file) }
+{
+    match Tower::open(alloc, tree, file, ground, operations()) {
+        Ok(tower) => Ok(tower),
+        Err(_) => Err(Halt::Memory),
+    }
+}
 
 /// A tower of this tree and of file 0, over a fresh disk 0 whose store fails at one write; 0 is no write.
 pub fn tower_over(alloc: Global, tree: Tree, pages: u32, fails_at: u64) -> Result<Tower<Ram>, Halt>
@@ -23,10 +43,7 @@ pub fn tower_over(alloc: Global, tree: Tree, pages: u32, fails_at: u64) -> Resul
     if pages == 0 || pages > MAX_PAGES || !has_small_frames(&tree) || !is_under(&ground, file) {
         return Err(Halt::Impossible);
     }
-    match Tower::open(alloc, tree, file, ground, operations()) {
-        Ok(tower) => Ok(tower),
-        Err(_) => Err(Halt::Memory),
-    }
+    opened(alloc, tree, file, ground)
 }
 
 /// The same for the tree of some words.

@@ -5,10 +5,10 @@ ghost use Rattle.hist_plain.specs.declared.TheConstants.{MAX_NODES};
 ghost use Rattle.tower_core.specs.TreeShape.{IsTree, frames_of};
 ghost use Rattle.trial_parts.specs.Trees.{Hangs};
 
-use crate::halt::{Halt, numbers};
 use hist_plain::MAX_NODES;
-use std::alloc::Global;
+use std::alloc::{AllocError, Global};
 use tower_core::Tree;
+use trial_words::{Halt, numbers};
 
 /// Whether a node above the ground comes after its parent, which is no leaf.
 fn hangs_well(parents: &[u32], frames: &[u32], node: usize) -> bool
@@ -48,6 +48,19 @@ pub fn tree_of(alloc: Global, words: &[&str]) -> Result<Tree, Halt> {
         return Err(Halt::Impossible);
     }
     Ok(Tree::new(alloc, &parents, &frames)?)
+}
+
+/// The same tree again.
+pub fn copy_tree(alloc: Global, tree: &Tree) -> Result<Tree, AllocError>
+    ensures { IfOk result (λ copy. copy ≡ tree.now) }
+{
+    let (mut parents, mut frames) = (Vec::new(alloc), Vec::new(alloc));
+    let nodes = tree.nodes();
+    for node in 0..nodes {
+        parents.push(tree.parent(node))?;
+        frames.push(tree.frames(node))?;
+    }
+    Tree::new(alloc, &parents, &frames)
 }
 
 /// Whether each leaf has at most 1024 frames.

@@ -2,7 +2,6 @@
 //! the stores keep afterwards.
 #![tactic(auto)]
 
-mod halt;
 mod meeting;
 mod runs;
 mod stores;
@@ -11,21 +10,19 @@ mod written;
 
 use crate::runs::Runs;
 use std::alloc::Global;
+use std::io;
 use std::process::ExitCode;
-use std::rt::{Env, Files};
 use std::sync::Wait;
 use std::thread::Threads;
-use std::{env, fs, io};
-use trial_cases::{Count, steps_of};
+use trial_cases::{CaseFile, Count, exit_code, read_files, steps_of};
 
 /// Does the cases of a file, and answers whether all answers were as wanted.
 fn try_file<R: Print + Threads + Wait + Sync>(
     rt: &R,
     alloc: Global,
-    name: &str,
-    text: &str,
+    file: &CaseFile,
 ) -> io::Result<bool> {
-    let steps = steps_of(alloc, text)?;
+    let (name, steps) = (file.name.as_str(), steps_of(alloc, file.text.as_str())?);
     let mut count = Count::new();
     let mut runs = Runs::new(alloc)?;
     for step in &steps {
@@ -40,18 +37,10 @@ fn try_file<R: Print + Threads + Wait + Sync>(
     count.end(rt, name)
 }
 
-/// Does the cases of each file that the program's words name, and answers 0 if all were as wanted.
-fn try_files<R: Print + Env + Files + AllocGlobal + Threads + Wait + Sync>(
-    rt: &R,
-) -> io::Result<ExitCode> {
-    let mut is_good = true;
-    for name in env::args(rt)?.skip(1) {
-        let text = fs::read_to_string(rt, name.as_str())?;
-        is_good &= try_file(rt, rt.alloc(), name.as_str(), text.as_str())?;
-    }
-    Ok(ExitCode::from(if is_good { 0 } else { 1 }))
-}
-
 fn main(rt: HostRuntime) -> io::Result<ExitCode> {
-    try_files(&rt)
+    let mut is_good = true;
+    for file in &read_files(&rt)? {
+        is_good &= try_file(&rt, rt.alloc(), file)?;
+    }
+    Ok(exit_code(is_good))
 }

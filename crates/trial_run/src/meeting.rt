@@ -1,7 +1,6 @@
 //! A gate that shows that two clients run at once.
 
-use hist_plain::Event;
-use spr_io::Gate;
+use hist_plain::{Event, Gate};
 use std::sync::atomic::{AtomicBool, Ordering};
 use std::thread::yield_now;
 

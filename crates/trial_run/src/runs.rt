@@ -1,17 +1,18 @@
 //! The steps of a case: its texts and stores, the commands over them, and what these wrote.
 
-use crate::halt::{Halt, check_keys, number, ordinals};
 use crate::meeting::MeetingGate;
 use crate::stores::{count_faults, look, put_store};
 use crate::texts::Texts;
 use crate::written::Written;
+use hist_plain::{Gate, OpenGate};
 use seen_values::Text;
-use spr_io::{Gate, MemBay, MemSink, OpenGate};
+use spr_io::{MemBay, MemSink};
 use spr_report::{Status, finish};
 use spr_run::spring;
 use std::alloc::{AllocError, Global};
 use std::sync::Wait;
 use std::thread::Threads;
+use trial_words::{Failing, Halt, end_step, number, say_text, say_whether};
 
 /// The most bytes that a sink takes at once, if a case says nothing else.
 const WIDTH: u32 = 7;
@@ -42,19 +43,6 @@ fn words_of(alloc: Global, words: &[&str]) -> Result<Vec<Text>, Halt> {
     Ok(texts)
 }
 
-/// Appends bytes as text.
-fn say_bytes(alloc: Global, bytes: &[u8], answer: &mut String) -> Result<(), Halt> {
-    let text = String::from_utf8_lossy(alloc, bytes)?;
-    answer.push_str(text.as_str())?;
-    Ok(())
-}
-
-/// Appends `yes` or `no`.
-fn say_whether(is: bool, answer: &mut String) -> Result<(), Halt> {
-    answer.push_str(if is { "yes\n" } else { "no\n" })?;
-    Ok(())
-}
-
 impl Runs {
     /// No text and no store, and no call that fails.
     pub fn new(alloc: Global) -> Result<Runs, AllocError> {
@@ -80,12 +68,7 @@ impl Runs {
         let Some((what, rest)) = words.split_first() else {
             return Ok(());
         };
-        match self.done(rt, what, rest, body, answer) {
-            Ok(()) => Ok(()),
-            Err(Halt::Memory) => Err(AllocError),
-            Err(Halt::Unread) => answer.push_str("no such step\n"),
-            Err(Halt::Impossible) => answer.push_str("impossible\n"),
-        }
+        end_step(self.done(rt, what, rest, body, answer), answer)
     }
 
     /// Does a step that runs a command, or else another.
@@ -121,11 +104,11 @@ impl Runs {
         answer: &mut String,
     ) -> Result<(), Halt> {
         match (what, words) {
-            ("next", []) => say_whether(self.written.next(body)?, answer),
-            ("next", names) => say_whether(self.goes_on(names)?, answer),
-            ("end", []) => say_whether(self.written.is_at_end(), answer),
+            ("next", []) => Ok(say_whether(answer, self.written.next(body)?)?),
+            ("next", names) => Ok(say_whether(answer, self.goes_on(names)?)?),
+            ("end", []) => Ok(say_whether(answer, self.written.is_at_end())?),
             ("times", []) => Ok(writeln!(answer, "{}", self.written.times(body))?),
-            ("some", []) => say_whether(self.written.times(body) > 0, answer),
+            ("some", []) => Ok(say_whether(answer, self.written.times(body) > 0)?),
             ("later", [one, other]) => {
                 let Some(later) = self.written.later(one, other) else {
                     return Err(Halt::Impossible);
@@ -134,7 +117,7 @@ impl Runs {
             }
             ("digits", [most]) => {
                 let most = number(most)? as usize;
-                say_whether(self.written.has_digits(body, most), answer)
+                Ok(say_whether(answer, self.written.has_digits(body, most))?)
             }
             _ => Err(Halt::Unread),
         }
@@ -173,21 +156,20 @@ impl Runs {
         let alloc = self.alloc;
         match what {
             "shelf" => {
-                check_keys(words, &["reads"])?;
-                self.reads = ordinals(alloc, words, "reads")?;
+                self.reads = Failing::of(words, &["reads"])?.ordinals(alloc, "reads")?;
             }
             "sink" => {
-                check_keys(words, &["width", "writes"])?;
+                let failing = Failing::of(words, &["width", "writes"])?;
                 self.width = match words {
                     ["width", width, ..] => number(width)?,
                     _ => WIDTH,
                 };
-                self.writes = ordinals(alloc, words, "writes")?;
+                self.writes = failing.ordinals(alloc, "writes")?;
             }
             _ => {
-                check_keys(words, &["takes", "gives"])?;
-                let takes = ordinals(alloc, words, "takes")?;
-                let gives = ordinals(alloc, words, "gives")?;
+                let failing = Failing::of(words, &["takes", "gives"])?;
+                let takes = failing.ordinals(alloc, "takes")?;
+                let gives = failing.ordinals(alloc, "gives")?;
                 self.bay = MemBay::new(alloc, &takes, &gives)?;
             }
         }
@@ -244,7 +226,7 @@ impl Runs {
     ) -> Result<(), Halt> {
         let status = self.command(rt, words, &OpenGate)?;
         let text = self.written.text();
-        say_bytes(self.alloc, text, answer)?;
+        say_text(self.alloc, answer, text)?;
         if !text.is_empty() && !text.ends_with(b"\n") {
             answer.push_str("..\n")?;
         }
@@ -263,7 +245,7 @@ impl Runs {
         let text = self.written.text();
         match self.texts.text(name) {
             Some(wanted) if wanted == text => writeln!(answer, "as {name}")?,
-            _ => say_bytes(self.alloc, text, answer)?,
+            _ => say_text(self.alloc, answer, text)?,
         }
         self.say_status(status, answer)
     }
@@ -305,7 +287,7 @@ impl Runs {
         let pieces: Vec<&[u8]> = body.split(|byte| *byte == b'/').collect(self.alloc)?;
         let status = finish(&mut sink, &pieces, status).number();
         self.written.set(sink.bytes())?;
-        say_bytes(self.alloc, self.written.text(), answer)?;
+        say_text(self.alloc, answer, self.written.text())?;
         if !self.written.text().ends_with(b"\n") {
             answer.push_str("..\n")?;
         }

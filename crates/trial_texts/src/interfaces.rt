@@ -5,11 +5,12 @@ ghost use Rattle.idl_reader.specs.Grammar.{AreDecls};
 ghost use Rattle.idl_reader.specs.Tree.{idl_tree};
 
 use crate::operations::operations;
-use crate::say::{count_of, say, say_bytes, say_number};
+use crate::say::{count_of, say_number};
 use idl_check::{Checked, check};
 use idl_reader::{Idl, IdlRefused, IdlWhy, print_idl, read_idl};
 use idl_tables::{TableSet, print_tables, tables};
 use std::alloc::{AllocError, Global};
+use trial_words::{say, say_text};
 
 /// Reads a text that is short enough to have places.
 fn read(alloc: Global, text: &[u8]) -> Result<Idl, IdlRefused>
@@ -61,7 +62,7 @@ fn over(
         return say(answer, "interfaces");
     }
     if call == "print" {
-        return say_bytes(alloc, answer, print_idl(alloc, &idl)?.as_slice());
+        return say_text(alloc, answer, print_idl(alloc, &idl)?.as_slice());
     }
     match check(alloc, &idl) {
         Ok(checked) => over_checked(alloc, call, words, &checked, answer),
@@ -87,7 +88,7 @@ fn over_checked(
     }
     let set = tables(alloc, checked)?;
     match call {
-        "tables" => say_bytes(alloc, answer, print_tables(alloc, &set)?.as_slice()),
+        "tables" => say_text(alloc, answer, print_tables(alloc, &set)?.as_slice()),
         "lists" => {
             let count = set.idl().decls.as_slice().len();
             writeln!(answer, "{count} declarations")?;

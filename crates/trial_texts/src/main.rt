@@ -13,12 +13,12 @@ mod values;
 mod words;
 
 use crate::run::RunTexts;
-use crate::say::say;
 use crate::source::Source;
 use std::alloc::{AllocError, Global};
 use std::io;
 use std::process::ExitCode;
 use trial_cases::{Trial, run_trial};
+use trial_words::say;
 
 /// What the steps of a case have made so far.
 #[derive(Drop)]

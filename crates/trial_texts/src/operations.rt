@@ -1,10 +1,10 @@
 //! The operations that the layers' messages have.
 
-use crate::say::say;
 use idl_tables::TableSet;
 use pager_channel::Operation;
 use run_texts::{operation_name, ops_of};
 use std::alloc::AllocError;
+use trial_words::say;
 
 /// Each operation.
 const OPERATIONS: [Operation; 18] = [

@@ -1,6 +1,6 @@
 //! What a run reads before it takes a store, and what is written where it is refused.
 
-use crate::say::{count_of, say, say_bytes, say_number};
+use crate::say::{count_of, say_number};
 use pager_channel::{Operation, Ops};
 use run_texts::{
     Refusal, TextNames, operation_name, read_run, read_runnable, read_stack, read_tables, refuse,
@@ -11,6 +11,7 @@ use seen_values::Text;
 use spr_io::{MemShelf, MemSink};
 use stack_accept::Mounted;
 use std::alloc::{AllocError, Global};
+use trial_words::{say, say_text};
 
 /// The shelf of a command, and the writes of its sink that are to fail.
 #[derive(Drop)]
@@ -100,7 +101,7 @@ impl RunTexts {
     ) -> Result<(), AllocError> {
         let mut sink = MemSink::new(alloc, 3, &self.fails)?;
         let status = refuse(&mut sink, names, refusal).number();
-        say_bytes(alloc, answer, sink.bytes())?;
+        say_text(alloc, answer, sink.bytes())?;
         if !sink.bytes().ends_with(b"\n") {
             say(answer, "..")?;
         }
@@ -150,7 +151,7 @@ impl RunTexts {
         let text = Text::of(alloc, name)?;
         let read = match call {
             "tables" => match read_tables(alloc, &mut self.shelf, &text) {
-                Ok(lines) => return say_bytes(alloc, answer, lines.as_slice()),
+                Ok(lines) => return say_text(alloc, answer, lines.as_slice()),
                 Err(refusal) => Err(refusal),
             },
             "stack" => read_stack(alloc, &mut self.shelf, &text),

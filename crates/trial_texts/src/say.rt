@@ -1,23 +1,7 @@
 //! Lines of answers, and what steps' words stand for.
 
 use std::alloc::{AllocError, Global};
-
-/// Appends a line.
-pub fn say(answer: &mut String, line: &str) -> Result<(), AllocError> {
-    answer.push_str(line)?;
-    answer.push('\n')
-}
-
-/// Appends bytes as text.
-pub fn say_bytes(alloc: Global, answer: &mut String, bytes: &[u8]) -> Result<(), AllocError> {
-    let text = String::from_utf8_lossy(alloc, bytes)?;
-    answer.push_str(text.as_str())
-}
-
-/// Appends `yes` or `no`.
-pub fn say_whether(answer: &mut String, is: bool) -> Result<(), AllocError> {
-    say(answer, if is { "yes" } else { "no" })
-}
+use trial_words::{say, say_text};
 
 /// Appends a number, or `none`.
 pub fn say_number(answer: &mut String, number: Option<u64>) -> Result<(), AllocError> {
@@ -38,7 +22,7 @@ pub fn say_again(
         return say(answer, "printed as it was read");
     }
     say(answer, "printed otherwise")?;
-    say_bytes(alloc, answer, printed)
+    say_text(alloc, answer, printed)
 }
 
 /// The word itself; `''` stands for the empty one.

@@ -1,9 +1,10 @@
 //! Scripts: their texts, and the answers to their lines.
 
-use crate::say::{count_of, say, say_again, say_bytes};
+use crate::say::{count_of, say_again};
 use script_text::{Call, CallLine, Reply, Script, parse_script, print_script, put_reply};
 use seen_values::{Bytes, Items, Text};
 use std::alloc::{AllocError, Global};
+use trial_words::{say, say_text};
 
 /// `script CALL ..` over the text of a script.
 pub fn step(
@@ -86,7 +87,7 @@ pub fn answer_step(alloc: Global, words: &[&str], answer: &mut String) -> Result
     let disks = [Text::of(alloc, "d")?, Text::of(alloc, "e_1")?];
     let mut out = Vec::new(alloc);
     put_reply(alloc, &mut out, &disks, &reply)?;
-    say_bytes(alloc, answer, &out)?;
+    say_text(alloc, answer, &out)?;
     say(answer, "")
 }
 

@@ -1,10 +1,11 @@
 //! Stacks: their texts, and what is mounted of them.
 
-use crate::say::{say, say_again, say_bytes};
+use crate::say::say_again;
 use seen_values::Text;
 use stack_accept::{FileEntry, GroundPlan, Mounted, NodeEntry, Unfit, accept, put_check};
 use stack_text::{parse_stack, print_stack};
 use std::alloc::{AllocError, Global};
+use trial_words::{say, say_text};
 
 /// `stack CALL ..` over the text of a stack.
 pub fn step(
@@ -65,7 +66,7 @@ fn mount(alloc: Global, text: &[u8], answer: &mut String) -> Result<Option<Mount
 fn check(alloc: Global, mounted: &Mounted, answer: &mut String) -> Result<(), AllocError> {
     let mut out = Vec::new(alloc);
     put_check(&mut out, mounted)?;
-    say_bytes(alloc, answer, &out)
+    say_text(alloc, answer, &out)
 }
 
 /// Appends names.

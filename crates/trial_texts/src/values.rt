@@ -1,8 +1,9 @@
 //! Texts, bytes, paths and lists, made and lent again.
 
-use crate::say::{count_of, say, say_bytes};
+use crate::say::count_of;
 use seen_values::{Bytes, Items, Path, Text};
 use std::alloc::{AllocError, Global};
+use trial_words::{say, say_text};
 
 /// `value KIND ..`: makes a value of a kind, and tells what it lends.
 pub fn step(alloc: Global, words: &[&str], answer: &mut String) -> Result<(), AllocError> {
@@ -42,7 +43,7 @@ fn ascii(alloc: Global, words: &[&str], answer: &mut String) -> Result<(), Alloc
 fn bytes(alloc: Global, words: &[&str], answer: &mut String) -> Result<(), AllocError> {
     for word in words {
         let bytes = Bytes::of(alloc, word.as_bytes())?.clone()?;
-        say_bytes(alloc, answer, bytes.as_slice())?;
+        say_text(alloc, answer, bytes.as_slice())?;
         say(answer, "")?;
     }
     Ok(())

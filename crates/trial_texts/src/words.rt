@@ -1,11 +1,12 @@
 //! Names, numbers, hex and paths; the words of lines; and texts put together.
 
-use crate::say::{count_of, plain, plain_words, say, say_bytes, say_number, say_whether};
+use crate::say::{count_of, plain, plain_words, say_number};
 use std::alloc::{AllocError, Global};
 use text_words::{
     LineWhy, address, hex_bytes, is_name, number, put, put_hex, put_line, put_number, put_path,
     put_spaced, put_spaced_number, put_word, read_path, split_line, text_of_name, words_of,
 };
+use trial_words::{say, say_text, say_whether};
 
 /// `word KIND WORD`: what the word is read as.
 pub fn step(alloc: Global, words: &[&str], answer: &mut String) -> Result<(), AllocError> {
@@ -71,7 +72,7 @@ fn say_words(alloc: Global, answer: &mut String, words: &[&[u8]]) -> Result<(), 
     write!(answer, "{count} words:")?;
     for word in words {
         answer.push(' ')?;
-        say_bytes(alloc, answer, word)?;
+        say_text(alloc, answer, word)?;
     }
     say(answer, "")
 }
@@ -101,7 +102,7 @@ pub fn print(
     answer: &mut String,
 ) -> Result<(), AllocError> {
     let Some((kind, rest)) = words.split_first() else {
-        return say_bytes(alloc, answer, out);
+        return say_text(alloc, answer, out);
     };
     let rest = plain_words(alloc, rest)?;
     match (*kind, rest.as_slice()) {

@@ -4,77 +4,77 @@
 
 ghost use Rattle.std.specs.Prelude.{◌<◌, IsTrue};
 ghost use Rattle.std.specs.Option.{ForSome};
-ghost use Rattle.hist_plain.specs.Event.{page_of, page_of_op};
+ghost use Rattle.hist_plain.specs.Event.{page_of};
 
-use hist_plain::{Event, Op};
+use hist_plain::Event;
 use std::alloc::Global;
-use trial_parts::{Halt, access_named, keep_of, lived, long, number};
+use trial_parts::{access_named, keep_of, lived, page_of};
+use trial_words::{Halt, long, number, two};
 
-/// Whether a grant is for writing.
-fn is_write(word: &str) -> Result<bool, Halt> {
-    match word {
-        "write" => Ok(true),
-        "read" => Ok(false),
-        _ => Err(Halt::Unread),
-    }
+/// The end of a sync at a node.
+fn synced(caller: u32, place: u32, node: u32, from: &str, keep: &str) -> Result<Event, Halt> {
+    let (from, keep) = (long(from)?, keep_of(keep)?);
+    Ok(Event::Synced {
+        caller,
+        number: place,
+        node,
+        from,
+        keep,
+    })
 }
 
-/// An access at a node: its name, the node, what follows, and the life.
-fn access_at(alloc: Global, caller: u32, place: u32, words: &[&str]) -> Result<Event, Halt> {
+/// An access at a node, and the life behind it.
+fn access_at(
+    alloc: Global,
+    caller: u32,
+    place: u32,
+    node: u32,
+    name: &str,
+    words: &[&str],
+) -> Result<Event, Halt> {
     let (words, life) = lived(words)?;
-    let [name, node, rest @ ..] = words else {
-        return Err(Halt::Unread);
-    };
+    let op = access_named(alloc, name, words)?;
     Ok(Event::Access {
         caller,
         number: place,
-        node: number(node)?,
+        node,
         life,
-        op: access_named(alloc, name, rest)?,
+        op,
     })
 }
 
 /// A caller's event.
 fn caller_event(alloc: Global, caller: u32, place: u32, words: &[&str]) -> Result<Event, Halt> {
-    match words {
-        ["destroy_cache", node] => Ok(Event::DestroyCache {
+    let [name, node, rest @ ..] = words else {
+        return Err(Halt::Unread);
+    };
+    let (node, number) = (number(node)?, place);
+    match (*name, rest) {
+        ("destroy_cache", []) => Ok(Event::DestroyCache {
             caller,
-            number: place,
-            node: number(node)?,
+            number,
+            node,
         }),
-        ["done_pager", node] => Ok(Event::DonePager {
+        ("done_pager", []) => Ok(Event::DonePager {
             caller,
-            number: place,
-            node: number(node)?,
+            number,
+            node,
         }),
-        ["synced", node, from, keep] => Ok(Event::Synced {
-            caller,
-            number: place,
-            node: number(node)?,
-            from: long(from)?,
-            keep: keep_of(keep)?,
-        }),
-        _ => access_at(alloc, caller, place, words),
+        ("synced", [from, keep]) => synced(caller, number, node, from, keep),
+        (name, rest) => access_at(alloc, caller, number, node, name, rest),
     }
 }
 
-/// A grant, if the words are one.
-fn grant(words: &[&str]) -> Result<Option<Event>, Halt> {
-    let [name, node, page, right] = words else {
-        return Ok(None);
-    };
-    match *name {
-        "page_in" => Ok(Some(Event::PageIn {
-            node: number(node)?,
-            page: number(page)?,
-            write: is_write(right)?,
-        })),
-        "zero_fill" => Ok(Some(Event::ZeroFill {
-            node: number(node)?,
-            page: number(page)?,
-            write: is_write(right)?,
-        })),
-        _ => Ok(None),
+/// A grant of a page, if the name and the right are one's.
+fn grant(name: &str, node: u32, page: u32, right: &str) -> Option<Event> {
+    let write = right == "write";
+    if !write && right != "read" {
+        return None;
+    }
+    match name {
+        "page_in" => Some(Event::PageIn { node, page, write }),
+        "zero_fill" => Some(Event::ZeroFill { node, page, write }),
+        _ => None,
     }
 }
 
@@ -93,39 +93,29 @@ fn message(name: &str, node: u32, page: u32) -> Option<Event> {
 }
 
 /// A message about a page, if the words are one.
-fn page_message(words: &[&str]) -> Result<Option<Event>, Halt> {
-    if let Some(event) = grant(words)? {
-        return Ok(Some(event));
+fn page_message(words: &[&str]) -> Option<Event> {
+    let [name, node, page, right @ ..] = words else {
+        return None;
+    };
+    let (node, page) = two(node, page).ok()?;
+    match right {
+        [] => message(name, node, page),
+        [right] => grant(name, node, page, right),
+        _ => None,
     }
-    let [name, node, page] = words else {
-        return Ok(None);
-    };
-    let (Ok(node), Ok(page)) = (number(node), number(page)) else {
-        return Ok(None);
-    };
-    Ok(message(name, node, page))
 }
 
 /// The event of some words.
 pub fn event_of(alloc: Global, words: &[&str]) -> Result<Event, Halt> {
-    if let Some(event) = page_message(words)? {
+    if let Some(event) = page_message(words) {
         return Ok(event);
     }
     match words {
         ["by", caller, place, rest @ ..] => {
-            caller_event(alloc, number(caller)?, number(place)?, rest)
+            let (caller, place) = two(caller, place)?;
+            caller_event(alloc, caller, place, rest)
         }
         _ => caller_event(alloc, 0, 0, words),
-    }
-}
-
-/// Whether an access is of one of these pages, if it is of a page.
-fn is_op_in_pages(op: &Op, pages: u32) -> bool
-    ensures { IsTrue result → ForSome (page_of_op op.now) (λ page. page < pages) }
-{
-    match op {
-        Op::Read { page, .. } | Op::Write { page, .. } | Op::Clear { page } => *page < pages,
-        Op::Open => true,
     }
 }
 
@@ -133,17 +123,8 @@ fn is_op_in_pages(op: &Op, pages: u32) -> bool
 pub fn is_in_pages(event: &Event, pages: u32) -> bool
     ensures { IsTrue result → ForSome (page_of event.now) (λ page. page < pages) }
 {
-    match event {
-        Event::Access { op, .. } => is_op_in_pages(op, pages),
-        Event::PageIn { page, .. }
-        | Event::ZeroFill { page, .. }
-        | Event::PageOut { page, .. }
-        | Event::WriteOut { page, .. }
-        | Event::SyncOut { page, .. }
-        | Event::FlushBack { page, .. }
-        | Event::DenyWrites { page, .. }
-        | Event::WriteBack { page, .. }
-        | Event::DeleteRange { page, .. } => *page < pages,
-        Event::DestroyCache { .. } | Event::DonePager { .. } | Event::Synced { .. } => true,
+    match page_of(event) {
+        Some(page) => page < pages,
+        None => true,
     }
 }

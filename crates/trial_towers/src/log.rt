@@ -5,7 +5,8 @@ ghost use Rattle.std.specs.Prelude.{◌≡◌, ◌≤◌};
 use hist_plain::{Answer, Bytes, Event, MAX_EVENTS, Op};
 use std::alloc::{AllocError, Global};
 use tower_log::{Entry, Note, Trail};
-use trial_parts::{Halt, bytes, long, number, put_hex};
+use trial_parts::Subject;
+use trial_words::{Halt, bytes, long, number, put_hex};
 
 /// The log of a case.
 #[derive(Drop)]
@@ -34,13 +35,6 @@ fn read_entry(alloc: Global, caller: u32, place: u32, read: &[u8]) -> Result<Ent
 }
 
 impl Log {
-    /// A log without entries.
-    pub fn new(alloc: Global) -> Log {
-        Log {
-            trail: Trail::new(alloc, 64),
-        }
-    }
-
     /// Enters the caller's next read.
     fn enter(&mut self, alloc: Global, caller: u32, read: &[u8]) -> Result<(), Halt> {
         if self.trail.len() >= MAX_EVENTS {
@@ -92,6 +86,23 @@ impl Log {
         Ok(answer.push('\n')?)
     }
 
+    /// Enters so many reads, and appends how many there are then.
+    fn filled(&mut self, alloc: Global, reads: u32, answer: &mut String) -> Result<(), Halt> {
+        self.fill(alloc, reads)?;
+        self.put_length(answer)
+    }
+
+    /// Appends how many events a caller has.
+    fn put_number(&self, caller: u32, answer: &mut String) -> Result<(), AllocError> {
+        writeln!(answer, "{} events", self.trail.number(caller))
+    }
+
+    /// Makes room for so many reads, and appends how many there is room for.
+    fn reserve(&mut self, reads: u32, answer: &mut String) -> Result<(), AllocError> {
+        self.trail.reserve(reads)?;
+        writeln!(answer, "{} spare", self.trail.spare())
+    }
+
     /// Makes room for a read, and appends how many bytes there are for it and how many spare reads are left.
     fn room(&mut self, len: u32, answer: &mut String) -> Result<(), Halt> {
         if len > 64 {
@@ -100,24 +111,30 @@ impl Log {
         let room = self.trail.make_read_room(len)?;
         Ok(writeln!(answer, "{} bytes, {} spare", room.len(), self.trail.spare())?)
     }
+}
 
-    /// Does a step.
-    pub fn step(&mut self, alloc: Global, words: &[&str], answer: &mut String) -> Result<(), Halt> {
+/// A log without entries.
+fn fresh(alloc: Global) -> Log {
+    Log {
+        trail: Trail::new(alloc, 64),
+    }
+}
+
+impl Subject for Log {
+    fn make(alloc: Global, words: &[&str]) -> Result<Log, Halt> {
         match words {
-            ["fill", reads] => {
-                self.fill(alloc, number(reads)?)?;
-                self.put_length(answer)
-            }
+            ["log"] => Ok(fresh(alloc)),
+            _ => Err(Halt::Unread),
+        }
+    }
+
+    fn step(&mut self, alloc: Global, words: &[&str], answer: &mut String) -> Result<(), Halt> {
+        match words {
+            ["fill", reads] => self.filled(alloc, number(reads)?, answer),
             ["read", caller, word] => self.enter(alloc, number(caller)?, &bytes(alloc, word)?),
             ["at", place] => self.put_read(alloc, long(place)?, answer),
-            ["caller", caller] => {
-                let count = self.trail.number(number(caller)?);
-                Ok(writeln!(answer, "{count} events")?)
-            }
-            ["reserve", reads] => {
-                self.trail.reserve(number(reads)?)?;
-                Ok(writeln!(answer, "{} spare", self.trail.spare())?)
-            }
+            ["caller", caller] => Ok(self.put_number(number(caller)?, answer)?),
+            ["reserve", reads] => Ok(self.reserve(number(reads)?, answer)?),
             ["room", len] => self.room(number(len)?, answer),
             _ => Err(Halt::Unread),
         }

@@ -6,7 +6,8 @@ ghost use Rattle.hist_plain.specs.Plain.{Suits, asked_len};
 use crate::events::event_of;
 use hist_plain::{Answer, Event, MAX_EVENTS, Op, Plain, fits};
 use std::alloc::{AllocError, Global};
-use trial_parts::{Halt, access_of, asked, number, put_answer, put_hex};
+use trial_parts::{Subject, access_of, asked, put_answer};
+use trial_words::{Halt, put_hex, say_whether, two};
 
 /// The plain file of a case.
 #[derive(Drop)]
@@ -46,30 +47,19 @@ fn suits(plain: &Plain, event: &Event) -> bool
     }
     match event {
         Event::Access { op, .. } => fits(op, 64, 2),
-        Event::PageIn { .. }
-        | Event::ZeroFill { .. }
-        | Event::PageOut { .. }
-        | Event::WriteOut { .. }
-        | Event::SyncOut { .. }
-        | Event::FlushBack { .. }
-        | Event::DenyWrites { .. }
-        | Event::WriteBack { .. }
-        | Event::DeleteRange { .. }
-        | Event::DestroyCache { .. }
-        | Event::DonePager { .. }
-        | Event::Synced { .. } => true,
+        _ => true,
     }
 }
 
-impl PlainFile {
-    /// The file with no event.
-    pub fn new(alloc: Global) -> Result<PlainFile, AllocError> {
-        let image = vec![in alloc; b'a'; 128]?;
-        Ok(PlainFile {
-            plain: Plain::new(alloc, 64, &[0, 0], &image)?,
-        })
-    }
+/// The file with no event.
+fn fresh(alloc: Global) -> Result<PlainFile, AllocError> {
+    let image = vec![in alloc; b'a'; 128]?;
+    Ok(PlainFile {
+        plain: Plain::new(alloc, 64, &[0, 0], &image)?,
+    })
+}
 
+impl PlainFile {
     /// Takes an event.
     fn take(&mut self, alloc: Global, event: &Event, answer: &mut String) -> Result<(), Halt> {
         if !suits(&self.plain, event) || self.plain.len() >= MAX_EVENTS {
@@ -82,28 +72,60 @@ impl PlainFile {
         }
     }
 
-    /// Does a step.
-    pub fn step(&mut self, alloc: Global, words: &[&str], answer: &mut String) -> Result<(), Halt> {
+    /// Takes the event of some words.
+    fn enter(&mut self, alloc: Global, words: &[&str], answer: &mut String) -> Result<(), Halt> {
+        let event = event_of(alloc, words)?;
+        self.take(alloc, &event, answer)
+    }
+
+    /// Appends how many events there are, and the size of a page.
+    fn put_length(&self, answer: &mut String) -> Result<(), AllocError> {
+        let (len, size) = (self.plain.len(), self.plain.page_size());
+        writeln!(answer, "{len} events, pages of {size} bytes")
+    }
+
+    /// Appends the bytes from a place on.
+    fn put_bytes(&self, alloc: Global, at: u32, len: u32, answer: &mut String) -> Result<(), Halt> {
+        let (at, len) = (at as usize, len as usize);
+        let Some(bytes) = self.plain.bytes().get(at..at + len) else {
+            return Err(Halt::Impossible);
+        };
+        put_hex(alloc, bytes, answer)?;
+        Ok(answer.push('\n')?)
+    }
+}
+
+/// Appends whether an access is one of the file.
+fn put_fits(alloc: Global, words: &[&str], answer: &mut String) -> Result<(), Halt> {
+    let op = access_of(alloc, words)?;
+    Ok(say_whether(answer, fits(&op, 64, 2))?)
+}
+
+/// Appends what a copy of an event is about.
+fn put_copy(alloc: Global, words: &[&str], answer: &mut String) -> Result<(), Halt> {
+    let event = event_of(alloc, words)?;
+    let copy = event.clone()?;
+    Ok(put_about(&copy, answer)?)
+}
+
+impl Subject for PlainFile {
+    fn make(alloc: Global, words: &[&str]) -> Result<PlainFile, Halt> {
         match words {
-            ["fits", op @ ..] => {
-                let fit = fits(&access_of(alloc, op)?, 64, 2);
-                answer.push_str(if fit { "yes\n" } else { "no\n" })?;
-            }
-            ["about", event @ ..] => put_about(&event_of(alloc, event)?.clone()?, answer)?,
-            ["bytes", at, len] => {
-                let (at, len) = (number(at)? as usize, number(len)? as usize);
-                let Some(bytes) = self.plain.bytes().get(at..at + len) else {
-                    return Err(Halt::Impossible);
-                };
-                put_hex(alloc, bytes, answer)?;
-                answer.push('\n')?;
-            }
-            ["length"] => {
-                let (len, size) = (self.plain.len(), self.plain.page_size());
-                writeln!(answer, "{len} events, pages of {size} bytes")?;
-            }
-            _ => self.take(alloc, &event_of(alloc, words)?, answer)?,
+            ["plain"] => Ok(fresh(alloc)?),
+            _ => Err(Halt::Unread),
         }
-        Ok(())
+    }
+
+    fn step(&mut self, alloc: Global, words: &[&str], answer: &mut String) -> Result<(), Halt> {
+        match words {
+            ["fits", op @ ..] => put_fits(alloc, op, answer),
+            ["about", event @ ..] => put_copy(alloc, event, answer),
+            ["bytes", at, len] => {
+                let (at, len) = two(at, len)?;
+                self.put_bytes(alloc, at, len, answer)
+            }
+            ["length"] => Ok(self.put_length(answer)?),
+            _ => self.enter(alloc, words, answer),
+        }
     }
 }

@@ -11,7 +11,8 @@ use hist_plain::{Bytes, Event, Keep, MAX_EVENTS, MAX_PAGES, Op};
 use std::alloc::{AllocError, Global};
 use tower_core::{Right, Sheet, Tree};
 use tower_plan::{Next, cost, next_drain, next_for, next_sync};
-use trial_parts::{Halt, name_of, number, page_shown, pages_and_tree, tree_of};
+use trial_parts::{Subject, name_of, page_shown, pages_and_tree, tree_of};
+use trial_words::{Halt, say, two};
 
 /// A tree, and the sheet of what was done for the wishes.
 #[derive(Drop)]
@@ -210,16 +211,28 @@ fn bring(
     Ok(ROUNDS)
 }
 
+/// The sheet with no event, of a file of so many pages.
+fn fresh(alloc: Global, pages: u32, tree: Tree) -> Result<Planned, Halt> {
+    if pages > MAX_PAGES {
+        return Err(Halt::Impossible);
+    }
+    let sheet = Sheet::new(alloc, &tree, pages)?;
+    Ok(Planned { tree, sheet })
+}
+
+/// Appends the cost of an access, if it is another than how many events came before it.
+fn put_cost(foreseen: Option<u32>, count: u32, answer: &mut String) -> Result<(), AllocError> {
+    match foreseen {
+        Some(cost) if cost != count => writeln!(answer, "but the cost is {cost}"),
+        _ => Ok(()),
+    }
+}
+
 impl Planned {
-    /// The sheet with no event, of a file of so many pages: `PAGES pages, parents PARENT .. frames FRAMES ..`.
-    pub fn new(alloc: Global, words: &[&str]) -> Result<Planned, Halt> {
-        let (pages, tree) = pages_and_tree(words)?;
-        if pages > MAX_PAGES {
-            return Err(Halt::Impossible);
-        }
-        let tree = tree_of(alloc, tree)?;
-        let sheet = Sheet::new(alloc, &tree, pages)?;
-        Ok(Planned { tree, sheet })
+    /// Enters the wish itself, and tells whether it was allowed.
+    fn end(&mut self, event: &Event, answer: &mut String) -> Result<(), AllocError> {
+        let is_allowed = enter(&self.tree, &mut self.sheet, event);
+        say(answer, if is_allowed { "then it" } else { "then not it" })
     }
 
     /// Does what a wish wants, and tells the messages that come first. The cost of an access has to be how many they are, and
@@ -238,25 +251,25 @@ impl Planned {
         let from = self.sheet.len();
         let foreseen = left(&self.tree, &self.sheet, wish, node, page);
         let count = bring(&self.tree, &mut self.sheet, wish, node, page, answer)?;
-        if let Some(cost) = foreseen {
-            if cost != count {
-                writeln!(answer, "but the cost is {cost}")?;
-            }
-        }
-        let event = wished(alloc, wish, node, page, from)?;
-        let is_allowed = enter(&self.tree, &mut self.sheet, &event);
-        Ok(answer.push_str(if is_allowed {
-            "then it\n"
-        } else {
-            "then not it\n"
-        })?)
+        put_cost(foreseen, count, answer)?;
+        Ok(self.end(&wished(alloc, wish, node, page, from)?, answer)?)
+    }
+}
+
+impl Subject for Planned {
+    fn make(alloc: Global, words: &[&str]) -> Result<Planned, Halt> {
+        let ["plan", rest @ ..] = words else {
+            return Err(Halt::Unread);
+        };
+        let (pages, tree) = pages_and_tree(rest)?;
+        fresh(alloc, pages, tree_of(alloc, tree)?)
     }
 
-    /// Does a step: a wish, a node and a page.
-    pub fn step(&mut self, alloc: Global, words: &[&str], answer: &mut String) -> Result<(), Halt> {
+    fn step(&mut self, alloc: Global, words: &[&str], answer: &mut String) -> Result<(), Halt> {
         let [wish, node, page] = words else {
             return Err(Halt::Unread);
         };
-        self.fulfil(alloc, wish_of(wish)?, number(node)?, number(page)?, answer)
+        let (node, page) = two(node, page)?;
+        self.fulfil(alloc, wish_of(wish)?, node, page, answer)
     }
 }

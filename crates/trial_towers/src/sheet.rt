@@ -8,7 +8,8 @@ use crate::events::{event_of, is_in_pages};
 use hist_plain::{Event, MAX_EVENTS, MAX_PAGES};
 use std::alloc::{AllocError, Global};
 use tower_core::{Right, Sheet, Tree};
-use trial_parts::{Halt, number, page_shown, tree_of};
+use trial_parts::{Subject, page_shown, pages_and_tree, tree_of};
+use trial_words::{Halt, number};
 
 /// A tree, and the sheet of its events.
 #[derive(Drop)]
@@ -28,20 +29,6 @@ fn put_cell(right: Right, at: u64, answer: &mut String) -> Result<(), AllocError
 }
 
 impl Entered {
-    /// The sheet with no event, of a file of so many pages: `PAGES pages, parents PARENT .. frames FRAMES ..`.
-    pub fn new(alloc: Global, words: &[&str]) -> Result<Entered, Halt> {
-        let [pages, "pages,", "parents", rest @ ..] = words else {
-            return Err(Halt::Unread);
-        };
-        let pages = number(pages)?;
-        if pages > MAX_PAGES {
-            return Err(Halt::Impossible);
-        }
-        let tree = tree_of(alloc, rest)?;
-        let sheet = Sheet::new(alloc, &tree, pages)?;
-        Ok(Entered { tree, sheet })
-    }
-
     /// Enters the event if it is allowed, and tells whether it is.
     fn enter(&mut self, event: &Event) -> bool {
         if !is_in_pages(event, self.sheet.pages()) || self.sheet.len() >= MAX_EVENTS {
@@ -83,26 +70,47 @@ impl Entered {
         Ok(())
     }
 
-    /// Does a step: an event is answered with the rights on its page, or is refused.
-    pub fn step(&mut self, alloc: Global, words: &[&str], answer: &mut String) -> Result<(), Halt> {
-        match words {
-            ["length"] => writeln!(answer, "{} events", self.sheet.len())?,
-            ["newest", page] => {
-                let page = number(page)?;
-                if page >= self.sheet.pages() {
-                    return Err(Halt::Impossible);
-                }
-                writeln!(answer, "place {}", self.sheet.newest(page))?;
-            }
-            ["node", node] => self.put_node(number(node)?, answer)?,
-            _ => {
-                let event = event_of(alloc, words)?;
-                if self.enter(&event) {
-                    return self.put_page(page_shown(&event), answer);
-                }
-                answer.push_str("refused\n")?;
-            }
+    /// Appends the place of the newest copy of a page.
+    fn put_newest(&self, page: u32, answer: &mut String) -> Result<(), Halt> {
+        if page >= self.sheet.pages() {
+            return Err(Halt::Impossible);
         }
-        Ok(())
+        Ok(writeln!(answer, "place {}", self.sheet.newest(page))?)
+    }
+
+    /// Enters the event, and appends the rights on its page, or that it is refused.
+    fn take(&mut self, event: &Event, answer: &mut String) -> Result<(), Halt> {
+        if self.enter(event) {
+            return self.put_page(page_shown(event), answer);
+        }
+        Ok(answer.push_str("refused\n")?)
+    }
+}
+
+/// The sheet with no event, of a file of so many pages.
+fn fresh(alloc: Global, pages: u32, tree: Tree) -> Result<Entered, Halt> {
+    if pages > MAX_PAGES {
+        return Err(Halt::Impossible);
+    }
+    let sheet = Sheet::new(alloc, &tree, pages)?;
+    Ok(Entered { tree, sheet })
+}
+
+impl Subject for Entered {
+    fn make(alloc: Global, words: &[&str]) -> Result<Entered, Halt> {
+        let ["sheet", rest @ ..] = words else {
+            return Err(Halt::Unread);
+        };
+        let (pages, tree) = pages_and_tree(rest)?;
+        fresh(alloc, pages, tree_of(alloc, tree)?)
+    }
+
+    fn step(&mut self, alloc: Global, words: &[&str], answer: &mut String) -> Result<(), Halt> {
+        match words {
+            ["length"] => Ok(writeln!(answer, "{} events", self.sheet.len())?),
+            ["newest", page] => self.put_newest(number(page)?, answer),
+            ["node", node] => self.put_node(number(node)?, answer),
+            _ => self.take(&event_of(alloc, words)?, answer),
+        }
     }
 }

@@ -1,18 +1,26 @@
 //! A tower over disk 0 and file 0 of pages of 64 bytes: how far each try of a caller gets, and what is left when it is closed.
 
-use hist_plain::{Op, fits};
+use hist_plain::{Keep, Op, fits};
 use stack_engine::{Tower, Trail};
 use std::alloc::Global;
 use trial_parts::{
-    Halt, Ram, access_of, asked, first_bytes, is_layer, keep_of, long, number, pages_and_tree,
-    put_hex, put_moved, refused_write, tower_of,
+    Ram, Subject, access_of, asked, first_bytes, is_layer, keep_of, pages_and_tree, put_moved,
+    refused_write, tower_of,
 };
+use trial_words::{Halt, long, number, put_hex, two};
 
-/// A tower, or the disk and the trail that it left.
+/// The disk and the trail that a closed tower left.
+#[derive(Drop)]
+struct Left {
+    disk: Ram,
+    trail: Trail,
+}
+
+/// A tower while it is open, and what it left.
 #[derive(Drop)]
 pub struct Driven {
     tower: Option<Tower<Ram>>,
-    left: Option<(Ram, Trail)>,
+    left: Option<Left>,
 }
 
 /// One try of an access, of the present life of the layer.
@@ -41,10 +49,9 @@ fn try_sync(
     tower: &mut Tower<Ram>,
     caller: u32,
     node: u32,
-    keep: &str,
+    keep: Keep,
     answer: &mut String,
 ) -> Result<(), Halt> {
-    let keep = keep_of(keep)?;
     if !is_layer(tower, node) {
         return Err(Halt::Impossible);
     }
@@ -63,11 +70,12 @@ fn over_open(
 ) -> Result<(), Halt> {
     match words {
         [caller, "at", node, "sync", keep] => {
-            try_sync(alloc, tower, number(caller)?, number(node)?, keep, answer)
+            let (caller, node) = two(caller, node)?;
+            try_sync(alloc, tower, caller, node, keep_of(keep)?, answer)
         }
         [caller, "at", node, op @ ..] => {
-            let op = access_of(alloc, op)?;
-            try_access(alloc, tower, number(caller)?, number(node)?, &op, answer)
+            let (caller, node) = two(caller, node)?;
+            try_access(alloc, tower, caller, node, &access_of(alloc, op)?, answer)
         }
         ["events"] => Ok(writeln!(answer, "{} events", tower.len())?),
         ["reserve", reads] => Ok(tower.reserve(number(reads)?)?),
@@ -79,55 +87,60 @@ fn over_open(
     }
 }
 
-/// Does a step of what a closed tower left: the first bytes of a page of the disk, the events, and what they read or wrote.
-fn over_left(
-    alloc: Global,
-    disk: &mut Ram,
-    trail: &Trail,
-    words: &[&str],
-    answer: &mut String,
-) -> Result<(), Halt> {
-    match words {
-        ["disk", page] => put_hex(alloc, &first_bytes(disk, number(page)?)?, answer)?,
-        ["bytes", place] => put_hex(alloc, trail.bytes(long(place)?), answer)?,
-        ["events"] => write!(answer, "{} events", trail.len())?,
-        ["caller", caller] => write!(answer, "{} events", trail.number(number(caller)?))?,
-        _ => return Err(Halt::Unread),
+impl Left {
+    /// Does a step: the first bytes of a page of the disk, the events, and what they read or wrote.
+    fn look(&mut self, alloc: Global, words: &[&str], answer: &mut String) -> Result<(), Halt> {
+        match words {
+            ["disk", page] => put_hex(alloc, &first_bytes(&mut self.disk, number(page)?)?, answer)?,
+            ["bytes", place] => put_hex(alloc, self.trail.bytes(long(place)?), answer)?,
+            ["events"] => write!(answer, "{} events", self.trail.len())?,
+            ["caller", caller] => {
+                write!(answer, "{} events", self.trail.number(number(caller)?))?;
+            }
+            _ => return Err(Halt::Unread),
+        }
+        Ok(answer.push('\n')?)
     }
-    Ok(answer.push('\n')?)
 }
 
 impl Driven {
-    /// A tower of no event: `PAGES pages, parents PARENT .. frames FRAMES ..`, where `write N refused,` may stand before.
-    pub fn new(alloc: Global, words: &[&str]) -> Result<Driven, Halt> {
-        let (fails_at, words) = refused_write(words)?;
-        let (pages, tree) = pages_and_tree(words)?;
-        Ok(Driven {
-            tower: Some(tower_of(alloc, tree, pages, fails_at)?),
-            left: None,
-        })
-    }
-
     /// Closes the tower.
     fn close(&mut self) -> Result<(), Halt> {
         match self.tower.take() {
             Some(tower) => {
-                self.left = Some(tower.close());
+                let (disk, trail) = tower.close();
+                self.left = Some(Left { disk, trail });
                 Ok(())
             }
             None => Err(Halt::Impossible),
         }
     }
+}
 
-    /// Does a step.
-    pub fn step(&mut self, alloc: Global, words: &[&str], answer: &mut String) -> Result<(), Halt> {
+impl Subject for Driven {
+    fn make(alloc: Global, words: &[&str]) -> Result<Driven, Halt> {
+        let ["tower", rest @ ..] = words else {
+            return Err(Halt::Unread);
+        };
+        let (fails_at, words) = refused_write(rest)?;
+        let (pages, tree) = pages_and_tree(words)?;
+        let tower = tower_of(alloc, tree, pages, fails_at)?;
+        Ok(Driven {
+            tower: Some(tower),
+            left: None,
+        })
+    }
+
+    fn step(&mut self, alloc: Global, words: &[&str], answer: &mut String) -> Result<(), Halt> {
         if let ["close"] = words {
             return self.close();
         }
-        match (&mut self.tower, &mut self.left) {
-            (Some(tower), _) => over_open(alloc, tower, words, answer),
-            (None, Some((disk, trail))) => over_left(alloc, disk, trail, words, answer),
-            (None, None) => Err(Halt::Impossible),
+        if let Some(tower) = &mut self.tower {
+            return over_open(alloc, tower, words, answer);
+        }
+        match &mut self.left {
+            Some(left) => left.look(alloc, words, answer),
+            None => Err(Halt::Impossible),
         }
     }
 }

@@ -5,7 +5,7 @@ ghost use Rattle.sub_core.specs.declared.shape.Form.TheVariants.{Tagged};
 ghost use Rattle.sub_core.specs.Forms.{IsOf};
 
 use crate::registry::{say_held, say_object};
-use crate::say::{bytes_of, count_of, door_of, say, say_hex, small_of};
+use crate::say::{bytes_of, count_of, door_of, say_hex, small_of};
 use crate::stack::{leads_to_view, mounted};
 use domain_doors::{Domain, NoDoor};
 use marshal_buf::{Buf, Door, Reader};
@@ -14,6 +14,7 @@ use stack_accept::Mounted;
 use std::alloc::{AllocError, Global};
 use sub_basic::{CLUSTER, Cluster, SINGLETON, Singleton};
 use sub_core::{Object, ObjectErr, Registry, Route, Subcontract, unmarshal_any};
+use trial_words::say;
 
 /// Both kinds.
 struct Both;

@@ -1,8 +1,9 @@
 //! Buffers: what is put into one, and what is read of it again.
 
-use crate::say::{bytes_of, count_of, door_of, say, say_door, say_hex, short_of, small_of};
+use crate::say::{bytes_of, count_of, door_of, say_door, say_hex, short_of, small_of};
 use marshal_buf::{Buf, Reader};
 use std::alloc::{AllocError, Global};
+use trial_words::say;
 
 /// More bytes than any buffer of a case has.
 const MOST: u32 = 10_000;

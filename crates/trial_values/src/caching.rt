@@ -5,7 +5,7 @@ ghost use Rattle.sub_core.specs.declared.shape.Form.TheVariants.{Managed};
 ghost use Rattle.sub_core.specs.Forms.{IsOf};
 
 use crate::registry::{say_held, say_object};
-use crate::say::{count_of, door_of, say, say_hex, small_of};
+use crate::say::{count_of, door_of, say_hex, small_of};
 use crate::stack::{leads_to_view, mounted};
 use domain_doors::Domain;
 use marshal_buf::{Buf, Door, Reader};
@@ -14,6 +14,7 @@ use stack_accept::Mounted;
 use std::alloc::{AllocError, Global};
 use sub_caching::{CACHING, Caching};
 use sub_core::{Form, Object, ObjectErr, Route, Subcontract, name_of};
+use trial_words::say;
 
 /// An object with a door of a domain.
 fn object(alloc: Global, door: usize) -> Result<Object, AllocError>

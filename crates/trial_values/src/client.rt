@@ -5,7 +5,7 @@ ghost use Rattle.std.specs.List.{AllByRecursion};
 ghost use Rattle.client_objects.specs.Objects.{IsOnStack, object_of};
 
 use crate::basic::parts;
-use crate::say::{say, say_hex, short_of, small_of};
+use crate::say::{say_hex, short_of, small_of};
 use crate::stack::mounted;
 use client_objects::{Found, NotReceived, Objects, bound_object};
 use marshal_buf::Buf;
@@ -14,6 +14,7 @@ use stack_accept::Mounted;
 use std::alloc::{AllocError, Global};
 use sub_basic::{CLUSTER, SINGLETON};
 use sub_caching::CACHING;
+use trial_words::say;
 
 /// `client CALL ..` over the stack of the case.
 pub fn step(

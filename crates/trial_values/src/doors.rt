@@ -1,8 +1,9 @@
 //! The doors that a domain holds.
 
-use crate::say::{count_of, door_of, say, say_door};
+use crate::say::{count_of, door_of, say_door};
 use domain_doors::{Domain, DoorErr, NoDoor};
 use std::alloc::{AllocError, Global};
+use trial_words::say;
 
 /// A word of a case for the identifier of a door.
 #[derive(Drop)]

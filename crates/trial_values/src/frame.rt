@@ -5,12 +5,13 @@ ghost use Rattle.hist_plain.specs.Plain.{IsPageSize};
 ghost use Rattle.file_frames.specs.Calls.{IsOnePage};
 ghost use Rattle.pager_channel.specs.Frame.{IsFrame};
 
-use crate::say::{byte_of, bytes_of, count_of, say, say_again, say_hex, small_of};
+use crate::say::{byte_of, bytes_of, count_of, say_again, say_hex, small_of};
 use file_frames::{FileCall, put_call, read_call, through_frame};
 use hist_plain::{Bytes, MAX_PAGES, Op, fits};
 use marshal_buf::Buf;
 use pager_channel::{Frame, FrameWhy, Ops, put_frame, read_frame};
 use std::alloc::{AllocError, Global};
+use trial_words::say;
 
 /// The bytes of a case.
 #[derive(Drop)]

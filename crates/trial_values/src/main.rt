@@ -19,13 +19,13 @@ use crate::buffer::Buffer;
 use crate::doors::Doors;
 use crate::frame::Frames;
 use crate::names::NameCase;
-use crate::say::say;
 use crate::space::SpaceCase;
 use crate::value::Values;
 use std::alloc::{AllocError, Global};
 use std::io;
 use std::process::ExitCode;
 use trial_cases::{Trial, run_trial};
+use trial_words::say;
 
 /// What the steps of a case have made so far.
 #[derive(Drop)]

@@ -5,7 +5,7 @@ ghost use Rattle.std.specs.Option.{option_copied};
 ghost use Rattle.name_context.specs.Names.{HasParts};
 ghost use Rattle.name_context.specs.History.{IsPathOf};
 
-use crate::say::{count_of, say, say_door, say_hex, small_of};
+use crate::say::{count_of, say_door, say_hex, small_of};
 use crate::stack::mounted;
 use client_objects::start_names;
 use hist_lock::Storied;
@@ -14,6 +14,7 @@ use name_context::{MAX_PARTS, NameCall, NameErr, Names, Stored};
 use seen_values::{Path, Text};
 use spr_report::put_names;
 use std::alloc::{AllocError, Global};
+use trial_words::say;
 
 /// The names of a case.
 #[derive(Drop)]

@@ -3,7 +3,7 @@
 ghost use Rattle.std.specs.Prelude.{◌≡◌, ◌==◌, if◌then◌else◌};
 ghost use Rattle.sub_core.specs.declared.shape.Form.TheVariants.{Tagged, Managed};
 
-use crate::say::{bytes_of, door_of, say, say_door, say_hex, short_of, small_of};
+use crate::say::{bytes_of, door_of, say_door, say_hex, short_of, small_of};
 use domain_doors::{Domain, NoDoor};
 use marshal_buf::{Buf, Reader};
 use seen_values::Text;
@@ -12,6 +12,7 @@ use sub_core::{
     Form, Object, ObjectErr, Registry, consume_held, copy_held, marshal_as, name_of, read_fields,
     unmarshal_any, unmarshal_as,
 };
+use trial_words::say;
 
 /// A registry of two subcontracts: 7, whose objects are tagged, and 8, whose objects name a manager.
 struct Both;

@@ -3,23 +3,7 @@
 use marshal_buf::Door;
 use std::alloc::{AllocError, Global};
 use text_words::hex_bytes;
-
-/// Appends a line.
-pub fn say(answer: &mut String, line: &str) -> Result<(), AllocError> {
-    answer.push_str(line)?;
-    answer.push('\n')
-}
-
-/// Appends bytes as text.
-pub fn say_bytes(alloc: Global, answer: &mut String, bytes: &[u8]) -> Result<(), AllocError> {
-    let text = String::from_utf8_lossy(alloc, bytes)?;
-    answer.push_str(text.as_str())
-}
-
-/// Appends `yes` or `no`.
-pub fn say_whether(answer: &mut String, is: bool) -> Result<(), AllocError> {
-    say(answer, if is { "yes" } else { "no" })
-}
+use trial_words::say;
 
 /// Appends a line of bytes in hex; `''` stands for none.
 pub fn say_hex(answer: &mut String, bytes: &[u8]) -> Result<(), AllocError> {

@@ -2,7 +2,7 @@
 
 ghost use Rattle.std.specs.Prelude.{◌≡◌, ◌<◌, ◌≤◌, length};
 
-use crate::say::{count_of, say, small_of};
+use crate::say::{count_of, small_of};
 use crate::stack::{is_view, mounted};
 use memory_object::{CacheRights, MemoryObject};
 use run_defs::{disk_name, file_name, file_named, pages_of, view_of};
@@ -10,6 +10,7 @@ use seen_values::Text;
 use stack_accept::Mounted;
 use std::alloc::{AllocError, Global};
 use tower_core::Right;
+use trial_words::say;
 use vmm_space::{MAX_ADDRESS, Place, Space, SpaceErr};
 
 /// A space over one file or more.

@@ -5,13 +5,14 @@ ghost use Rattle.idl_reader.specs.Grammar.{AreDecls};
 ghost use Rattle.idl_reader.specs.Tree.{idl_tree};
 
 use crate::built::{type_of, value_of};
-use crate::say::{byte_of, bytes_of, count_of, say, say_again, say_hex, say_whether};
+use crate::say::{byte_of, bytes_of, count_of, say_again, say_hex};
 use idl_check::check;
 use idl_reader::{Idl, IdlRefused, IdlType, IdlWhy, read_idl};
 use idl_tables::{TableSet, tables};
 use marshal_buf::Buf;
 use marshal_value::{BadValue, Value, ValueWhy, declares, fits, get_value, is_value_of, put_value};
 use std::alloc::{AllocError, Global};
+use trial_words::{say, say_whether};
 
 /// The interfaces of a case, and bytes that may be a value's.
 #[derive(Drop)]

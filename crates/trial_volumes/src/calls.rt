@@ -4,7 +4,8 @@
 
 use hist_plain::{Keep, Op};
 use std::alloc::Global;
-use trial_parts::{Halt, access_of, keep_of, lived, number};
+use trial_parts::{access_of, keep_of, lived};
+use trial_words::{Halt, number};
 
 /// What is called.
 #[derive(Drop)]

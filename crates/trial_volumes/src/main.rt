@@ -8,7 +8,6 @@ mod names;
 mod open;
 mod shared;
 mod stack;
-mod trees;
 mod trial;
 mod volume;
 

@@ -16,7 +16,8 @@ use seen_values::{Path, Text};
 use spr_volume::{Pass, Volume};
 use std::alloc::{AllocError, Global};
 use std::sync::Wait;
-use trial_parts::{Halt, Ram};
+use trial_parts::Ram;
+use trial_words::Halt;
 
 /// The path of a word; `/` is the root.
 fn path_of(alloc: Global, word: &str) -> Result<Option<Path>, Halt>
@@ -63,38 +64,9 @@ fn put_object(found: &Result<Buf, NameErr>, answer: &mut String) -> Result<(), A
     }
 }
 
-/// A caller's list of the root.
-fn list_root<R: Wait>(
-    rt: &R,
-    volume: &Volume<Ram>,
-    pass: &mut Pass<Ram>,
-    caller: u32,
-    answer: &mut String,
-) -> Result<(), AllocError>
-    requires pass { IsOf volume.now pass.old }
-    requires caller { (pass.old.first ≤ caller) × (caller < pass.old.end) }
-    ensures pass { IsFor volume.now pass.old.first pass.old.end pass.new }
-{
-    let listed = volume.list(rt, pass, caller, None);
-    put_names(&listed, answer)
-}
-
-/// A caller binds an object of no bytes.
-fn bind<R: Wait>(
-    rt: &R,
-    alloc: Global,
-    volume: &Volume<Ram>,
-    pass: &mut Pass<Ram>,
-    caller: u32,
-    path: &Path,
-    answer: &mut String,
-) -> Result<(), AllocError>
-    requires pass { IsOf volume.now pass.old }
-    requires caller { (pass.old.first ≤ caller) × (caller < pass.old.end) }
-    requires path { HasParts path.now }
-    ensures pass { IsFor volume.now pass.old.first pass.old.end pass.new }
-{
-    match volume.bind(rt, pass, caller, path, Buf::new(alloc)) {
+/// Appends how a bind ended.
+fn put_bound(end: Result<(), (NameErr, Buf)>, answer: &mut String) -> Result<(), AllocError> {
+    match end {
         Ok(()) => answer.push_str("done\n"),
         Err((why, _object)) => writeln!(answer, "{why}"),
     }
@@ -118,7 +90,7 @@ fn call_at<R: Wait>(
 {
     match call {
         "context" => put_end(&volume.context(rt, pass, caller, path), answer)?,
-        "bind" => bind(rt, alloc, volume, pass, caller, path, answer)?,
+        "bind" => put_bound(volume.bind(rt, pass, caller, path, Buf::new(alloc)), answer)?,
         "resolve" => put_object(&volume.resolve(rt, pass, caller, path), answer)?,
         "unbind" => put_end(&volume.unbind(rt, pass, caller, path), answer)?,
         "list" => put_names(&volume.list(rt, pass, caller, Some(path)), answer)?,
@@ -144,7 +116,7 @@ pub fn names_call<R: Wait>(
 {
     match path_of(alloc, path)? {
         Some(path) => call_at(rt, alloc, volume, pass, caller, call, &path, answer),
-        None if call == "list" => Ok(list_root(rt, volume, pass, caller, answer)?),
+        None if call == "list" => Ok(put_names(&volume.list(rt, pass, caller, None), answer)?),
         None => Err(Halt::Impossible),
     }
 }

@@ -8,7 +8,8 @@ use name_context::Names;
 use spr_volume::{Pass, Volume};
 use stack_engine::Tower;
 use std::alloc::{AllocError, Global};
-use trial_parts::{Halt, Ram, tower_of};
+use trial_parts::{Ram, tower_of};
+use trial_words::Halt;
 
 /// Files that are alike: how many, how many nodes each has, and how many pages.
 #[derive(Clone, Copy)]

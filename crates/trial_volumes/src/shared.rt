@@ -12,9 +12,8 @@ use page_messages::PagedFile;
 use spr_volume::SharedTower;
 use stack_engine::{Moved, StepErr};
 use std::alloc::Global;
-use trial_parts::{
-    Halt, Ram, asked, first_bytes, pages_and_tree, put_hex, put_moved, refused_write, tower_of,
-};
+use trial_parts::{Ram, asked, first_bytes, pages_and_tree, put_moved, refused_write, tower_of};
+use trial_words::{Halt, put_hex};
 
 /// A tower that callers share.
 type Shared = SharedTower<Ram>;

@@ -6,7 +6,6 @@ ghost use Rattle.spr_client.specs.Calls.{AreOfStack};
 ghost use Rattle.spr_client.specs.Lines.{AreCalls, IsCallOf};
 ghost use Rattle.trial_volumes.specs.Alike.{IsFor};
 
-use crate::trees::copy_tree;
 use client_objects::start_names;
 use run_defs::{file_named, view_of};
 use script_text::{Call, CallLine, Sub, parse_script};
@@ -16,7 +15,8 @@ use stack_accept::{Mounted, accept};
 use stack_engine::Tower;
 use stack_text::parse_stack;
 use std::alloc::Global;
-use trial_parts::{Halt, Ram, SIZE, tower_over};
+use trial_parts::{Ram, SIZE, copy_tree, tower_over};
+use trial_words::Halt;
 use vmm_space::MAX_ADDRESS;
 
 /// The mounted stack of a text.

@@ -7,7 +7,7 @@ use stack_engine::Trail;
 use std::alloc::{AllocError, Global};
 use std::sync::Wait;
 use trial_cases::Trial;
-use trial_parts::Halt;
+use trial_words::{Halt, end_step};
 
 /// The trial of volumes.
 #[derive(Drop)]
@@ -59,11 +59,6 @@ impl<'r, R: Wait> Trial for Volumes<'r, R> {
     }
 
     fn step(&mut self, words: &[&str], body: &[u8], answer: &mut String) -> Result<(), AllocError> {
-        match self.done(words, body, answer) {
-            Ok(()) => Ok(()),
-            Err(Halt::Memory) => Err(AllocError),
-            Err(Halt::Unread) => answer.push_str("no such step\n"),
-            Err(Halt::Impossible) => answer.push_str("impossible\n"),
-        }
+        end_step(self.done(words, body, answer), answer)
     }
 }

@@ -7,14 +7,14 @@ use crate::calls::{Act, Call, call_of};
 use crate::lines::{text_of, words_of};
 use crate::names::{names_call, put_history};
 use crate::open::{Alike, mounted};
-use hist_plain::{Op, fits};
+use hist_plain::{Op, OpenGate, fits};
 use name_context::Names;
-use spr_io::OpenGate;
 use spr_volume::{Answered, CallErr, Pass, Volume};
 use stack_engine::Tower;
 use std::alloc::Global;
 use std::sync::Wait;
-use trial_parts::{Halt, Ram, SIZE, asked, number, pages_and_tree, put_given, tree_of};
+use trial_parts::{Ram, SIZE, asked, pages_and_tree, put_given, tree_of};
+use trial_words::{Halt, number};
 
 /// The callers from `first` up to `end`, which is not among them.
 #[derive(Clone, Copy)]
@@ -153,27 +153,6 @@ fn do_line<R: Wait>(
     file_call(rt, alloc, volume, pass, callers, alike, &call, answer)
 }
 
-/// Does lines of the callers of one pass.
-fn do_together<R: Wait>(
-    rt: &R,
-    alloc: Global,
-    volume: &Volume<Ram>,
-    pass: &mut Pass<Ram>,
-    callers: Callers,
-    alike: Alike,
-    lines: &[&str],
-    answer: &mut String,
-) -> Result<(), Halt>
-    requires alike { AreLike alike volume.now }
-    requires pass { IsFor volume.now callers.first callers.end pass.old }
-    ensures pass { IsFor volume.now callers.first callers.end pass.new }
-{
-    for line in lines {
-        do_line(rt, alloc, volume, pass, callers, alike, line, answer)?;
-    }
-    Ok(())
-}
-
 /// Does lines where caller 0 has a pass of its own, and the callers from 1 up to `end` have another.
 fn do_apart<R: Wait>(
     rt: &R,
@@ -268,7 +247,10 @@ fn do_lines<R: Wait>(
     let callers = Callers { first: 0, end };
     let (apart, together) = parts_of(lines);
     do_divided(rt, alloc, volume, pass, end, alike, apart, answer)?;
-    do_together(rt, alloc, volume, pass, callers, alike, together, answer)
+    for line in together {
+        do_line(rt, alloc, volume, pass, callers, alike, line, answer)?;
+    }
+    Ok(())
 }
 
 /// Does the lines at a fresh volume, and tells at last what is left.

@@ -1,24 +1,8 @@
-//! Why a step has no answer, and the numbers and bytes among a step's words.
+//! Numbers and bytes in words.
 
+use crate::halt::Halt;
 use hex::FromHexError;
-use std::alloc::{AllocError, Global};
-
-/// Why a step has no answer.
-#[derive(Clone, Copy, Debug, Drop)]
-pub enum Halt {
-    /// Memory ran out.
-    Memory,
-    /// The words say no step of this subject.
-    Unread,
-    /// What the call requires does not hold.
-    Impossible,
-}
-
-impl From<AllocError> for Halt {
-    fn from(_: AllocError) -> Halt {
-        Halt::Memory
-    }
-}
+use std::alloc::Global;
 
 /// The number of a word.
 pub fn number(word: &str) -> Result<u32, Halt> {
@@ -30,7 +14,12 @@ pub fn long(word: &str) -> Result<u64, Halt> {
     word.parse::<u64>().map_err(|_| Halt::Unread)
 }
 
-/// The bytes of a word in hex.
+/// The byte that a word says in hexadecimal.
+pub fn byte(word: &str) -> Result<u8, Halt> {
+    u8::from_str_radix(word, 16).map_err(|_| Halt::Unread)
+}
+
+/// The bytes of a word in hexadecimal.
 pub fn bytes(alloc: Global, word: &str) -> Result<Vec<u8>, Halt> {
     match hex::decode(alloc, word) {
         Ok(bytes) => Ok(bytes),
@@ -48,9 +37,19 @@ pub fn numbers(alloc: Global, words: &[&str]) -> Result<Vec<u32>, Halt> {
     Ok(numbers)
 }
 
-/// Appends bytes in hex.
+/// Appends bytes in hexadecimal.
 pub fn put_hex(alloc: Global, bytes: &[u8], answer: &mut String) -> Result<(), Halt> {
     let text = hex::encode(alloc, bytes)?;
     answer.push_str(text.as_str())?;
     Ok(())
+}
+
+/// The numbers of two words.
+pub fn two(first: &str, second: &str) -> Result<(u32, u32), Halt> {
+    Ok((number(first)?, number(second)?))
+}
+
+/// The numbers of three words.
+pub fn three(first: &str, second: &str, third: &str) -> Result<(u32, u32, u32), Halt> {
+    Ok((number(first)?, number(second)?, number(third)?))
 }

@@ -11,11 +11,12 @@ ghost use Rattle.page_exchange.specs.Ground.{IsUnder};
 
 use crate::layers::right_word;
 use coherency_layer::{Asked, Called, Node};
-use disk_layer::Ground;
 use page_exchange::{GroundErr, Table, Wire};
+use page_ground::Ground;
 use std::alloc::{AllocError, Global};
 use tower_core::Right;
-use trial_parts::{Halt, Ram, bytes, disk, first_bytes, operations, put_hex, refused_write};
+use trial_parts::{Ram, Subject, disk, first_bytes, operations, refused_write};
+use trial_words::{Halt, bytes, put_hex};
 use vmm_cache::Leaf;
 
 /// The layer and the leaf below it, the disk, and the wire.
@@ -138,83 +139,108 @@ fn write_first(table: &mut Table, new: &[u8]) -> Result<(), Halt> {
     Ok(())
 }
 
-impl Exchanged {
-    /// The nodes, of which nobody has anything, over a fresh disk: nothing, or `write N refused,`.
-    pub fn new(alloc: Global, words: &[&str]) -> Result<Exchanged, Halt> {
-        let (fails_at, _rest) = refused_write(words)?;
-        Ok(Exchanged {
-            layer: Table::Layer {
-                node: Node::new(alloc, 64, 2, &[2], 0)?,
-            },
-            leaf: Table::Leaf {
-                leaf: Leaf::new(alloc, 64, 2, 1, 0)?,
-            },
-            ground: disk(alloc, 7, 2, fails_at)?,
-            wire: Wire::new(alloc, operations())?,
-        })
+/// Whether the node may ask this about page 0; of the questions those alone that the cases need.
+fn may_ask(table: &Table, what: Asked) -> bool
+    requires { 0 < (file_of table.now).pages }
+    ensures { IsTrue result → MayAskAbout table.now what 0 }
+{
+    match what {
+        Asked::PageInWrite => may_get(table),
+        Asked::Sync => may_sync(table),
+        _ => false,
     }
+}
 
+impl Exchanged {
     /// The layer asks the disk.
-    fn asks_ground(&mut self, what: Asked) -> Result<Result<(), GroundErr>, Halt> {
-        if !is_under(&self.ground, &self.layer) {
-            return Err(Halt::Impossible);
-        }
-        let may = match what {
-            Asked::PageInWrite => may_get(&self.layer),
-            Asked::Sync => may_sync(&self.layer),
-            _ => false,
-        };
-        if !may {
+    fn ask(&mut self, what: Asked, answer: &mut String) -> Result<(), Halt> {
+        let (layer, ground) = (&mut self.layer, &mut self.ground);
+        if !is_under(ground, layer) || !may_ask(layer, what) {
             return Err(Halt::Impossible);
         }
         let mut scratch = [0u8; 64];
-        Ok(
-            self.wire
-                .ask_ground(&mut self.layer, &mut self.ground, what, 0, &mut scratch),
-        )
+        let asked = self.wire.ask_ground(layer, ground, what, 0, &mut scratch);
+        Ok(put_ground(asked, answer)?)
     }
 
     /// The disk orders the layer not to write page 0.
-    fn denied_by_ground(&mut self) -> Result<Result<(), GroundErr>, Halt> {
-        if !is_under(&self.ground, &self.layer) || !may_deny(&self.layer) {
+    fn deny(&mut self, answer: &mut String) -> Result<(), Halt> {
+        let (layer, ground) = (&mut self.layer, &mut self.ground);
+        if !is_under(ground, layer) || !may_deny(layer) {
             return Err(Halt::Impossible);
         }
-        match self
+        let denied = self
             .wire
-            .order_by_ground(&mut self.layer, &mut self.ground, Called::DenyWrites, 0)
-        {
-            Ok(()) => Ok(Ok(())),
-            Err(fault) => Ok(Err(GroundErr::Store(fault))),
-        }
+            .order_by_ground(layer, ground, Called::DenyWrites, 0)
+            .map_err(GroundErr::Store);
+        Ok(put_ground(denied, answer)?)
     }
 
-    /// A step of the layer and the leaf.
-    fn pair_step(&mut self, words: &[&str]) -> Result<(), Halt> {
+    /// The leaf asks the layer, or is ordered by it.
+    fn pair(&mut self, word: &str) -> Result<(), Halt> {
         let Table::Layer { node } = &mut self.layer else {
             return Err(Halt::Impossible);
         };
-        match words {
-            ["leaf", "gets"] => leaf_gets(&mut self.wire, &mut self.leaf, node),
-            ["leaf", "denied"] => leaf_denied(&mut self.wire, &mut self.leaf, node),
+        match word {
+            "gets" => leaf_gets(&mut self.wire, &mut self.leaf, node),
+            "denied" => leaf_denied(&mut self.wire, &mut self.leaf, node),
             _ => Err(Halt::Unread),
         }
     }
 
-    /// Does a step.
-    pub fn step(&mut self, alloc: Global, words: &[&str], answer: &mut String) -> Result<(), Halt> {
+    /// Appends the first bytes of page 0 on the disk.
+    fn put_disk(&mut self, alloc: Global, answer: &mut String) -> Result<(), Halt> {
+        put_hex(alloc, &first_bytes(&mut self.ground, 0)?, answer)?;
+        Ok(answer.push('\n')?)
+    }
+}
+
+/// A layer that has nothing.
+fn fresh_layer(alloc: Global) -> Result<Table, AllocError> {
+    let node = Node::new(alloc, 64, 2, &[2], 0)?;
+    Ok(Table::Layer { node })
+}
+
+/// A leaf that has nothing.
+fn fresh_leaf(alloc: Global) -> Result<Table, AllocError> {
+    let leaf = Leaf::new(alloc, 64, 2, 1, 0)?;
+    Ok(Table::Leaf { leaf })
+}
+
+/// The nodes, of which nobody has anything, over a fresh disk that refuses one write; 0 is none.
+fn fresh(alloc: Global, fails_at: u64) -> Result<Exchanged, Halt> {
+    let wire = Wire::new(alloc, operations())?;
+    let ground = disk(alloc, 7, 2, fails_at)?;
+    let layer = fresh_layer(alloc)?;
+    let leaf = fresh_leaf(alloc)?;
+    Ok(Exchanged {
+        layer,
+        leaf,
+        ground,
+        wire,
+    })
+}
+
+impl Subject for Exchanged {
+    fn make(alloc: Global, words: &[&str]) -> Result<Exchanged, Halt> {
+        let ["exchange", rest @ ..] = words else {
+            return Err(Halt::Unread);
+        };
+        fresh(alloc, refused_write(rest)?.0)
+    }
+
+    fn step(&mut self, alloc: Global, words: &[&str], answer: &mut String) -> Result<(), Halt> {
         match words {
-            ["layer", "gets"] => Ok(put_ground(self.asks_ground(Asked::PageInWrite)?, answer)?),
-            ["layer", "syncs"] => Ok(put_ground(self.asks_ground(Asked::Sync)?, answer)?),
-            ["layer", "denied"] => Ok(put_ground(self.denied_by_ground()?, answer)?),
+            ["layer", "gets"] => self.ask(Asked::PageInWrite, answer),
+            ["layer", "syncs"] => self.ask(Asked::Sync, answer),
+            ["layer", "denied"] => self.deny(answer),
             ["layer", "has"] => put_page(alloc, &self.layer, answer),
             ["leaf", "has"] => put_page(alloc, &self.leaf, answer),
             ["layer", "writes", word] => write_first(&mut self.layer, &bytes(alloc, word)?),
             ["leaf", "writes", word] => write_first(&mut self.leaf, &bytes(alloc, word)?),
-            ["disk"] => {
-                put_hex(alloc, &first_bytes(&mut self.ground, 0)?, answer)?;
-                Ok(answer.push('\n')?)
-            }
-            _ => self.pair_step(words),
+            ["leaf", word] => self.pair(word),
+            ["disk"] => self.put_disk(alloc, answer),
+            _ => Err(Halt::Unread),
         }
     }
 }

@@ -4,8 +4,9 @@ use page_messages::{
     Answer, Asked, Called, Message, answer_in, asked_in, called_in, first_in, reply_in, second_in,
 };
 use pager_channel::{Frame, Ops, read_frame};
-use std::alloc::AllocError;
-use trial_parts::{Halt, number, operations};
+use std::alloc::{AllocError, Global};
+use trial_parts::{Subject, operations};
+use trial_words::{Halt, number};
 
 /// The word of a question.
 fn asked_word(what: Asked) -> &'static str {
@@ -117,24 +118,45 @@ fn byte(word: &str) -> Result<u8, Halt> {
     }
 }
 
-/// Does a step: `first OPERATION RIGHT FLAGS` or `second OPERATION RIGHT FLAGS`, of a frame of size 0.
-pub fn frames_step(words: &[&str], answer: &mut String) -> Result<(), Halt> {
-    let [which, operation, access, flags] = words else {
-        return Err(Halt::Unread);
-    };
+/// The bytes of a head of an operation, a right and flags, of size 0.
+fn head_of(operation: &str, access: &str, flags: &str) -> Result<[u8; 24], Halt> {
     let mut head = [0u8; 24];
     head[1] = 2;
     head[3] = byte(operation)?;
     head[20] = byte(access)?;
     head[21] = byte(flags)?;
-    let ops = operations();
-    let frame = match read_frame(&ops, &head) {
-        Ok(frame) => frame,
-        Err(err) => return Ok(writeln!(answer, "{err}")?),
-    };
-    match *which {
-        "first" => Ok(put_first(&frame, answer)?),
-        "second" => Ok(put_second(&frame, answer)?),
+    Ok(head)
+}
+
+/// Appends what a frame is as the first or as the second one.
+fn put_frame(which: &str, frame: &Frame<'_>, answer: &mut String) -> Result<(), Halt> {
+    match which {
+        "first" => Ok(put_first(frame, answer)?),
+        "second" => Ok(put_second(frame, answer)?),
         _ => Err(Halt::Unread),
+    }
+}
+
+/// The frames that a node hears.
+#[derive(Drop)]
+pub struct Heard;
+
+impl Subject for Heard {
+    fn make(_alloc: Global, words: &[&str]) -> Result<Heard, Halt> {
+        match words {
+            ["frames"] => Ok(Heard),
+            _ => Err(Halt::Unread),
+        }
+    }
+
+    fn step(&mut self, _alloc: Global, words: &[&str], answer: &mut String) -> Result<(), Halt> {
+        let [which, operation, access, flags] = words else {
+            return Err(Halt::Unread);
+        };
+        let head = head_of(operation, access, flags)?;
+        match read_frame(&operations(), &head) {
+            Ok(frame) => put_frame(which, &frame, answer),
+            Err(err) => Ok(writeln!(answer, "{err}")?),
+        }
     }
 }

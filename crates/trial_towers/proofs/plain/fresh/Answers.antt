@@ -1,5 +1,5 @@
 use Rattle.std.proofs.Common.{refl, arith}
-use Rattle.trial_towers.proofs.plain.PlainFile.new.Goals as goal
+use Rattle.trial_towers.proofs.plain.fresh.Goals as goal
 
 pub new-requires-clause-size : goal.new-requires-clause-size
 new-requires-clause-size c = (6, omega arith, omega arith, refl)

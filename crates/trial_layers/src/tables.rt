@@ -15,13 +15,12 @@ ghost use Rattle.page_exchange.specs.Tables.{IsUnderFile, MayAskFrames, paged_of
 use crate::exchange::put_ground;
 use crate::layers::right_word;
 use coherency_layer::{Asked, Called};
-use disk_layer::Ground;
 use page_exchange::{GroundErr, Tables};
+use page_ground::Ground;
 use std::alloc::{AllocError, Global};
 use tower_core::{Right, Tree};
-use trial_parts::{
-    Halt, Ram, bytes, disk, file_of, first_bytes, number, operations, put_hex, refused_write,
-};
+use trial_parts::{Ram, Subject, disk, file_of, first_bytes, operations, refused_write};
+use trial_words::{Halt, bytes, number, put_hex};
 
 /// The page that the nodes share.
 const PAGE: u32 = 1;
@@ -180,64 +179,69 @@ fn put_held(alloc: Global, tables: &Tables, node: u32, answer: &mut String) -> R
 }
 
 impl Shared {
-    /// The tables, of which nobody has anything, over a fresh disk: nothing, or `write N refused,`.
-    pub fn new(alloc: Global, words: &[&str]) -> Result<Shared, Halt> {
-        let (fails_at, _rest) = refused_write(words)?;
-        Ok(Shared {
-            tables: tables(alloc)?,
-            ground: disk(alloc, 7, 2, fails_at)?,
-        })
-    }
-
     /// A node asks for the page.
-    fn get(&mut self, node: u32, write: bool) -> Result<Result<(), GroundErr>, Halt> {
+    fn get(&mut self, node: u32, write: bool, answer: &mut String) -> Result<(), Halt> {
         let (tables, ground) = (&mut self.tables, &mut self.ground);
         if !is_under(ground, tables) || !is_upper(tables, node) || !may_get(tables, node, write) {
             return Err(Halt::Impossible);
         }
-        if write {
-            Ok(tables.ask(ground, node, Asked::PageInWrite, PAGE))
+        let asked = if write {
+            tables.ask(ground, node, Asked::PageInWrite, PAGE)
         } else {
-            Ok(tables.ask(ground, node, Asked::PageInRead, PAGE))
-        }
+            tables.ask(ground, node, Asked::PageInRead, PAGE)
+        };
+        Ok(put_ground(asked, answer)?)
     }
 
     /// A node on the ground brings the page to the ground.
-    fn sync(&mut self, node: u32) -> Result<Result<(), GroundErr>, Halt> {
+    fn sync(&mut self, node: u32, answer: &mut String) -> Result<(), Halt> {
         let (tables, ground) = (&mut self.tables, &mut self.ground);
         if !is_under(ground, tables) || !is_upper(tables, node) || !may_sync(tables, node) {
             return Err(Halt::Impossible);
         }
-        Ok(tables.ask(ground, node, Asked::Sync, PAGE))
+        let asked = tables.ask(ground, node, Asked::Sync, PAGE);
+        Ok(put_ground(asked, answer)?)
     }
 
     /// A node is ordered not to write the page.
-    fn deny(&mut self, node: u32) -> Result<Result<(), GroundErr>, Halt> {
+    fn deny(&mut self, node: u32, answer: &mut String) -> Result<(), Halt> {
         let (tables, ground) = (&mut self.tables, &mut self.ground);
         if !is_under(ground, tables) || !is_upper(tables, node) || !may_deny(tables, node) {
             return Err(Halt::Impossible);
         }
-        match tables.order(ground, node, Called::DenyWrites, PAGE) {
-            Ok(()) => Ok(Ok(())),
-            Err(fault) => Ok(Err(GroundErr::Store(fault))),
-        }
+        let denied = tables
+            .order(ground, node, Called::DenyWrites, PAGE)
+            .map_err(GroundErr::Store);
+        Ok(put_ground(denied, answer)?)
     }
 
-    /// A node writes the first bytes of the page, or makes it zeros.
-    fn write(&mut self, node: u32, new: Option<&[u8]>) -> Result<(), Halt> {
-        let (tables, ground) = (&mut self.tables, &mut self.ground);
-        if !is_under(ground, tables) || !is_upper(tables, node) || !may_write(tables, node) {
+    /// Whether a node may write the page.
+    fn may_write(&self, node: u32) -> bool
+        ensures upper { IsTrue result → IsUpper (tree_of self.now.tables) node }
+        ensures writes { IsTrue result → AllowsWriting (sides self.now.tables PAGE node) }
+        ensures size { IsTrue result → (paged_of self.now.tables).page_size ≡ 64 }
+        ensures pages { IsTrue result → (paged_of self.now.tables).pages ≡ 2 }
+    {
+        is_under(&self.ground, &self.tables)
+            && is_upper(&self.tables, node)
+            && may_write(&self.tables, node)
+    }
+
+    /// A node writes the first bytes of the page.
+    fn write(&mut self, node: u32, new: &[u8]) -> Result<(), Halt> {
+        if new.len() > 64 || !self.may_write(node) {
             return Err(Halt::Impossible);
         }
-        match new {
-            Some(new) => {
-                if new.len() > 64 {
-                    return Err(Halt::Impossible);
-                }
-                tables.change(node, PAGE, 0, new);
-            }
-            None => tables.blank(node, PAGE),
+        self.tables.change(node, PAGE, 0, new);
+        Ok(())
+    }
+
+    /// A node makes the page zeros.
+    fn blank(&mut self, node: u32) -> Result<(), Halt> {
+        if !self.may_write(node) {
+            return Err(Halt::Impossible);
         }
+        self.tables.blank(node, PAGE);
         Ok(())
     }
 
@@ -253,24 +257,56 @@ impl Shared {
         Ok(answer.push('\n')?)
     }
 
-    /// Does a step; each message is answered with what the nodes have then.
-    pub fn step(&mut self, alloc: Global, words: &[&str], answer: &mut String) -> Result<(), Halt> {
+    /// Appends the first bytes of the page on the disk.
+    fn put_disk(&mut self, alloc: Global, answer: &mut String) -> Result<(), Halt> {
+        put_hex(alloc, &first_bytes(&mut self.ground, PAGE)?, answer)?;
+        Ok(answer.push('\n')?)
+    }
+
+    /// A node does what the words say.
+    fn act(
+        &mut self,
+        alloc: Global,
+        node: u32,
+        words: &[&str],
+        answer: &mut String,
+    ) -> Result<(), Halt> {
         match words {
-            ["disk"] => {
-                put_hex(alloc, &first_bytes(&mut self.ground, PAGE)?, answer)?;
-                return Ok(answer.push('\n')?);
-            }
-            [node, "gets", "write"] => put_ground(self.get(number(node)?, true)?, answer)?,
-            [node, "gets", "read"] => put_ground(self.get(number(node)?, false)?, answer)?,
-            [node, "syncs"] => put_ground(self.sync(number(node)?)?, answer)?,
-            [node, "denied"] => put_ground(self.deny(number(node)?)?, answer)?,
-            [node, "writes", word] => {
-                let new = bytes(alloc, word)?;
-                self.write(number(node)?, Some(&new))?;
-            }
-            [node, "blanks"] => self.write(number(node)?, None)?,
-            _ => return Err(Halt::Unread),
+            ["gets", "write"] => self.get(node, true, answer),
+            ["gets", "read"] => self.get(node, false, answer),
+            ["syncs"] => self.sync(node, answer),
+            ["denied"] => self.deny(node, answer),
+            ["writes", word] => self.write(node, &bytes(alloc, word)?),
+            ["blanks"] => self.blank(node),
+            _ => Err(Halt::Unread),
         }
-        self.put_all(alloc, answer)
+    }
+}
+
+/// The tables, of which nobody has anything, over a fresh disk that refuses one write; 0 is none.
+fn fresh(alloc: Global, fails_at: u64) -> Result<Shared, Halt> {
+    Ok(Shared {
+        tables: tables(alloc)?,
+        ground: disk(alloc, 7, 2, fails_at)?,
+    })
+}
+
+impl Subject for Shared {
+    fn make(alloc: Global, words: &[&str]) -> Result<Shared, Halt> {
+        let ["tables", rest @ ..] = words else {
+            return Err(Halt::Unread);
+        };
+        fresh(alloc, refused_write(rest)?.0)
+    }
+
+    fn step(&mut self, alloc: Global, words: &[&str], answer: &mut String) -> Result<(), Halt> {
+        match words {
+            ["disk"] => self.put_disk(alloc, answer),
+            [node, rest @ ..] => {
+                self.act(alloc, number(node)?, rest, answer)?;
+                self.put_all(alloc, answer)
+            }
+            [] => Err(Halt::Unread),
+        }
     }
 }

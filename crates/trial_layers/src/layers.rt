@@ -10,7 +10,8 @@ use marshal_buf::Buf;
 use pager_channel::{Frame, Ops, read_frame};
 use std::alloc::{AllocError, Global};
 use tower_core::Right;
-use trial_parts::{Halt, bytes, number, operations, put_hex};
+use trial_parts::{Subject, operations};
+use trial_words::{Halt, bytes, number, put_hex, say, three, two};
 
 /// The two nodes: the layer, and its parent, whose child is node 2. The first frame is a question or an order, and the second
 /// its answer.
@@ -155,6 +156,24 @@ fn finish(
     Ok(put_taken(Ok(()), answer)?)
 }
 
+/// A node asks its pager.
+fn asks(node: &Node, what: Asked, page: u32, first: &mut Buf) -> Result<(), Halt> {
+    if !may_ask(node, what, page) {
+        return Err(Halt::Impossible);
+    }
+    first.clear();
+    Ok(node.ask(&operations(), what, page, first)?)
+}
+
+/// A node orders a child.
+fn orders(node: &Node, child: u32, what: Called, page: u32, first: &mut Buf) -> Result<(), Halt> {
+    if !may_call(node, child, what, page) {
+        return Err(Halt::Impossible);
+    }
+    first.clear();
+    Ok(node.make_callback(&operations(), child, what, page, first)?)
+}
+
 /// A step that writes a first frame.
 fn first_step(
     alloc: Global,
@@ -163,21 +182,11 @@ fn first_step(
     words: &[&str],
     answer: &mut String,
 ) -> Result<(), Halt> {
-    first.clear();
     match words {
-        ["asks", what, page] => {
-            let (what, page) = (asked_of(what)?, number(page)?);
-            if !may_ask(node, what, page) {
-                return Err(Halt::Impossible);
-            }
-            node.ask(&operations(), what, page, first)?;
-        }
+        ["asks", what, page] => asks(node, asked_of(what)?, number(page)?, first)?,
         ["orders", child, what, page] => {
-            let (child, what, page) = (number(child)?, called_of(what)?, number(page)?);
-            if !may_call(node, child, what, page) {
-                return Err(Halt::Impossible);
-            }
-            node.make_callback(&operations(), child, what, page, first)?;
+            let (child, page) = two(child, page)?;
+            orders(node, child, called_of(what)?, page, first)?;
         }
         _ => return Err(Halt::Unread),
     }
@@ -235,6 +244,43 @@ fn judges(
     Ok(put_taken(served, answer)?)
 }
 
+/// A node writes bytes into a page.
+fn change(node: &mut Node, page: u32, off: u32, new: &[u8]) -> Result<(), Halt> {
+    let file = node.file();
+    let end = (off as usize).saturating_add(new.len());
+    if page >= file.pages || end > file.page_size as usize || !node.may_write(page) {
+        return Err(Halt::Impossible);
+    }
+    node.change(page, off, new);
+    Ok(())
+}
+
+/// A node makes a page zeros.
+fn blank(node: &mut Node, page: u32) -> Result<(), Halt> {
+    if page >= node.file().pages || !node.may_write(page) {
+        return Err(Halt::Impossible);
+    }
+    node.blank(page);
+    Ok(())
+}
+
+/// Appends bytes of a page that a node reads.
+fn put_read(
+    alloc: Global,
+    node: &Node,
+    page: u32,
+    off: u32,
+    len: u32,
+    answer: &mut String,
+) -> Result<(), Halt> {
+    let file = node.file();
+    if page >= file.pages || off.saturating_add(len) > file.page_size || !node.may_read(page) {
+        return Err(Halt::Impossible);
+    }
+    put_hex(alloc, node.lend(page, off, len), answer)?;
+    Ok(answer.push('\n')?)
+}
+
 /// A node's own access.
 fn access_step(
     alloc: Global,
@@ -242,64 +288,53 @@ fn access_step(
     words: &[&str],
     answer: &mut String,
 ) -> Result<(), Halt> {
-    let file = node.file();
     match words {
         ["changes", page, off, word] => {
-            let (page, off, new) = (number(page)?, number(off)?, bytes(alloc, word)?);
-            let end = (off as usize).saturating_add(new.len());
-            if page >= file.pages || end > file.page_size as usize || !node.may_write(page) {
-                return Err(Halt::Impossible);
-            }
-            node.change(page, off, &new);
+            let (page, off) = two(page, off)?;
+            change(node, page, off, &bytes(alloc, word)?)
         }
-        ["blanks", page] => {
-            let page = number(page)?;
-            if page >= file.pages || !node.may_write(page) {
-                return Err(Halt::Impossible);
-            }
-            node.blank(page);
-        }
+        ["blanks", page] => blank(node, number(page)?),
         ["reads", page, off, len] => {
-            let (page, off, len) = (number(page)?, number(off)?, number(len)?);
-            let end = off.saturating_add(len);
-            if page >= file.pages || end > file.page_size || !node.may_read(page) {
-                return Err(Halt::Impossible);
-            }
-            put_hex(alloc, node.lend(page, off, len), answer)?;
-            answer.push('\n')?;
+            let (page, off, len) = three(page, off, len)?;
+            put_read(alloc, node, page, off, len, answer)
         }
-        _ => return Err(Halt::Unread),
+        _ => look_step(node, words, answer),
     }
-    Ok(())
+}
+
+/// The right of a node on a page.
+fn right_of(node: &Node, page: u32) -> Result<Right, Halt> {
+    if page >= node.file().pages {
+        return Err(Halt::Impossible);
+    }
+    Ok(node.right(page))
+}
+
+/// What a node knows of a child's right on a page.
+fn child_right(node: &Node, child: u32, page: u32) -> Result<Right, Halt> {
+    if page >= node.file().pages || !node.has_child(child) {
+        return Err(Halt::Impossible);
+    }
+    Ok(node.child_right(page, child))
 }
 
 /// A step that tells what a node has.
 fn look_step(node: &Node, words: &[&str], answer: &mut String) -> Result<(), Halt> {
-    let pages = node.file().pages;
-    match words {
-        ["pages"] => writeln!(answer, "{pages}")?,
-        ["held"] => writeln!(answer, "{}", node.held())?,
-        ["right", page] => {
-            let page = number(page)?;
-            if page >= pages {
-                return Err(Halt::Impossible);
-            }
-            writeln!(answer, "{}", right_word(node.right(page)))?;
-        }
+    let line = match words {
+        ["pages"] => return Ok(writeln!(answer, "{}", node.file().pages)?),
+        ["held"] => return Ok(writeln!(answer, "{}", node.held())?),
+        ["right", page] => right_word(right_of(node, number(page)?)?),
         ["child", child] => {
             let is_child = node.has_child(number(child)?);
-            answer.push_str(if is_child { "yes\n" } else { "no\n" })?;
+            if is_child { "yes" } else { "no" }
         }
         ["child", child, "right", page] => {
-            let (child, page) = (number(child)?, number(page)?);
-            if page >= pages || !node.has_child(child) {
-                return Err(Halt::Impossible);
-            }
-            writeln!(answer, "{}", right_word(node.child_right(page, child)))?;
+            let (child, page) = two(child, page)?;
+            right_word(child_right(node, child, page)?)
         }
         _ => return Err(Halt::Unread),
-    }
-    Ok(())
+    };
+    Ok(say(answer, line)?)
 }
 
 /// A step of one of the nodes.
@@ -326,26 +361,29 @@ fn node_step(
         ["accepts"] => accept(node, None, second, answer),
         ["finishes", child] => finish(alloc, node, Some(number(child)?), first, answer),
         ["finishes"] => finish(alloc, node, None, first, answer),
-        ["changes", ..] | ["blanks", ..] | ["reads", ..] => {
-            access_step(alloc, node, words, answer)
-        }
-        _ => look_step(node, words, answer),
+        _ => access_step(alloc, node, words, answer),
     }
 }
 
-impl Layers {
-    /// The two nodes, of which nobody has anything.
-    pub fn new(alloc: Global) -> Result<Layers, AllocError> {
-        Ok(Layers {
-            layer: Node::new(alloc, 64, 2, &[], 0)?,
-            parent: Node::new(alloc, 64, 2, &[2], 0)?,
-            first: Buf::new(alloc),
-            second: Buf::new(alloc),
-        })
+/// The two nodes, of which nobody has anything.
+fn fresh(alloc: Global) -> Result<Layers, AllocError> {
+    Ok(Layers {
+        layer: Node::new(alloc, 64, 2, &[], 0)?,
+        parent: Node::new(alloc, 64, 2, &[2], 0)?,
+        first: Buf::new(alloc),
+        second: Buf::new(alloc),
+    })
+}
+
+impl Subject for Layers {
+    fn make(alloc: Global, words: &[&str]) -> Result<Layers, Halt> {
+        match words {
+            ["layers"] => Ok(fresh(alloc)?),
+            _ => Err(Halt::Unread),
+        }
     }
 
-    /// Does a step: which node, and what it does.
-    pub fn step(&mut self, alloc: Global, words: &[&str], answer: &mut String) -> Result<(), Halt> {
+    fn step(&mut self, alloc: Global, words: &[&str], answer: &mut String) -> Result<(), Halt> {
         let (first, second) = (&mut self.first, &mut self.second);
         match words {
             ["layer", rest @ ..] => node_step(alloc, &mut self.layer, first, second, rest, answer),
