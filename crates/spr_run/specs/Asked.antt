@@ -8,7 +8,7 @@ use Rattle.clap.specs.Faults.{fault_of}
 use Rattle.clap.specs.Walk.{is_empty}
 use Rattle.spr_run.specs.Line.{line}
 use Rattle.spr_run.specs.declared.words.Asked.{Asked}
-use Rattle.spr_run.specs.declared.words.Asked.TheVariants.{Run, Check, Format, Dump, Idl}
+use Rattle.spr_run.specs.declared.words.Asked.TheVariants.{Run, Check, Format, Dump, Disks, Idl}
 
 -- whether a flag was given: clap finds the word `true` under its id
 abbrev pub is_given : Text → List Row → Bool
@@ -29,6 +29,9 @@ format_in found = option_map Format (first_of (codes "stack") found)
 abbrev pub dump_in : List Row → Option Asked
 dump_in found = option_and_then (λ stack. option_map (λ file. Dump stack file) (first_of (codes "file") found)) (first_of (codes "stack") found)
 
+abbrev pub disks_in : List Row → Option Asked
+disks_in found = option_map Disks (first_of (codes "stack") found)
+
 abbrev pub idl_in : List Row → Option Asked
 idl_in found = option_map Idl (first_of (codes "idl") found)
 
@@ -39,6 +42,7 @@ asked_by name found =
     else if bytes_eq name (codes "check") then check_in found
     else if bytes_eq name (codes "format") then format_in found
     else if bytes_eq name (codes "dump") then dump_in found
+    else if bytes_eq name (codes "disks") then disks_in found
     else if bytes_eq name (codes "idl") then idl_in found
     else None
 

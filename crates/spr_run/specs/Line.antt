@@ -27,6 +27,10 @@ format = (with_rule (new_app (codes "format")) (name (codes "stack"))).top
 abbrev pub dump : Shape
 dump = (with_rule (with_rule (new_app (codes "dump")) (name (codes "stack"))) (name (codes "file"))).top
 
+-- disks STACK
+abbrev pub disks : Shape
+disks = (with_rule (new_app (codes "disks")) (name (codes "stack"))).top
+
 -- idl IDL
 abbrev pub idl : Shape
 idl = (with_rule (new_app (codes "idl")) (name (codes "idl"))).top
@@ -45,4 +49,4 @@ bare = record (new_app (codes "spring")) {
 
 -- the line is one of the commands with its names
 abbrev pub line : App
-line = with_subcommand (with_subcommand (with_subcommand (with_subcommand (with_subcommand bare run) check) format) dump) idl
+line = with_subcommand (with_subcommand (with_subcommand (with_subcommand (with_subcommand (with_subcommand bare run) check) format) dump) disks) idl

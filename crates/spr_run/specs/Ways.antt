@@ -7,10 +7,11 @@ use Rattle.spr_io.specs.Berth.{BaySeen}
 use Rattle.spr_io.specs.Texts.{ShelfSeen, SinkSeen}
 use Rattle.spr_report.specs.declared.status.Status.{Status}
 use Rattle.spr_report.specs.declared.status.Status.TheVariants as statuses
-use Rattle.spr_run.specs.declared.words.Asked.TheVariants.{Run, Check, Format, Dump, Idl}
+use Rattle.spr_run.specs.declared.words.Asked.TheVariants.{Run, Check, Format, Dump, Disks, Idl}
 use Rattle.spr_run.specs.Asked.{asked}
 use Rattle.file_stores.specs.Keys.{stores_of}
 use Rattle.file_stores.specs.Written.{Written}
+use Rattle.image_looks.specs.Disks.{SaysDisks}
 use Rattle.image_commands.specs.Says.{SaysFormat, SaysDump}
 use Rattle.run_texts.specs.declared.refusal.Refusal.{Refusal}
 use Rattle.run_texts.specs.Stacks.{IsMounted, IsTreeOf}
@@ -73,6 +74,13 @@ pub data SaysDumped (stack name : List ℕ) (o : Outside) (text : List ℕ) (sta
       → SaysDump mount o.bay o.bay_after file text status → SaysDumped stack name o text status
   undumped : IsIdle o → Refuses (IsFileCause o.shelf o.shelf_after stack name) (only_stack stack) text status → SaysDumped stack name o text status
 
+-- `disks`: what lies on each disk of each file of the stack was told, and no store's blocks changed; or memory ran out. Or the
+-- stack is refused
+pub data SaysListed (stack : List ℕ) (o : Outside) (text : List ℕ) (status : Status) : Type 0 where
+  lists : (mount : Mount) → IsMounted o.shelf stack mount → o.shelf_after.faults ≡ o.shelf.faults
+      → SaysDisks mount o.bay o.bay_after text status → SaysListed stack o text status
+  unlisted : IsIdle o → Refuses (IsStackCause o.shelf o.shelf_after stack) (only_stack stack) text status → SaysListed stack o text status
+
 -- `run`: the interfaces have each operation, and the script was run over the files of the stack, or they could not be opened; or
 -- a text is refused, or could not be read. The report has the page messages if they are asked for
 pub data SaysRan (names : Names) (trace : Bool) (o : Outside) (text : List ℕ) (status : Status) : Type 0 where
@@ -92,6 +100,7 @@ pub data Says (words : List (List ℕ)) (o : Outside) (text : List ℕ) (status 
   tabled : (idl : List ℕ) → asked words ≡ Some (Idl idl) → IsIdle o → SaysTables idl o.shelf o.shelf_after text status → Says words o text status
   formatted : (stack : List ℕ) → asked words ≡ Some (Format stack) → SaysFormatted stack o text status → Says words o text status
   dumped : (stack name : List ℕ) → asked words ≡ Some (Dump stack name) → SaysDumped stack name o text status → Says words o text status
+  listed : (stack : List ℕ) → asked words ≡ Some (Disks stack) → SaysListed stack o text status → Says words o text status
   ran : (names : Names) (trace : Bool) → asked words ≡ Some (Run trace names.idl names.stack names.script) → SaysRan names trace o text status → Says words o text status
 
 -- How a command ends: in one of the ways, whose text and status are written; or the sink failed.

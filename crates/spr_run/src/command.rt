@@ -2,7 +2,7 @@
 
 ghost use Rattle.std.specs.Prelude.{◌≡◌, false, IfOk};
 ghost use Rattle.clap.specs.Words.{app_of, rule_of, shape_of};
-ghost use Rattle.spr_run.specs.Line.{check, dump, flag, format, idl, line, name, run};
+ghost use Rattle.spr_run.specs.Line.{check, disks, dump, flag, format, idl, line, name, run};
 
 use clap::{Arg, ArgAction, Command};
 use std::alloc::{AllocError, Global};
@@ -57,6 +57,13 @@ fn dump<'a>(alloc: Global) -> Result<Command<'a>, AllocError>
         .arg(name(alloc, "file"))
 }
 
+/// The command that tells what lies on the disks of a stack.
+fn disks<'a>(alloc: Global) -> Result<Command<'a>, AllocError>
+    ensures shape { IfOk result (λ c. shape_of c ≡ disks) }
+{
+    Command::new(alloc, "disks").arg(name(alloc, "stack"))
+}
+
 /// The command that prints the tables of interfaces.
 fn idl<'a>(alloc: Global) -> Result<Command<'a>, AllocError>
     ensures shape { IfOk result (λ c. shape_of c ≡ idl) }
@@ -78,5 +85,6 @@ pub(crate) fn line<'a>(alloc: Global) -> Result<Command<'a>, AllocError>
         .subcommand(check(alloc)?)?
         .subcommand(format(alloc)?)?
         .subcommand(dump(alloc)?)?
+        .subcommand(disks(alloc)?)?
         .subcommand(idl(alloc)?)
 }

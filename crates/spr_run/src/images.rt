@@ -1,12 +1,14 @@
-//! The commands `format` and `dump`: fresh images on the stores of a stack's files, and the pages of one of its files.
+//! The commands over a stack's images: `format` makes fresh ones, `dump` prints the pages of one file, and `disks` tells what lies
+//! on each disk.
 
 ghost use Rattle.std.specs.Prelude.{◌≡◌, ◌<◌, IfOk, IfErr, OnOk, length};
 ghost use Rattle.file_stores.specs.Written.{Written};
 ghost use Rattle.run_texts.specs.Refusal.{HasFile, IsFileCause};
-ghost use Rattle.spr_run.specs.Ways.{outside, SaysFormatted, SaysDumped};
+ghost use Rattle.spr_run.specs.Ways.{outside, SaysFormatted, SaysDumped, SaysListed};
 
 use crate::check::only_stack;
 use image_commands::{dump_file, format_files};
+use image_looks::list_disks;
 use run_defs::file_named;
 use run_texts::{Refusal, read_runnable, read_stack, refuse};
 use seen_values::Text;
@@ -28,6 +30,23 @@ pub(crate) fn format_stack<H: Shelf, B: Bay, K: Sink>(
 {
     match read_stack(alloc, shelf, name) {
         Ok(mount) => format_files(alloc, &mount, bay, sink),
+        Err(refusal) => refuse(sink, &only_stack(name), refusal),
+    }
+}
+
+/// Tells what lies on each disk of each file of the stack of a name, which may have layers that a run does not build yet. No block
+/// is written, and nothing is made.
+pub(crate) fn list_named<H: Shelf, B: Bay, K: Sink>(
+    alloc: Global,
+    name: &Text,
+    shelf: &mut H,
+    bay: &mut B,
+    sink: &mut K,
+) -> Status
+    ensures ends { Written (SaysListed name.now (outside (H.told shelf.old) (H.told shelf.new) (B.told bay.old) (B.told bay.new))) (K.told sink.old) (K.told sink.new) result }
+{
+    match read_stack(alloc, shelf, name) {
+        Ok(mount) => list_disks(alloc, &mount, bay, sink),
         Err(refusal) => refuse(sink, &only_stack(name), refusal),
     }
 }

@@ -7,7 +7,7 @@ ghost use Rattle.file_stores.specs.Written.{Written};
 ghost use Rattle.spr_run.specs.Ways.{outside, SaysRan, Ends};
 
 use crate::check::check_stack;
-use crate::images::{dump_named, format_stack};
+use crate::images::{dump_named, format_stack, list_named};
 use crate::tables::put_tables;
 use crate::words::{Asked, WordsErr, read_words};
 use hist_plain::Gate;
@@ -86,6 +86,7 @@ pub fn spring<R: Threads + Wait + Sync, H: Shelf, B: Bay, K: Sink, G: Gate>(
         Ok(Asked::Check { stack }) => check_stack(alloc, shelf, &stack, sink),
         Ok(Asked::Format { stack }) => format_stack(alloc, &stack, shelf, bay, sink),
         Ok(Asked::Dump { stack, file }) => dump_named(alloc, &stack, &file, shelf, bay, sink),
+        Ok(Asked::Disks { stack }) => list_named(alloc, &stack, shelf, bay, sink),
         Err(WordsErr::Usage) => finish(sink, &[USAGE], Status::Usage),
         Err(WordsErr::Memory) => finish(sink, &[], Status::Memory),
     }

@@ -43,6 +43,11 @@ pub enum Asked {
         /// The name of the file.
         file: Text,
     },
+    /// Tell what lies on each disk of each file of a stack.
+    Disks {
+        /// The name of the stack's text.
+        stack: Text,
+    },
     /// Print the tables of interfaces.
     Idl {
         /// The name of the text of the interfaces.
@@ -70,7 +75,7 @@ impl From<AllocError> for WordsErr {
     }
 }
 
-ghost use Rattle.spr_run.specs.Asked.{asked, asked_by, asked_in, check_in, dump_in, format_in, idl_in, is_given, run_in};
+ghost use Rattle.spr_run.specs.Asked.{asked, asked_by, asked_in, check_in, disks_in, dump_in, format_in, idl_in, is_given, run_in};
 
 /// Lends the words.
 fn lend<'a>(alloc: Global, words: &'a [Text]) -> Result<Vec<&'a str>, AllocError>
@@ -173,6 +178,15 @@ fn dump_in(alloc: Global, found: &ArgMatches<'_>) -> Result<Asked, WordsErr>
     Ok(Asked::Dump { stack, file })
 }
 
+/// A look at disks, with its name.
+fn disks_in(alloc: Global, found: &ArgMatches<'_>) -> Result<Asked, WordsErr>
+    ensures ok { IfOk result (λ a. disks_in (rows_of (found_of found.now)) ≡ Some a) }
+    ensures usage { result ≡ Err WordsErr.Usage → disks_in (rows_of (found_of found.now)) ≡ None }
+{
+    let stack = named(alloc, found, "stack")?;
+    Ok(Asked::Disks { stack })
+}
+
 /// The printing of tables, with its name.
 fn idl_in(alloc: Global, found: &ArgMatches<'_>) -> Result<Asked, WordsErr>
     ensures ok { IfOk result (λ a. idl_in (rows_of (found_of found.now)) ≡ Some a) }
@@ -192,6 +206,7 @@ fn asked_by(alloc: Global, name: &str, found: &ArgMatches<'_>) -> Result<Asked, 
         "check" => check_in(alloc, found),
         "format" => format_in(alloc, found),
         "dump" => dump_in(alloc, found),
+        "disks" => disks_in(alloc, found),
         "idl" => idl_in(alloc, found),
         _ => Err(WordsErr::Usage),
     }

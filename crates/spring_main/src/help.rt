@@ -9,6 +9,7 @@ pub const HELP: &str =
 usage: spring format STACK
        spring run [--trace] IDL STACK SCRIPT
        spring dump STACK FILE
+       spring disks STACK
        spring check STACK
        spring idl IDL
 
@@ -18,6 +19,9 @@ usage: spring format STACK
                          message, with the heads of its two frames
   dump STACK FILE        writes the pages of a file of the stack, as its image has them; over disks
                          in mirrors it mends them first, as a run does
+  disks STACK            writes what lies on each disk of each file: the generation of its image and
+                         whether a run would take that one, or that it is missing, blank or damaged;
+                         no image changes, and none is made
   check STACK            writes the tree of layers that the stack makes, or why it cannot be mounted
   idl IDL                writes the numbered operations of each interface
   --help, -h             writes this

@@ -56,6 +56,10 @@ fn say_asked(answer: &mut String, asked: &Asked) -> Result<(), AllocError> {
             say_named(answer, "stack", stack)?;
             say_named(answer, "file", file)
         }
+        Asked::Disks { stack } => {
+            say(answer, "disks")?;
+            say_named(answer, "stack", stack)
+        }
         Asked::Idl { idl } => {
             say(answer, "tables")?;
             say_named(answer, "idl", idl)

@@ -11,12 +11,14 @@ returns c =
     let is_check = c.in_ok-check.ensures.shape in
     let is_format = c.in_ok-format.ensures.shape in
     let is_dump = c.in_ok-dump.ensures.shape in
+    let is_disks = c.in_ok-disks.ensures.shape in
     let is_idl = c.in_ok-idl.ensures.shape in
     let bare_is : app_of c.subcommand_required.result ≡ bare = search rules in
     let one = c.in_ok-subcommand.ensures.shape (plain_fields c.in_ok-run.field-0 (ap (λ s. s.is_plain) is_run)).globals ∙ ap₂ with_subcommand bare_is is_run in
     let two = c.in_ok-subcommand-2.ensures.shape (plain_fields c.in_ok-check.field-0 (ap (λ s. s.is_plain) is_check)).globals ∙ ap₂ with_subcommand one is_check in
     let three = c.in_ok-subcommand-3.ensures.shape (plain_fields c.in_ok-format.field-0 (ap (λ s. s.is_plain) is_format)).globals ∙ ap₂ with_subcommand two is_format in
     let four = c.in_ok-subcommand-4.ensures.shape (plain_fields c.in_ok-dump.field-0 (ap (λ s. s.is_plain) is_dump)).globals ∙ ap₂ with_subcommand three is_dump in
+    let five = c.in_ok-subcommand-5.ensures.shape (plain_fields c.in_ok-disks.field-0 (ap (λ s. s.is_plain) is_disks)).globals ∙ ap₂ with_subcommand four is_disks in
     record {
-      shape = IfOk-weaker c.subcommand-5.result _ _ (λ m h. h.shape (plain_fields c.in_ok-idl.field-0 (ap (λ s. s.is_plain) is_idl)).globals ∙ ap₂ with_subcommand four is_idl) c.subcommand-5.ensures;
+      shape = IfOk-weaker c.subcommand-6.result _ _ (λ m h. h.shape (plain_fields c.in_ok-idl.field-0 (ap (λ s. s.is_plain) is_idl)).globals ∙ ap₂ with_subcommand five is_idl) c.subcommand-6.ensures;
     }

@@ -1,8 +1,8 @@
 use Rattle.std.proofs.Common.{ℕ, List, ◌∙◌, ap, refl, subst, Some}
 use Rattle.file_stores.specs.Written.{Written}
 use Rattle.run_texts.specs.Refusal.{Names}
-use Rattle.spr_run.specs.Ways.{outside, SaysCheck, SaysTables, SaysFormatted}
-use Rattle.spr_run.proofs.WayLaws.{ends-check, ends-dump, ends-format, ends-run, ends-tables, named-dump}
+use Rattle.spr_run.specs.Ways.{outside, SaysCheck, SaysTables, SaysFormatted, SaysListed}
+use Rattle.spr_run.proofs.WayLaws.{ends-check, ends-dump, ends-format, ends-list, ends-run, ends-tables, named-dump}
 use Rattle.spr_run.proofs.top.spring.Goals as goal
 
 pub returns-in-Ok-Run : goal.returns-in-Ok-Run
@@ -47,4 +47,13 @@ returns-in-Ok-Dump g c =
     record {
       ends = ends-dump c.args.words.now c.in-Ok-Dump.stack c.in-Ok-Dump.file o (g.K.Sink.told c.args.sink.now) (g.K.Sink.told c.dump_named.new.sink) c.dump_named.result asks
           (named-dump o (g.K.Sink.told c.args.sink.now) (g.K.Sink.told c.dump_named.new.sink) c.dump_named.result c.in-Ok-Dump.stack-is c.in-Ok-Dump.file-is c.dump_named.ensures.ends);
+    }
+
+pub returns-in-Ok-Disks : goal.returns-in-Ok-Disks
+returns-in-Ok-Disks g c =
+    let asks = c.in-Ok-Disks.ensures.ok ∙ ap Some c.in-Ok-Disks.field-0-is in
+    let o = outside (g.H.Shelf.told c.args.shelf.now) (g.H.Shelf.told c.list_named.new.shelf) (g.B.Bay.told c.args.bay.now) (g.B.Bay.told c.list_named.new.bay) in
+    record {
+      ends = ends-list c.args.words.now c.in-Ok-Disks.stack o (g.K.Sink.told c.args.sink.now) (g.K.Sink.told c.list_named.new.sink) c.list_named.result asks
+          (subst (λ (s : List ℕ). Written (SaysListed s o) (g.K.Sink.told c.args.sink.now) (g.K.Sink.told c.list_named.new.sink) c.list_named.result) c.in-Ok-Disks.stack-is c.list_named.ensures.ends);
     }
