@@ -2,7 +2,7 @@
 
 ghost use Rattle.std.specs.Prelude.{◌≡◌, false, IfOk};
 ghost use Rattle.clap.specs.Words.{app_of, rule_of, shape_of};
-ghost use Rattle.spr_run.specs.Line.{check, disks, dump, flag, format, idl, line, name, run};
+ghost use Rattle.spr_run.specs.Line.{bare, check, disks, dump, flag, format, idl, line, name, run};
 
 use clap::{Arg, ArgAction, Command};
 use std::alloc::{AllocError, Global};
@@ -71,9 +71,9 @@ fn idl<'a>(alloc: Global) -> Result<Command<'a>, AllocError>
     Command::new(alloc, "idl").arg(name(alloc, "idl"))
 }
 
-/// The command line of the program.
-pub(crate) fn line<'a>(alloc: Global) -> Result<Command<'a>, AllocError>
-    ensures shape { IfOk result (λ c. app_of c ≡ line) }
+/// The command line without its commands, of which one must follow.
+fn bare<'a>(alloc: Global) -> Command<'a>
+    ensures shape { app_of result ≡ bare }
 {
     Command::new(alloc, "spring")
         .no_binary_name(true)
@@ -81,6 +81,13 @@ pub(crate) fn line<'a>(alloc: Global) -> Result<Command<'a>, AllocError>
         .disable_help_subcommand(true)
         .disable_version_flag(true)
         .subcommand_required(true)
+}
+
+/// The command line of the program.
+pub(crate) fn line<'a>(alloc: Global) -> Result<Command<'a>, AllocError>
+    ensures shape { IfOk result (λ c. app_of c ≡ line) }
+{
+    bare(alloc)
         .subcommand(run(alloc)?)?
         .subcommand(check(alloc)?)?
         .subcommand(format(alloc)?)?

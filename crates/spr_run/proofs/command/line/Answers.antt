@@ -1,4 +1,4 @@
-use Rattle.std.proofs.Common.{rules, ◌≡◌, ◌∙◌, ap, ap₂}
+use Rattle.std.proofs.Common.{◌≡◌, ◌∙◌, ap, ap₂}
 use Rattle.std.proofs.lemmas.Result.{IfOk-weaker}
 use Rattle.clap.specs.Words.{app_of, with_subcommand}
 use Rattle.clap.proofs.SimpleLemmas.{plain_fields}
@@ -13,7 +13,7 @@ returns c =
     let is_dump = c.in_ok-dump.ensures.shape in
     let is_disks = c.in_ok-disks.ensures.shape in
     let is_idl = c.in_ok-idl.ensures.shape in
-    let bare_is : app_of c.subcommand_required.result ≡ bare = search rules in
+    let bare_is : app_of c.bare.result ≡ bare = c.bare.ensures.shape in
     let one = c.in_ok-subcommand.ensures.shape (plain_fields c.in_ok-run.field-0 (ap (λ s. s.is_plain) is_run)).globals ∙ ap₂ with_subcommand bare_is is_run in
     let two = c.in_ok-subcommand-2.ensures.shape (plain_fields c.in_ok-check.field-0 (ap (λ s. s.is_plain) is_check)).globals ∙ ap₂ with_subcommand one is_check in
     let three = c.in_ok-subcommand-3.ensures.shape (plain_fields c.in_ok-format.field-0 (ap (λ s. s.is_plain) is_format)).globals ∙ ap₂ with_subcommand two is_format in
