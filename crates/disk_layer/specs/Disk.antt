@@ -45,12 +45,14 @@ held_on d = option_map {T = List (List ℕ)} (λ ps. let image : Imaged = record
 abbrev pub kept_on : Disk → Option (Option Imaged)
 kept_on d = option_map {T = Content} (λ c. image d.shape c.kept) d.content
 
--- the disk as the one under a file
+-- the disk as the one under a file: it owes nothing, so what is due is its generation
 abbrev pub seen_of : Disk → Seen
 seen_of d = record {
   page_size = d.shape.page_size;
   number = d.shape.pages;
   pages = pages_on d;
+  generation = d.generation;
+  due = d.generation;
   disks = record { disk = d.disk; live = true; up = true; holds = held_on d; kept = kept_on d; faults = d.faults; opened = d.opened } ∷ [];
 }
 

@@ -2,7 +2,6 @@
 use Rattle.std.proofs.Common.{◌≡◌, ℕ, List, [], ◌∷◌, refl, ap, Option, arith}
 use Rattle.spr_io.specs.Content.{Content}
 use Rattle.stack_accept.specs.Mount.{Mount}
-use Rattle.disk_layer.specs.Disk.{Disk}
 use Rattle.disk_layer.specs.declared.refused.OpenWhy.{OpenWhy}
 use Rattle.disk_layer.specs.declared.refused.OpenWhy.TheVariants as whys
 use Rattle.page_ground.specs.declared.fault.StoreFault.{StoreFault}
@@ -10,6 +9,7 @@ use Rattle.disk_layer.specs.Calls as disks
 use Rattle.file_stores.specs.State.{StoreState}
 use Rattle.file_stores.specs.Stop.{refused}
 use Rattle.file_stores.specs.Held.{StoreSeen}
+use Rattle.file_stores.specs.WholeDisk.{Alone}
 use Rattle.file_stores.specs.Under.{One}
 use Rattle.file_stores.specs.Opening.{under, shape_of_file, IsOpened, IsLeft, IsUnopened, unopened_one, IsUnopenedOne, OpenedAlone, RefusedAlone}
 use Rattle.file_stores.proofs.KeyedLaws.{stores_from}
@@ -28,8 +28,8 @@ refused-unopened mount old new whys.Memory content refusal = same-state new.stat
 
 module _ {T : Type 0} (size number : T → ℕ) (content : T → Option Content) (faults : T → ℕ) (mount : Mount) (file : ℕ) where
   -- it was opened
-  pub opened-alone : (ts : List T) (d : Disk) → OpenedAlone content faults (shape_of_file mount file) ts d → IsOpened mount (record { file = file; stores = stores_from size number content faults file 0 ts }) (One d)
-  opened-alone ts d opened = (_, ap (λ l. stores_from size number content faults file 0 l) opened.1, opened.2)
+  pub opened-alone : (ts : List T) (d : Alone) → OpenedAlone content faults (shape_of_file mount file) ts d → IsOpened mount (record { file = file; stores = stores_from size number content faults file 0 ts }) (One d)
+  opened-alone ts d opened = (_, ap (λ l. stores_from size number content faults file 0 l) opened.1, opened.2, opened.3)
 
   -- it was refused
   pub refused-alone : (ts after : List T) (why : OpenWhy) → RefusedAlone content faults (shape_of_file mount file) ts why after
@@ -40,6 +40,6 @@ module _ {T : Type 0} (size number : T → ℕ) (content : T → Option Content)
       (refused-unopened mount (seen r.old) (seen r.new) why r.same r.cause)
 
 -- it was closed
-pub left-alone : {T : Type 0} (size number : T → ℕ) (content : T → Option Content) (faults : T → ℕ) (file : ℕ) (ts : List T) (d : Disk) → (t : T) × (ts ≡ t ∷ []) × (content t ≡ d.content) × (faults t ≡ d.faults)
+pub left-alone : {T : Type 0} (size number : T → ℕ) (content : T → Option Content) (faults : T → ℕ) (file : ℕ) (ts : List T) (d : Alone) → (t : T) × (ts ≡ t ∷ []) × (content t ≡ d.disk.content) × (faults t ≡ d.disk.faults)
     → IsLeft (One d) (record { file = file; stores = stores_from size number content faults file 0 ts })
 left-alone size number content faults file ts d left = (_, ap (λ l. stores_from size number content faults file 0 l) left.1, λ i. record { content = left.2 i; faults = left.3 i })

@@ -23,7 +23,7 @@ module _ (S : RattleType) (ghosts : Ghosts S.Denot) (store : IsSend S) where
   whole_send =
       view_send (whole.the_row S ghosts) _ _ _ _
       (recorded_send (whole.the_field S ghosts).row _ _ (whole.the_type S ghosts).to_one
-      (struct_send (shape (whole.the_type S ghosts)) (disk_send, (Vec-send _ store, tt))))
+      (struct_send (shape (whole.the_type S ghosts)) (disk_send, (search (crosses, sendable) depth 12, (search (crosses, sendable) depth 12, (Vec-send _ store, tt))))))
 
   any_send : IsSend (AnyGround.the_row S ghosts)
   any_send =

@@ -17,6 +17,5 @@ pub mod ManyLaws
 pub mod ReadLaws
 pub mod SpotLaws
 pub mod Crossing
-pub mod GuardLaws
-pub mod ImageLaws
-pub mod GroundHeldLaws
+pub mod RowLaws
+pub mod AloneSteps

@@ -8,16 +8,16 @@ use Rattle.disk_format.specs.declared.shape.ImageShape.{ImageShape}
 use Rattle.page_ground.specs.Seen.{Imaged}
 use Rattle.disk_format.specs.Image.{image}
 use Rattle.page_ground.specs.Seen.{DiskSeen, faults_in, kept_in, live_in, numbers_in, opened_in}
-use Rattle.mirror_rules.specs.Tree.{Image, Seat, In, Out}
+use Rattle.mirror_rules.specs.Tree.{Image, Seat, In, Out, Bad}
 use Rattle.mirror_rules.specs.Tree as machine
 use Rattle.mirror_rules.specs.Claims.{Pairs, pairs_none, pairs_more, Every, every_none, every_more, Has, has_here, has_later, IsLive}
-use Rattle.mirror_rules.specs.Fates.{Excused, excused_live, excused_left, faults_of}
+use Rattle.mirror_rules.specs.Fates.{Excused, excused_live, excused_left, excused_bad, faults_of}
 use Rattle.mirror_layer.specs.View.{Beside, as_image}
 use Rattle.mirror_layer.specs.Ground.{Counted, counted, Differ, as_imaged, disk_seen, disks_seen, kept_told}
 use Rattle.mirror_layer.specs.Stores.{Stored, stored, Left, left, kept_of}
 use Rattle.mirror_layer.specs.Bringing.{Brought, brought, Lies, lies}
 use Rattle.file_stores.specs.Held.{StoreSeen}
-use Rattle.file_stores.specs.Opening.{content_of}
+use Rattle.file_stores.specs.Opening.{IsBadOn, bad_on, content_of}
 use Rattle.file_stores.specs.Opening as opening
 use Rattle.file_stores.proofs.GroundLists.{same-item}
 
@@ -41,14 +41,14 @@ opened-first a ds n e = rw (eq-eqb n a.disk e) refl
 opened-rest : (a : DiskSeen) (ds : List DiskSeen) (n : ℕ) → n ≢ a.disk → opened_in (a ∷ ds) n ≡ opened_in ds n
 opened-rest a ds n e = rw (ne_eqb n a.disk e) refl
 
-live-first : (a : DiskSeen) (ds : List DiskSeen) (n : ℕ) → n ≡ a.disk → a.live ≡ true → Contains (live_in (a ∷ ds)) n
+pub live-first : (a : DiskSeen) (ds : List DiskSeen) (n : ℕ) → n ≡ a.disk → a.live ≡ true → Contains (live_in (a ∷ ds)) n
 live-first a ds n is e = subst (Contains (live_in (a ∷ ds))) (sym is) (by a.live e)
   where
     by : (l : Bool) → l ≡ true → Contains (if l then a.disk ∷ live_in ds else live_in ds) a.disk
     by true e = (0, omega arith, refl)
     by false e = cc
 
-live-rest : (a : DiskSeen) (ds : List DiskSeen) (n : ℕ) → Contains (live_in ds) n → Contains (live_in (a ∷ ds)) n
+pub live-rest : (a : DiskSeen) (ds : List DiskSeen) (n : ℕ) → Contains (live_in ds) n → Contains (live_in (a ∷ ds)) n
 live-rest a ds n h = by a.live
   where
     by : (l : Bool) → Contains (if l then a.disk ∷ live_in ds else live_in ds) n
@@ -86,25 +86,29 @@ numbers-seen pairs_none = refl
 numbers-seen (pairs_more {x = b} {y = x} {xs = bs} {ys = xs} c h) = ap (λ n. n ∷ numbers_in (disks_seen bs xs)) (seen-disk b x c) ∙ ap (λ ns. b.disk ∷ ns) (numbers-seen h)
 
 -- WHEN THE DISKS WERE OPENED: the store of this number tells what it holds exactly if its disk's is told; its count was this one; and its
--- disk is live, or it failed in the opening
-pub record Before (k : ℕ) (old : StoreSeen) (ds : List DiskSeen) : Type 0 where
+-- disk is live, or it failed in the opening, or it was found bad
+pub record Before (k : ℕ) (old : StoreSeen) (ds : List DiskSeen) (xs : List Seat) : Type 0 where
   pub told : is_some (kept_in ds k) ≡ is_some old.state.content
   pub opened : opened_in ds k ≡ old.state.faults
-  pub rose : Contains (live_in ds) k ⊎ (old.state.faults < faults_in ds k)
+  pub rose : Contains (live_in ds) k ⊎ (old.state.faults < faults_in ds k) ⊎ Has (IsBadOn k) xs
 
-before-rest : (k : ℕ) (old : StoreSeen) (a : DiskSeen) (ds : List DiskSeen) → k ≢ a.disk → Before k old ds → Before k old (a ∷ ds)
-before-rest k old a ds ne h = record {
+before-rest : (k : ℕ) (old : StoreSeen) (a : DiskSeen) (ds : List DiskSeen) (x : Seat) (xs : List Seat) → k ≢ a.disk → Before k old ds xs → Before k old (a ∷ ds) (x ∷ xs)
+before-rest k old a ds x xs ne h = record {
   told = ap (λ (v : Option (Option Imaged)). is_some v) (kept-rest a ds k ne) ∙ h.told;
   opened = opened-rest a ds k ne ∙ h.opened;
   rose = elim h.rose [
     | inl live ↦ inl (live-rest a ds k live)
-    | inr up ↦ inr (subst (λ n. old.state.faults < n) (sym (faults-rest a ds k ne)) up)
+    | inr rest ↦ elim rest [
+      | inl up ↦ inr (inl (subst (λ n. old.state.faults < n) (sym (faults-rest a ds k ne)) up))
+      | inr bad ↦ inr (inr (has_later bad))
+    ]
   ];
 }
 
-excused-seen : (b : Beside) (x : Seat) (s : machine.Store) → Excused s x → ((disk_seen b x).live ≡ true) ⊎ (s.faults < faults_of x)
-excused-seen b x s excused_live = inl refl
-excused-seen b x s (excused_left up) = inr up
+excused-seen : (b : Beside) (x : Seat) (s : machine.Store) → Counted b x → Excused s x → ((disk_seen b x).live ≡ true) ⊎ (s.faults < faults_of x) ⊎ IsBadOn b.disk x
+excused-seen b x s c excused_live = inl refl
+excused-seen b x s c (excused_left up) = inr (inl up)
+excused-seen b x s (counted e l) (excused_bad a q) = inr (inr (bad_on e))
 
 has-disk : {shape : ImageShape} {stores : List StoreSeen} {ns : List ℕ} {bs : List Beside} {k : ℕ} → Pairs (Lies content_of opening.faults_of shape stores) ns bs → Has (λ n. n ≡ k) ns → Has (λ b. b.disk ≡ k) bs
 has-disk pairs_none h = elim h [ ]
@@ -112,7 +116,7 @@ has-disk (pairs_more (lies {t = t} p e) h) (has_here z) = has_here (ap (λ (b : 
 has-disk (pairs_more a h) (has_later z) = has_later (has-disk h z)
 
 pub before-at : {shape : ImageShape} {stores : List StoreSeen} {ns : List ℕ} {bs : List Beside} {ss : List machine.Store} {xs : List Seat} (k : ℕ) (old : StoreSeen) → Pairs (Lies content_of opening.faults_of shape stores) ns bs
-    → Pairs (Brought content_of opening.faults_of shape stores) ns ss → Pairs Excused ss xs → Pairs Counted bs xs → Differ bs → Has (λ n. n ≡ k) ns → slice_get stores k ≡ Some old → Before k old (disks_seen bs xs)
+    → Pairs (Brought content_of opening.faults_of shape stores) ns ss → Pairs Excused ss xs → Pairs Counted bs xs → Differ bs → Has (λ n. n ≡ k) ns → slice_get stores k ≡ Some old → Before k old (disks_seen bs xs) xs
 before-at k old pairs_none i j l differ h is = elim h [ ]
 before-at k old (pairs_more {y = b} (lies {t = t} p e) h) (pairs_more {y = s} (brought {t = u} q f) i) (pairs_more {y = x} a j) (pairs_more {xs = bs} {ys = xs} c l) differ (has_here z) is =
     let d : DiskSeen = disk_seen b x in
@@ -125,14 +129,17 @@ before-at k old (pairs_more {y = b} (lies {t = t} p e) h) (pairs_more {y = s} (b
       told = ap (λ (v : Option (Option Imaged)). is_some v) (kept-first d ds k here ∙ seen-kept b x)
           ∙ (told-kept b.told (kept_of x) ∙ (ap (λ (v : Beside). v.told) e ∙ ap (λ (v : StoreSeen). is_some v.state.content) first));
       opened = opened-first d ds k here ∙ (seen-opened b x ∙ (ap (λ (v : Beside). v.opened) e ∙ ap (λ (v : StoreSeen). v.state.faults) first));
-      rose = elim (excused-seen b x s a) [
+      rose = elim (excused-seen b x s c a) [
         | inl live ↦ inl (live-first d ds k here live)
-        | inr up ↦ inr (omega (arith, up, count, faults-first d ds k here, seen-faults b x))
+        | inr rest ↦ elim rest [
+          | inl up ↦ inr (inl (omega (arith, up, count, faults-first d ds k here, seen-faults b x)))
+          | inr bad ↦ inr (inr (has_here (subst (λ n. IsBadOn n x) (ap (λ (v : Beside). v.disk) e ∙ z) bad)))
+        ]
       ];
     }
 before-at k old (pairs_more {y = b} a h) (pairs_more p i) (pairs_more {y = x} q j) (pairs_more {xs = bs} {ys = xs} c l) differ (has_later z) is =
     let ne : k ≢ b.disk = other k b.disk bs differ.0 (has-disk h z) in
-    before-rest k old (disk_seen b x) (disks_seen bs xs) (λ e. ne (e ∙ seen-disk b x c)) (before-at k old h i j l differ.1 z is)
+    before-rest k old (disk_seen b x) (disks_seen bs xs) x xs (λ e. ne (e ∙ seen-disk b x c)) (before-at k old h i j l differ.1 z is)
 
 -- WHEN THE DISKS WERE CLOSED: the store of this number tells what it holds exactly if its disk's is told; its count is that of its disk, and
 -- no lower than when that was opened; and what it kept is the image that its disk kept

@@ -6,7 +6,6 @@ use Rattle.stack_accept.specs.Mount.{Mount}
 use Rattle.std.specs.List.Sorted.{IsPermutation}
 use Rattle.stack_accept.specs.Plan.{Plan, disks_in, numbers_below}
 use Rattle.disk_format.specs.declared.shape.ImageShape.{ImageShape}
-use Rattle.disk_layer.specs.Disk.{Disk}
 use Rattle.mirror_rules.specs.Tree.{Seat}
 use Rattle.mirror_rules.specs.Tree as machine
 use Rattle.mirror_rules.specs.Claims.{Pairs, pairs_none, pairs_more, Has, has_here, has_later}
@@ -26,6 +25,7 @@ use Rattle.file_stores.specs.Held.{StoreSeen, keys_of}
 use Rattle.file_stores.proofs.FileLaws.{file-number}
 use Rattle.file_stores.proofs.Lists.{some-is, no-item}
 use Rattle.file_stores.specs.Files.{ArePairs, FileSeen, IsFile, Lasts}
+use Rattle.file_stores.specs.WholeDisk.{Alone}
 use Rattle.file_stores.specs.Under.{One, Many}
 use Rattle.file_stores.specs.Opening.{content_of, faults_of, shape_of_file, IsOpened, IsLeft, IsUnopened, unopened_one, unopened_many, IsUnopenedOne}
 use Rattle.file_stores.proofs.GroundLists.{get-nth, same-item, get-within}
@@ -131,13 +131,13 @@ closed-lasts mount f g first last is opened keys back same =
     in-pairs f.stores g.stores (same-keys mount f g is keys all.many) all
 
 -- A FILE WAS OPENED OVER A DISK, AND CLOSED: where the disk's count did not fall, and it tells what it holds if it did
-pub alone-lasts : (mount : Mount) (f g : FileSeen) (first last : Disk) → IsFile mount f → IsOpened mount f (One first) → keys_of g.stores ≡ stores_of_file (length g.stores) f.file → IsLeft (One last) g → first.faults ≤ last.faults
-    → is_some last.content ≡ is_some first.content → ArePairs Lasts f.stores g.stores
+pub alone-lasts : (mount : Mount) (f g : FileSeen) (first last : Alone) → IsFile mount f → IsOpened mount f (One first) → keys_of g.stores ≡ stores_of_file (length g.stores) f.file → IsLeft (One last) g → first.disk.faults ≤ last.disk.faults
+    → is_some last.disk.content ≡ is_some first.disk.content → ArePairs Lasts f.stores g.stores
 alone-lasts mount f g first last is opened keys left later tells =
     let old = opened.0 in
     let new = left.0 in
     let calm = opened.2.calm in
-    let count : new.state.faults ≡ last.faults = ap (λ (s : StoreState). s.faults) left.2 in
+    let count : new.state.faults ≡ last.disk.faults = ap (λ (s : StoreState). s.faults) left.2 in
     let told : is_some new.state.content ≡ is_some old.state.content = ap (λ (s : StoreState). is_some s.content) left.2 ∙ (tells ∙ ap (λ (c : Option Content). is_some c) opened.2.content) in
     let all = lasts-one old new f.stores g.stores opened.1 left.1 (omega (arith, calm, later, count), told-still old.state.content new.state.content told) in
     in-pairs f.stores g.stores (same-keys mount f g is keys all.many) all

@@ -22,8 +22,8 @@ all-counted n (pairs_more {x = b} {y = x} {xs = bs} {ys = xs} c h) = one-counted
 
 -- no disk has fewer faults than when it was opened
 pub counts-under : (u : Under) → IsSound u → (n : ℕ) → opened_in (seen_under u).disks n ≤ faults_in (seen_under u).disks n
-counts-under (One d) sound n =
-    let none = both (n == d.disk) d.opened d.faults 0 0 sound.1 (omega arith) in
-    let once = both (n == d.disk) d.opened d.faults (cond (n == d.disk) d.opened 0) (cond (n == d.disk) d.faults 0) sound.1 none in
-    both (n == d.disk) d.opened d.faults (cond (n == d.disk) d.opened (cond (n == d.disk) d.opened 0)) (cond (n == d.disk) d.faults (cond (n == d.disk) d.faults 0)) sound.1 once
+counts-under (One a) sound n =
+    let none = both (n == a.disk.disk) a.disk.opened a.disk.faults 0 0 sound.1 (omega arith) in
+    let once = both (n == a.disk.disk) a.disk.opened a.disk.faults (cond (n == a.disk.disk) a.disk.opened 0) (cond (n == a.disk.disk) a.disk.faults 0) sound.1 none in
+    both (n == a.disk.disk) a.disk.opened a.disk.faults (cond (n == a.disk.disk) a.disk.opened (cond (n == a.disk.disk) a.disk.opened 0)) (cond (n == a.disk.disk) a.disk.faults (cond (n == a.disk.disk) a.disk.faults 0)) sound.1 once
 counts-under (Many g) sound n = all-counted n sound.0.counts

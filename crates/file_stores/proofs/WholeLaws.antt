@@ -5,9 +5,9 @@ use Rattle.std.specs.Option.{option_map}
 use Rattle.std.proofs.lemmas.Bool.{eq-eqb}
 use Rattle.spr_io.specs.Content.{Content}
 use Rattle.page_ground.specs.Seen.{Imaged}
-use Rattle.disk_layer.specs.Disk.{Disk, kept_on, seen_of}
-use Rattle.page_ground.specs.Seen.{DiskSeen, Seen, Keeps, faults_in, kept_in, live_in, opened_in}
-use Rattle.file_stores.specs.WholeDisk.{seen_whole}
+use Rattle.disk_layer.specs.Disk.{Disk, held_on, kept_on, seen_of}
+use Rattle.page_ground.specs.Seen.{DiskSeen, Seen, Keeps, faults_in, held_in, kept_in, live_in, opened_in}
+use Rattle.file_stores.specs.WholeDisk.{Alone, seen_whole}
 
 -- what is said of the number of one disk alone
 same-number : (n : ℕ) (m : ℕ) → cond (n == n) m 0 ≡ m
@@ -22,21 +22,24 @@ since-opened d keeps =
     omega (arith, since, opened, faults)
 
 -- what is found under its number
-pub kept-under : (d : Disk) (n : ℕ) → n ≡ d.disk → kept_in (seen_whole d).disks n ≡ kept_on d
-kept-under d n is = rw (eq-eqb n d.disk is) refl
+pub kept-under : (a : Alone) (n : ℕ) → n ≡ a.disk.disk → kept_in (seen_whole a).disks n ≡ kept_on a.disk
+kept-under a n is = rw (eq-eqb n a.disk.disk is) refl
 
-pub faults-under : (d : Disk) (n : ℕ) → n ≡ d.disk → faults_in (seen_whole d).disks n ≡ d.faults
-faults-under d n is = rw (eq-eqb n d.disk is) refl
+pub faults-under : (a : Alone) (n : ℕ) → n ≡ a.disk.disk → faults_in (seen_whole a).disks n ≡ a.disk.faults
+faults-under a n is = rw (eq-eqb n a.disk.disk is) refl
 
-pub opened-under : (d : Disk) (n : ℕ) → n ≡ d.disk → opened_in (seen_whole d).disks n ≡ d.opened
-opened-under d n is = rw (eq-eqb n d.disk is) refl
+pub opened-under : (a : Alone) (n : ℕ) → n ≡ a.disk.disk → opened_in (seen_whole a).disks n ≡ a.disk.opened
+opened-under a n is = rw (eq-eqb n a.disk.disk is) refl
+
+pub held-under : (a : Alone) (n : ℕ) → n ≡ a.disk.disk → held_in (seen_whole a).disks n ≡ held_on a.disk
+held-under a n is = rw (eq-eqb n a.disk.disk is) refl
 
 one-live : (x n : ℕ) → Contains (x ∷ []) n → n ≡ x
 one-live x n (zero, lt, is) = sym is
 one-live x n (suc k, lt, is) = absurd (omega arith)
 
-pub is-live : (d : Disk) → Contains (live_in (seen_whole d).disks) d.disk
-is-live d = (0, omega arith, refl)
+pub is-live : (a : Alone) → Contains (live_in (seen_whole a).disks) a.disk.disk
+is-live a = (0, omega arith, refl)
 
 abbrev kept-at : ℕ → List DiskSeen → Option (Option Imaged)
 kept-at n [] = None
@@ -68,9 +71,9 @@ same-content (Some c) None t p q = absurd (differ (sym t))
 same-content (Some c) (Some e) t p q = λ i. Some (let x : Content = record { blocks = p i; kept = q i } in x)
 
 -- disks that tell the same have stores that hold the same
-pub whole-content : (a b : Disk) → seen_whole a ≡ seen_whole b → a.content ≡ b.content
+pub whole-content : (a b : Alone) → seen_whole a ≡ seen_whole b → a.disk.content ≡ b.disk.content
 whole-content a b same =
-    same-content a.content b.content (ap (λ (s : Seen). is-told (kept-at 1 s.disks)) same) (ap (λ (s : Seen). blocks-of (kept-at 1 s.disks)) same) (ap (λ (s : Seen). blocks-of (kept-at 2 s.disks)) same)
+    same-content a.disk.content b.disk.content (ap (λ (s : Seen). is-told (kept-at 1 s.disks)) same) (ap (λ (s : Seen). blocks-of (kept-at 1 s.disks)) same) (ap (λ (s : Seen). blocks-of (kept-at 2 s.disks)) same)
 
-pub whole-count : (a b : Disk) → seen_whole a ≡ seen_whole b → a.faults ≡ b.faults
+pub whole-count : (a b : Alone) → seen_whole a ≡ seen_whole b → a.disk.faults ≡ b.disk.faults
 whole-count a b same = ap (λ (s : Seen). faults-first s.disks) same

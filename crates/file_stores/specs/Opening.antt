@@ -4,9 +4,12 @@ use Rattle.spr_io.specs.Content.{Content}
 use Rattle.stack_accept.specs.Mount.{Mount}
 use Rattle.run_defs.specs.Stack.{pages_of}
 use Rattle.disk_format.specs.declared.shape.ImageShape.{ImageShape}
-use Rattle.disk_layer.specs.Disk.{Disk}
 use Rattle.disk_layer.specs.declared.refused.OpenWhy.{OpenWhy}
 use Rattle.disk_layer.specs.Calls as disks
+use Rattle.mirror_rules.specs.Tree.{Seat, Out, Bad}
+use Rattle.mirror_rules.specs.Tree as machine
+use Rattle.mirror_rules.specs.Claims.{Has}
+use Rattle.mirror_layer.specs.Ground.{Ground}
 use Rattle.mirror_layer.specs.Stores.{GivesBack}
 use Rattle.mirror_layer.specs.Bringing.{OpenedOver, RefusedOver}
 use Rattle.mirror_layer.specs.declared.refuse.Refusal.{Refusal}
@@ -17,6 +20,7 @@ use Rattle.file_stores.specs.Files.{FileSeen}
 use Rattle.file_stores.specs.Stops.{Failed, IsNoImage}
 use Rattle.file_stores.specs.declared.stop.Stop.{Stop}
 use Rattle.file_stores.specs.declared.stop.Stop.TheVariants as stops
+use Rattle.file_stores.specs.WholeDisk.{Alone, IsFirst}
 use Rattle.file_stores.specs.Under.{Under, One, Many}
 
 -- the shape of a file's image
@@ -34,14 +38,22 @@ faults_of s = s.state.faults
 abbrev pub under : Mount → StoreSeen → disks.Stored
 under mount s = record { disk = s.key.disk; shape = image_shape mount s.key; content = s.state.content; faults = s.state.faults }
 
+-- the disk of this number is bad
+pub data IsBadOn (disk : ℕ) : Seat → Type 0 where
+  bad_on : {s : machine.Store} → s.disk ≡ disk → IsBadOn disk (Out Bad s)
+
 -- a file's image was opened over its stores
 abbrev pub IsOpened : Mount → FileSeen → Under → Type 0
-IsOpened mount f (One d) = (s : StoreSeen) × (f.stores ≡ s ∷ []) × disks.Opened (under mount s) d
+IsOpened mount f (One a) = (s : StoreSeen) × (f.stores ≡ s ∷ []) × disks.Opened (under mount s) a.disk × IsFirst a
 IsOpened mount f (Many g) = (1 < length f.stores) × OpenedOver content_of faults_of (shape_of_file mount f.file) f.stores mount.ground g
+
+-- the opening of disks in mirrors found this one bad: it was left out, and nothing was written to it
+abbrev pub IsFoundBad : Ground → ℕ → Type 0
+IsFoundBad g disk = Has (IsBadOn disk) g.row
 
 -- what lay under a file was closed, and these are the file's stores
 abbrev pub IsLeft : Under → FileSeen → Type 0
-IsLeft (One d) f = (s : StoreSeen) × (f.stores ≡ s ∷ []) × (s.state ≡ record { content = d.content; faults = d.faults })
+IsLeft (One a) f = (s : StoreSeen) × (f.stores ≡ s ∷ []) × (s.state ≡ record { content = a.disk.content; faults = a.disk.faults })
 IsLeft (Many g) f = GivesBack content_of faults_of g.beside g.row f.stores
 
 -- the stop that a refusal of a file's disks in mirrors is
@@ -63,8 +75,8 @@ pub data IsUnopened (mount : Mount) (f g : FileSeen) (stop : Stop) : Type 0 wher
   unopened_many : {why : Refusal} → 1 < length f.stores → RefusedOver content_of faults_of (shape_of_file mount f.file) f.stores mount.ground why g.stores → stop ≡ refused_by f.file why → IsUnopened mount f g stop
 
 -- a disk was opened over the one store of a list, whatever stores are
-abbrev pub OpenedAlone : {T : Type 0} → (T → Option Content) → (T → ℕ) → ImageShape → List T → Disk → Type 0
-OpenedAlone {T = T} content faults shape stores d = (t : T) × (stores ≡ t ∷ []) × disks.Opened (record { disk = 0; shape = shape; content = content t; faults = faults t }) d
+abbrev pub OpenedAlone : {T : Type 0} → (T → Option Content) → (T → ℕ) → ImageShape → List T → Alone → Type 0
+OpenedAlone {T = T} content faults shape stores a = (t : T) × (stores ≡ t ∷ []) × disks.Opened (record { disk = 0; shape = shape; content = content t; faults = faults t }) a.disk × IsFirst a
 
 -- a disk was refused over the one store of a list, which goes back
 pub record RefusedAlone {T : Type 0} (content : T → Option Content) (faults : T → ℕ) (shape : ImageShape) (stores : List T) (why : OpenWhy) (after : List T) : Type 0 where

@@ -1,15 +1,18 @@
 //! The one disk under a file, which tells contracts all that its store holds.
 
-ghost use Rattle.std.specs.Prelude.{◌≡◌, ◌≤◌, ◌*◌, ◌∷◌, [], OnOk, IfOk, IfErr, length, vec_capacity};
+ghost use Rattle.std.specs.Prelude.{◌≡◌, ◌<◌, ◌≤◌, ◌*◌, ◌^◌, ◌∷◌, [], OnOk, IfOk, IfErr, length, true, vec_capacity};
 ghost use Rattle.disk_format.specs.Shape.{IsShape};
-ghost use Rattle.disk_layer.specs.Disk.{HasImage, Suits};
+ghost use Rattle.disk_layer.specs.Disk.{HasImage, Suits, kept_on, pages_on};
 ghost use Rattle.mirror_rules.specs.Claims.{Every};
 ghost use Rattle.file_stores.specs.Opening.{OpenedAlone, RefusedAlone};
+ghost use Rattle.page_ground.specs.Seen.{IsFault, Keeps, KeptAt};
+ghost use Rattle.file_stores.specs.WholeDisk.{Alone, IsAlone, IsRaised, seen_whole};
 ghost use Rattle.file_stores.specs.Under.{One};
 ghost use Rattle.file_stores.specs.Reading.{Fails, ReadsAll};
 
 use disk_format::ImageShape;
-use disk_layer::{Disk, ONLY_DISK, OpenWhy, read_pages};
+use disk_layer::{Disk, Generations, ONLY_DISK, OpenWhy, read_pages};
+use mirror_layer::next_generation;
 use page_ground::{Ground, StoreFault};
 use spr_io::Store;
 use std::alloc::Global;
@@ -20,19 +23,23 @@ use std::marker::Model;
 #[derive(Drop)]
 pub(crate) struct WholeDisk<S: Store> {
     disk: Disk<S>,
+    /// A raise is owed: the next flush pays it. A disk above generation 1 may be one side of a mirror that is run alone.
+    owed: bool,
+    /// The generation of the ground: that of the disk when it was opened, and then that of the last raise that was taken.
+    level: u64,
     /// The list in which the store came, emptied. So the store goes back in it, and no memory is taken for that.
     emptied: Vec<S>,
 }
 
 impl<S: Store> Model for WholeDisk<S> {
     ghost use Rattle.std.specs.Prelude.{◌≡◌, ◌≤◌, [], vec_capacity};
-    ghost use Rattle.disk_layer.specs.Disk.{Disk};
+    ghost use Rattle.file_stores.specs.WholeDisk.{Alone, IsAlone};
 
-    ghost Value = { Disk };
+    ghost Value = { Alone };
 
-    ghost view = { λ w. w.disk };
+    ghost view = { λ w. record { disk = w.disk; owed = w.owed; generation = w.level } };
 
-    ghost invariant = { λ w. (w.emptied.items ≡ []) × (1 ≤ vec_capacity w.emptied) };
+    ghost invariant = { λ w. (w.emptied.items ≡ []) × (1 ≤ vec_capacity w.emptied) × IsAlone (record { disk = w.disk; owed = w.owed; generation = w.level }) };
 }
 
 /// A disk that is not opened: its store, which is handed back, and the reason.
@@ -62,10 +69,15 @@ impl<S: Store> WholeDisk<S> {
             unreachable!();
         };
         match Disk::open(alloc, store, ONLY_DISK, shape) {
-            Ok(disk) => Ok(WholeDisk {
-                disk,
-                emptied: stores,
-            }),
+            Ok(disk) => {
+                let level = disk.generation();
+                Ok(WholeDisk {
+                    disk,
+                    owed: level > 1,
+                    level,
+                    emptied: stores,
+                })
+            }
             Err(refused) => {
                 stores.push_reserved(refused.store);
                 Err(OpenAlone {
@@ -78,7 +90,7 @@ impl<S: Store> WholeDisk<S> {
 
     /// Gives the store back. It asks no store, and takes no memory.
     pub(crate) fn close(self) -> Vec<S>
-        ensures { (s : S) × (result.items ≡ s ∷ []) × (S.content s ≡ self.content) × (S.faults s ≡ self.faults) }
+        ensures { (s : S) × (result.items ≡ s ∷ []) × (S.content s ≡ self.disk.content) × (S.faults s ≡ self.disk.faults) }
     {
         let mut stores = self.emptied;
         stores.push_reserved(self.disk.close());
@@ -87,7 +99,7 @@ impl<S: Store> WholeDisk<S> {
 
     /// Reads all pages, one after another from the lowest.
     pub(crate) fn read_all(&mut self, out: &mut [u8]) -> Result<(), StoreFault>
-        requires { length out.old ≡ self.old.shape.pages * self.old.shape.page_size }
+        requires { length out.old ≡ self.old.disk.shape.pages * self.old.disk.shape.page_size }
         ensures read { OnOk result (ReadsAll (One self.old) (One self.new) out.new) }
         ensures fault { IfErr result (Fails (One self.old) (One self.new)) }
     {
@@ -96,10 +108,40 @@ impl<S: Store> WholeDisk<S> {
 
     /// What holds of every disk, for proofs alone.
     pub(crate) fn sound(&self)
-        ensures image { HasImage self.now }
-        ensures since { self.now.opened ≤ self.now.faults }
+        ensures image { HasImage self.now.disk }
+        ensures since { self.now.disk.opened ≤ self.now.disk.faults }
+        ensures near { IsAlone self.now }
     {
         self.disk.sound();
+    }
+}
+
+/// A disk alone that is raised. The kit covers no call of a method of `WholeDisk` itself where that is a `Ground`, which goes to
+/// another thread; but that of a trait's.
+trait Raises {
+    /// The disk.
+    ghost alone: { Self → Alone };
+
+    /// Raises the disk once. A raise that was taken gives the ground its number; a refused one leaves it, whatever stands on the
+    /// disk.
+    fn raise(&mut self) -> Result<(), StoreFault>
+        requires owed { (alone self.old).owed ≡ true }
+        ensures raises { IsRaised (alone self.old) result (alone self.new) }
+        ensures pages { pages_on (alone self.new).disk ≡ pages_on (alone self.old).disk }
+        ensures count { OnOk result ((alone self.new).disk.faults ≡ (alone self.old).disk.faults) }
+        ensures kept { OnOk result (KeptAt (kept_on (alone self.new).disk) (pages_on (alone self.new).disk)) }
+        ensures keeps { Keeps (seen_whole (alone self.old)) (seen_whole (alone self.new)) }
+        ensures fault { IfErr result (IsFault (seen_whole (alone self.old)) (seen_whole (alone self.new))) };
+}
+
+impl<S: Store> Raises for WholeDisk<S> {
+    ghost alone = { λ w. w };
+
+    fn raise(&mut self) -> Result<(), StoreFault> {
+        let generation = next_generation(self.level);
+        Generations::raise(&mut self.disk, generation)?;
+        self.level = generation;
+        Ok(())
     }
 }
 
@@ -116,7 +158,15 @@ impl<S: Store> Ground for WholeDisk<S> {
         self.disk.write(page, bytes)
     }
 
+    /// Keeps every page; and pays the raise that is owed, by raising twice. After one raise a side that was not asked before the
+    /// program was stopped may have the same number; after two it is below. A raise flushes.
     fn flush(&mut self) -> Result<(), StoreFault> {
-        self.disk.flush()
+        if !self.owed {
+            return self.disk.flush();
+        }
+        Raises::raise(self)?;
+        Raises::raise(self)?;
+        self.owed = false;
+        Ok(())
     }
 }

@@ -11,7 +11,7 @@ use Rattle.spr_report.specs.declared.status.Status.{Status}
 use Rattle.spr_report.specs.Writing.{Finishes}
 use Rattle.disk_format.specs.declared.shape.ImageShape.{ImageShape}
 use Rattle.page_ground.specs.declared.fault.StoreFault.{StoreFault}
-use Rattle.disk_layer.specs.Disk.{Disk}
+use Rattle.file_stores.specs.WholeDisk.{Alone}
 use Rattle.page_ground.specs.Pages.{cut}
 use Rattle.disk_layer.proofs.PageLaws.{length-cut}
 use Rattle.mirror_layer.specs.Ground.{Ground, seen_of}
@@ -77,14 +77,14 @@ read-of mount f g (One d) (One e) bytes is opened reads left long =
     let old : StoreSeen = opened.0 in
     let new : StoreSeen = left.0 in
     let over = opened.2 in
-    let shape : d.shape ≡ shape_of_file mount f.file = shape-opened mount f (One d) is opened in
-    let own : d.shape ≡ image_shape mount old.key = over.shape in
-    let whole : length bytes ≡ d.shape.pages * d.shape.page_size = long ∙ ap (λ (s : ImageShape). s.pages * s.page_size) (sym shape) in
-    let content : new.state.content ≡ old.state.content = ap (λ (s : StoreState). s.content) left.2 ∙ (ap (λ (x : Disk). x.content) reads.0 ∙ over.content) in
-    let count : new.state.faults ≡ old.state.faults = ap (λ (s : StoreState). s.faults) left.2 ∙ (ap (λ (x : Disk). x.faults) reads.0 ∙ over.calm) in
-    let are : ArePagesOf d.shape d.content (cut d.shape.page_size d.shape.pages bytes) = pages-read d bytes over.image whole reads.1 in
-    let here : ArePagesOf (image_shape mount old.key) old.state.content (cut d.shape.page_size d.shape.pages bytes) =
-    subst (λ (s : ImageShape). ArePagesOf s old.state.content (cut d.shape.page_size d.shape.pages bytes)) own (subst (λ (c : Option Content). ArePagesOf d.shape c (cut d.shape.page_size d.shape.pages bytes)) over.content are) in
+    let shape : d.disk.shape ≡ shape_of_file mount f.file = shape-opened mount f (One d) is opened in
+    let own : d.disk.shape ≡ image_shape mount old.key = over.shape in
+    let whole : length bytes ≡ d.disk.shape.pages * d.disk.shape.page_size = long ∙ ap (λ (s : ImageShape). s.pages * s.page_size) (sym shape) in
+    let content : new.state.content ≡ old.state.content = ap (λ (s : StoreState). s.content) left.2 ∙ (ap (λ (x : Alone). x.disk.content) reads.0 ∙ over.content) in
+    let count : new.state.faults ≡ old.state.faults = ap (λ (s : StoreState). s.faults) left.2 ∙ (ap (λ (x : Alone). x.disk.faults) reads.0 ∙ over.calm) in
+    let are : ArePagesOf d.disk.shape d.disk.content (cut d.disk.shape.page_size d.disk.shape.pages bytes) = pages-read d.disk bytes over.image whole reads.1 in
+    let here : ArePagesOf (image_shape mount old.key) old.state.content (cut d.disk.shape.page_size d.disk.shape.pages bytes) =
+    subst (λ (s : ImageShape). ArePagesOf s old.state.content (cut d.disk.shape.page_size d.disk.shape.pages bytes)) own (subst (λ (c : Option Content). ArePagesOf d.disk.shape c (cut d.disk.shape.page_size d.disk.shape.pages bytes)) over.content are) in
     read_one {old = old} {new = new} opened.1 left.1 (subst (λ (s : ImageShape). ArePagesOf (image_shape mount old.key) old.state.content (cut s.page_size s.pages bytes)) shape here, same-state new.state old.state content count)
 read-of mount f g (One d) (Many z) bytes is opened reads left long = absurd reads.0
 read-of mount f g (Many a) (One e) bytes is opened reads left long = absurd reads.0
@@ -96,9 +96,9 @@ refused-of mount f g (One d) (One e) fault is opened fails left =
     let old : StoreSeen = opened.0 in
     let new : StoreSeen = left.0 in
     let over = opened.2 in
-    let content : new.state.content ≡ old.state.content = ap (λ (s : StoreState). s.content) left.2 ∙ (ap (λ (x : Disk). x.content) fails.0 ∙ over.content) in
-    let count : new.state.faults ≡ e.faults = ap (λ (s : StoreState). s.faults) left.2 in
-    let calm : d.faults ≡ old.state.faults = over.calm in
+    let content : new.state.content ≡ old.state.content = ap (λ (s : StoreState). s.content) left.2 ∙ (ap (λ (x : Alone). x.disk.content) fails.0 ∙ over.content) in
+    let count : new.state.faults ≡ e.disk.faults = ap (λ (s : StoreState). s.faults) left.2 in
+    let calm : d.disk.faults ≡ old.state.faults = over.calm in
     let above = fails.2 in
     let within = fails.3 in
     let only : old.key ≡ record { file = f.file; disk = 0 } = only-key mount f old is opened.1 in
@@ -113,8 +113,8 @@ refused-of mount f g (Many a) (Many z) fault is opened fails left = refused_many
 -- no store's count fell, and what tells goes on telling
 pub read-lasts : (mount : Mount) (f g : FileSeen) (u v : Under) → IsFile mount f → IsOpened mount f u → Calmly u v → keys_of g.stores ≡ stores_of_file (length g.stores) f.file → IsLeft v g → ArePairs Lasts f.stores g.stores
 read-lasts mount f g (One d) (One e) is opened calm keys left =
-    let count = ap (λ (x : Disk). x.faults) calm in
-    alone-lasts mount f g d e is opened keys left (omega (arith, count)) (ap (λ (x : Disk). is_some x.content) calm)
+    let count = ap (λ (x : Alone). x.disk.faults) calm in
+    alone-lasts mount f g d e is opened keys left (omega (arith, count)) (ap (λ (x : Alone). is_some x.disk.content) calm)
 read-lasts mount f g (One d) (Many z) is opened calm keys left = absurd calm
 read-lasts mount f g (Many a) (One e) is opened calm keys left = absurd calm
 read-lasts mount f g (Many a) (Many z) is opened calm keys left = closed-lasts mount f g a z is opened keys left (ap (λ (x : Ground). x.beside) calm.0)
@@ -123,7 +123,7 @@ pub refused-lasts : (mount : Mount) (f g : FileSeen) (u v : Under) (fault : Stor
 refused-lasts mount f g (One d) (One e) fault is opened fails keys left =
     let above = fails.2 in
     let within = fails.3 in
-    alone-lasts mount f g d e is opened keys left (omega (arith, above, within)) (ap (λ (x : Disk). is_some x.content) fails.0)
+    alone-lasts mount f g d e is opened keys left (omega (arith, above, within)) (ap (λ (x : Alone). is_some x.disk.content) fails.0)
 refused-lasts mount f g (One d) (Many z) fault is opened fails keys left = absurd fails
 refused-lasts mount f g (Many a) (One e) fault is opened fails keys left = absurd fails
 refused-lasts mount f g (Many a) (Many z) fault is opened fails keys left = closed-lasts mount f g a z is opened keys left (ap (λ (x : Ground). x.beside) fails.0.0)

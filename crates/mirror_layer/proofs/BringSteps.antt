@@ -1,12 +1,13 @@
 -- A tree whose disks have their stores, over plain variables.
-use Rattle.std.proofs.Common.{◌≡◌, ◌≢◌, ℕ, zero, suc, ◌<◌, ◌≤◌, true, List, [], ◌∷◌, length, map, Option, Some, Ok, Err, refl, sym, ap, ◌∙◌, subst, arith}
+use Rattle.std.proofs.Common.{◌≡◌, ◌≢◌, ℕ, zero, suc, ◌<◌, ◌≤◌, Bool, true, List, [], ◌∷◌, length, map, Option, Some, Ok, Err, refl, sym, ap, ◌∙◌, subst, arith}
+use Rattle.std.specs.Prelude.{◌||◌, ltb}
 use Rattle.std.specs.List.Sorted.{IsPermutation}
 use Rattle.spr_io.specs.Content.{Content}
 use Rattle.disk_format.specs.declared.shape.ImageShape.{ImageShape}
-use Rattle.disk_format.specs.declared.why.BadImage.{BadImage}
+use Rattle.disk_format.specs.declared.why.BadImage as images
 use Rattle.disk_layer.specs.Disk.{Suits}
 use Rattle.stack_accept.specs.Plan.{Plan, disks_in, numbers_below}
-use Rattle.mirror_rules.specs.Tree.{Seat, seats, is_live, top, limit}
+use Rattle.mirror_rules.specs.Tree.{Seat, seats, is_live, owes, limit}
 use Rattle.mirror_rules.proofs.RoundLaws.{live-seats}
 use Rattle.mirror_rules.specs.Tree as machine
 use Rattle.mirror_rules.specs.Claims.{Every, every_none, every_more, Has, has_here, has_later, Pairs, pairs_none, pairs_more, Nth}
@@ -15,14 +16,16 @@ use Rattle.mirror_layer.specs.declared.node.Node.{Node}
 use Rattle.mirror_layer.specs.declared.refuse.Refusal.{Refusal}
 use Rattle.mirror_layer.specs.declared.refuse.Refusal.TheVariants as why
 use Rattle.mirror_layer.specs.View.{Beside, beside_in, beside_of_shut, tree_of}
+use Rattle.mirror_layer.specs.Calls.{all_told}
 use Rattle.mirror_layer.specs.Ground.{Differ, Counted}
 use Rattle.mirror_layer.specs.Stores.{Finds, Numbered, GivesBack}
 use Rattle.mirror_layer.specs.Filling.{HasStore, has_store, Fills, fills, Apart}
 use Rattle.mirror_layer.specs.Meeting.{IsNew, AllNew, Found, IsBadOf, Met, shuts_in}
 use Rattle.mirror_layer.specs.Bringing.{Brought, brought, Lies, lies, Seen, IsReady, RefusedOver, refused, lacked, UnitedAs, IsFirstOf, IsBadStore, bad_store}
-use Rattle.mirror_rules.specs.Opening.{Opens, Bad, Lost}
+use Rattle.mirror_rules.specs.Opening.{Opens, Good, BadImage, Lost}
 use Rattle.mirror_layer.proofs.CloseSteps.{nth-some}
 use Rattle.mirror_layer.proofs.OpenSteps.{news}
+use Rattle.mirror_layer.proofs.PlaceSteps.{row-length}
 use Rattle.mirror_layer.proofs.EnterSteps.{told-every}
 use Rattle.mirror_layer.proofs.SizeSteps.{sizes}
 use Rattle.mirror_layer.proofs.LastSteps.{lasting, blames}
@@ -121,30 +124,37 @@ abbrev pub seen-by : {D H : Type 0} {T : Type 0} {content : T → Option Content
     → Seen content faults shape stores plan (beside_in n)
 seen-by {xs = xs} f m = record { stores_seen = m.seen; row = xs; brought = brought-all f.fills m.found; lies = f.lies; meets = m.meets }
 
+-- how many disks there are, and whether a raise is owed
+pub disks-row : {D H : Type 0} (n : Node D H) (disks : ℕ) → disks ≡ length (beside_in n) → disks ≡ length (seats (tree_of n))
+disks-row n disks e = e ∙ sym (row-length n)
+
+pub owes-by : {owed : Bool} {disks : ℕ} (us : List Seat) (g : ℕ) → disks ≡ length us → owed ≡ (ltb 1 disks || ltb 1 g) → owed ≡ owes us g
+owes-by us g e o = o ∙ ap (λ n. ltb 1 n || ltb 1 g) e
+
 -- an opening that went well
-pub ready : {D H : Type 0} {T : Type 0} {content : T → Option Content} {faults : T → ℕ} {shape : ImageShape} {stores : List T} {plan : Plan} (n m : Node D H) (places : List (Option T)) (emptied : List T) (room : ℕ) (u : Unit {0})
-    → Filled content faults shape stores plan n → beside_in m ≡ beside_in n → UnitedAs (Ok u) shape (shuts_in n) (beside_in n) (seats (tree_of m)) → is_live (tree_of m) ≡ true → Pairs Counted (beside_in m) (seats (tree_of m)) → top (seats (tree_of m)) ≤ limit
-    → length places ≡ length stores → emptied ≡ [] → length stores ≤ room → IsReady content faults shape stores plan (beside_in m) (seats (tree_of m)) places emptied room
-ready {content = content} {faults = faults} {shape = shape} {stores = stores} {plan = plan} n m places emptied room u f same goes live counts within many empty enough =
+pub ready : {D H : Type 0} {T : Type 0} {content : T → Option Content} {faults : T → ℕ} {shape : ImageShape} {stores : List T} {plan : Plan} (n m : Node D H) (places : List (Option T)) (emptied : List T) (room : ℕ) (owed : Bool) (g : ℕ)
+    → Filled content faults shape stores plan n → beside_in m ≡ beside_in n → UnitedAs (Ok g) shape (shuts_in n) (beside_in n) (seats (tree_of m)) → owed ≡ owes (seats (tree_of m)) g → is_live (tree_of m) ≡ true → Pairs Counted (beside_in m) (seats (tree_of m)) → g ≤ limit
+    → length places ≡ length stores → emptied ≡ [] → length stores ≤ room → IsReady content faults shape stores plan (beside_in m) (seats (tree_of m)) owed g places emptied room
+ready {content = content} {faults = faults} {shape = shape} {stores = stores} {plan = plan} n m places emptied room owed g f same goes due live counts within many empty enough =
     let us = seats (tree_of m) in
-    let r : IsReady content faults shape stores plan (beside_in n) us places emptied room = record {
+    let r : IsReady content faults shape stores plan (beside_in n) us owed g places emptied room = record {
       seen = seen-by f goes.met;
-      opens = goes.opens;
+      opens = subst (λ o. Opens (all_told (beside_in n)) shape.pages goes.row (Good o g) us) (sym due) goes.opens;
       live = live-seats (tree_of m) live;
       counts = subst (λ bs. Pairs Counted bs us) same counts;
       within = within;
       differ = f.ordered.differ;
       keeps = record { numbered = f.ordered.numbered; many = many ∙ sym f.ordered.many; empty = empty; enough = omega (arith, enough, f.ordered.many) };
     } in
-    subst (λ bs. IsReady content faults shape stores plan bs us places emptied room) (sym same) r
+    subst (λ bs. IsReady content faults shape stores plan bs us owed g places emptied room) (sym same) r
 
 -- why the blocks of the first disk's store are no image
-bad-first : {T : Type 0} {content : T → Option Content} {faults : T → ℕ} {shape : ImageShape} {stores : List T} {disk : ℕ} {bad : BadImage} {ns : List ℕ} (s : ShutSeen) {ss : List ShutSeen}
+bad-first : {T : Type 0} {content : T → Option Content} {faults : T → ℕ} {shape : ImageShape} {stores : List T} {disk : ℕ} {bad : images.BadImage} {ns : List ℕ} (s : ShutSeen) {ss : List ShutSeen}
     → Pairs (Fills content faults shape (map (λ s. Some s) stores)) ns (s ∷ ss) → s.disk ≡ disk → IsBadOf s.shape s.content bad → IsBadStore content shape stores disk bad
 bad-first {content = content} {shape = shape} {stores = stores} {disk = disk} {bad = bad} s (pairs_more {x = n} (fills {t} e d h c f) fs) q r =
     bad_store {t = t} (subst (λ v. Nth v stores t) (sym d ∙ q) (nth-some stores n t e)) (subst (λ v. IsBadOf shape v bad) c (subst (λ v. IsBadOf v s.content bad) h r))
 
-bad-placed : {T : Type 0} {content : T → Option Content} {faults : T → ℕ} {shape : ImageShape} {stores : List T} {disk : ℕ} {bad : BadImage} {ns : List ℕ} {ss : List ShutSeen}
+bad-placed : {T : Type 0} {content : T → Option Content} {faults : T → ℕ} {shape : ImageShape} {stores : List T} {disk : ℕ} {bad : images.BadImage} {ns : List ℕ} {ss : List ShutSeen}
     → Pairs (Fills content faults shape (map (λ s. Some s) stores)) ns ss → IsFirstOf ss disk bad → IsBadStore content shape stores disk bad
 bad-placed {content = content} {faults = faults} {shape = shape} {stores = stores} {ns = ns} fs f = bad-first f.shut (subst (λ v. Pairs (Fills content faults shape (map (λ s. Some s) stores)) ns v) f.first fs) f.number f.reason
 
@@ -152,11 +162,11 @@ bad-placed {content = content} {faults = faults} {shape = shape} {stores = store
 pub refused-as : {D H : Type 0} {T : Type 0} {content : T → Option Content} {faults : T → ℕ} {shape : ImageShape} {stores : List T} {plan : Plan} (n m : Node D H) (reason : Refusal) (after : List T) → Filled content faults shape stores plan n → beside_in m ≡ beside_in n
     → UnitedAs (Err reason) shape (shuts_in n) (beside_in n) (seats (tree_of m)) → GivesBack content faults (beside_in m) (seats (tree_of m)) after → RefusedOver content faults shape stores plan reason after
 refused-as {content = content} {faults = faults} {shape = shape} n m (why.BadImage disk bad) after f same goes back =
-    refused {reason = why.BadImage disk bad} (seen-by f goes.0.met) goes.0.opens refl (bad-placed f.fills goes.1) (blames (Bad disk) goes.0.opens goes.0.met.meets)
-    (λ told. lasting (subst (λ t. Opens t shape.page_size shape.pages goes.0.row (Bad disk) (seats (tree_of m))) told goes.0.opens) goes.0.met.meets (sizes (brought-all f.fills goes.0.met.found) f.lies (told-every (beside_in n) told)))
+    refused {reason = why.BadImage disk bad} (seen-by f goes.0.met) goes.0.opens refl (bad-placed f.fills goes.1) (blames (BadImage disk) goes.0.opens goes.0.met.meets)
+    (λ told. lasting (subst (λ t. Opens t shape.pages goes.0.row (BadImage disk) (seats (tree_of m))) told goes.0.opens) goes.0.met.meets (sizes (brought-all f.fills goes.0.met.found) f.lies (told-every (beside_in n) told)))
     (subst (λ bs. GivesBack content faults bs (seats (tree_of m)) after) same back)
 refused-as {content = content} {faults = faults} {shape = shape} n m (why.StoreFault fault) after f same goes back =
     refused {reason = why.StoreFault fault} (seen-by f goes.met) goes.opens (refl, refl) tt (blames (Lost fault.disk fault.count) goes.opens goes.met.meets)
-    (λ told. lasting (subst (λ t. Opens t shape.page_size shape.pages goes.row (Lost fault.disk fault.count) (seats (tree_of m))) told goes.opens) goes.met.meets (sizes (brought-all f.fills goes.met.found) f.lies (told-every (beside_in n) told)))
+    (λ told. lasting (subst (λ t. Opens t shape.pages goes.row (Lost fault.disk fault.count) (seats (tree_of m))) told goes.opens) goes.met.meets (sizes (brought-all f.fills goes.met.found) f.lies (told-every (beside_in n) told)))
     (subst (λ bs. GivesBack content faults bs (seats (tree_of m)) after) same back)
 refused-as {content = content} {faults = faults} n m why.Memory after f same goes back = lacked (brought-all f.fills goes.found) f.lies goes.rests (subst (λ bs. GivesBack content faults bs (seats (tree_of m)) after) same back)

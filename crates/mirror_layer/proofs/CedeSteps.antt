@@ -2,7 +2,7 @@
 use Rattle.std.proofs.Common.{◌≡◌, ℕ, ◌+◌, ◌<◌, ◌≤◌, Bool, true, false, not, ◌||◌, List, [], ◌∷◌, ◌++◌, refl, ap, ◌∙◌, arith}
 use Rattle.std.specs.Prelude.{eqb}
 use Rattle.std.proofs.lemmas.Bool.{eqb-true}
-use Rattle.mirror_rules.specs.Tree.{Image, Cell, Store, Seat, In, Out, lives, closed}
+use Rattle.mirror_rules.specs.Tree.{Image, Cell, Store, Why, Down, Seat, In, Out, lives, closed}
 use Rattle.mirror_rules.specs.Claims.{Pairs, pairs_none, pairs_more}
 use Rattle.mirror_rules.specs.Steps.{Says, Fault, is_fault, refused, raise_unkept, raise_kept, flush_kept, Looked, looked_out, looked_stale, looked_same, looked_refused}
 use Rattle.mirror_rules.specs.Opening.{Wins, wins_here, wins_later, wins_out, GivesWay, way_none, way_out, way_waits, way_left, Only, only_here, only_later, Copies, copy_same, copy_differs, copy_left, copy_gone, copy_even, copy_settled, copy_unflushed, copy_unraised, Enters, enter_end, enter_next, enter_joins, enter_gone}
@@ -15,7 +15,7 @@ use Rattle.mirror_layer.specs.Ceding.{AtFirst, first_in, first_out, Cede, cede_o
 -- a disk in an opening in which no image has changed: its image is as it was, and if it is left out its count rose; or it joined. If the
 -- ground refused a read at the end, the count of each live disk rose
 pub data Spared (f : Bool) : Seat → Seat → Type 0 where
-  spared_out : {b : Bool} {s : Store} → Spared f (Out b s) (Out b s)
+  spared_out : {b : Why} {s : Store} → Spared f (Out b s) (Out b s)
   spared_waits : {c : Cell} → Spared f (In false c) (In false c)
   spared_left : {c d : Cell} → d.disk ≡ c.disk → d.now ≡ c.now → c.faults < d.faults → Spared f (In false c) (In false d)
   spared_joined : {c d : Cell} → Spared f (In false c) (In true d)
@@ -68,7 +68,7 @@ not-not : (b : Bool) → not b ≡ false → b ≡ true
 not-not true e = refl
 not-not false e = cc
 
-copies-spared : {told : Bool} {i n p : ℕ} {e w : Bool} {s : Says} {xs ys : List Seat} → Copies told i e n p xs s w ys → w ≡ false → Pairs (Spared (is_fault s)) xs ys
+copies-spared : {told : Bool} {g i n p : ℕ} {e w : Bool} {s : Says} {xs ys : List Seat} → Copies told g i e n p xs s w ys → w ≡ false → Pairs (Spared (is_fault s)) xs ys
 copies-spared (copy_same h k q r) z = looks h.each (copies-spared r z)
 copies-spared (copy_differs h ne q k r) z = cc
 copies-spared (copy_left {c = c} h l k) z = looks h.each (only-spared k (spared_left refl refl l))
@@ -90,7 +90,7 @@ none-right false b e = e
 none-right true b e = cc
 
 -- the disks that join, where no image has changed
-pub enters-spared : {told : Bool} {n i m : ℕ} {w : Bool} {s : Says} {xs ys : List Seat} → Enters told n i m xs s w ys → w ≡ false → Pairs (Spared (is_fault s)) xs ys
+pub enters-spared : {told : Bool} {g n i m : ℕ} {w : Bool} {s : Says} {xs ys : List Seat} → Enters told g n i m xs s w ys → w ≡ false → Pairs (Spared (is_fault s)) xs ys
 enters-spared (enter_end {xs = xs}) z = spared-row xs
 enters-spared (enter_next h p r) z = enters-spared r z
 enters-spared (enter_joins {w = w} {z = y} h q k r) z = spareds (copies-spared k (none-left y w z)) (enters-spared r (none-right y w z))
@@ -133,7 +133,7 @@ lives_append (In true c ∷ xs) ys = omega (arith, lives_append xs ys)
 lives_append (In false c ∷ xs) ys = lives_append xs ys
 lives_append (Out b s ∷ xs) ys = lives_append xs ys
 
-pub cede-then : (m : Mark) (b : Beside) (c : Cell) → b.opened < c.faults → Cede b (seat_of m c) (Out false (closed (In false c)))
+pub cede-then : (m : Mark) (b : Beside) (c : Cell) → b.opened < c.faults → Cede b (seat_of m c) (Out Down (closed (In false c)))
 cede-then mark.Live b c l = cede_failed l
 cede-then mark.Left b c l = cede_failed l
 cede-then mark.Down b c l = cede_out

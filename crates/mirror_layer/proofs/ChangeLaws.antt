@@ -5,11 +5,11 @@ use Rattle.std.specs.Option.{option_map}
 use Rattle.page_ground.specs.Seen.{Imaged}
 use Rattle.page_ground.specs.Seen.{Are, DiskSeen, KeptAt, Turns}
 use Rattle.page_ground.specs.Seen as seen
-use Rattle.mirror_rules.specs.Tree.{Image, Cell, Store, Seat, In, Out, Tree, seats}
+use Rattle.mirror_rules.specs.Tree.{Image, Cell, Store, Why, Seat, In, Out, Tree, seats}
 use Rattle.mirror_rules.specs.Claims.{Pairs, pairs_none, pairs_more, Every, every_none, every_more, Has, has_here, has_later, IsLive, HasPages, pages_live, pages_left, pages_out, Keeps, keeps_out, keeps_left, keeps_live, keeps_lost, Rose, rose_live, rose_left, rose_out}
 use Rattle.mirror_rules.specs.Claims as claims
 use Rattle.mirror_rules.specs.Fates.{disk_of}
-use Rattle.mirror_rules.specs.Steps.{Act, Write, Says, Done, Fault, is_done, Takes, write_taken, raise_taken, flush_taken, refused, Asked, asked_out, asked_stale, asked_took, asked_lost, asked_none, Looked, looked_out, looked_stale, looked_same, looked_refused, Named, named_here, named_later, Reads, read_taken, read_refused, read_below, read_left, read_right, read_left_only, read_right_only, Round, Raised, raised_whole, raised_again, raised_none, Pays, pays_none, pays_raise, Flushes, flush_whole, flush_lost, flush_none, flush_unraised}
+use Rattle.mirror_rules.specs.Steps.{Act, Write, Says, Done, Fault, is_done, Takes, write_taken, raise_taken, flush_taken, refused, Asked, asked_out, asked_stale, asked_took, asked_lost, asked_none, Looked, looked_out, looked_stale, looked_same, looked_refused, Named, named_here, named_later, Reads, read_taken, read_refused, read_below, read_left, read_right, read_left_only, read_right_only, Round, Raised, raised_whole, raised_again, raised_none, Pays, pays_twice, pays_unraised, Flushes, flush_owed, flush_even, flush_lost, flush_none}
 use Rattle.mirror_rules.proofs.RoundLaws.{pairs-map, reads-each}
 use Rattle.mirror_rules.proofs.PageLaws.{pairs-then}
 use Rattle.mirror_rules.proofs.GuardLaws.{Rises, rises_live}
@@ -25,7 +25,7 @@ pub data Turning (T : Bool) (F G : List (List ℕ)) (c d : Cell) : Type 0 where
 
 -- a disk in a call: T, whether all is told; F and G, the ground's pages at its start and at its end
 pub data Change (T : Bool) (F G : List (List ℕ)) : Seat → Seat → Type 0 where
-  change_out : {b : Bool} {s : Store} → Change T F G (Out b s) (Out b s)
+  change_out : {b : Why} {s : Store} → Change T F G (Out b s) (Out b s)
   change_left : {c : Cell} → Change T F G (In false c) (In false c)
   change_live : {c d : Cell} → d.disk ≡ c.disk → c.faults ≤ d.faults → (T ≡ true → (claims.pages_in d.kept ≡ claims.pages_in c.kept) ⊎ (claims.pages_in d.kept ≡ Some F)) → Turning T F G c d → Change T F G (In true c) (In true d)
   change_lost : {c d : Cell} → d.disk ≡ c.disk → c.faults < d.faults → Turning T F G c d → Change T F G (In true c) (In false d)
@@ -97,12 +97,12 @@ turn-step T true F G (turning_same e) = inl (ap (λ (v : Image). image_told true
 turn-step T true F G {c} {d} (turning_to l f) = inr (record { old = as_imaged c.now; new = as_imaged d.now; was = refl; is = refl; later = l; pages = are-told T F G d.now.pages f })
 
 change-step : (T : Bool) (F G : List (List ℕ)) (b : Beside) {x y : Seat} → Counted b x → Change T F G x y → Step (pages_told T F) (pages_told T G) (disk_seen b x) (disk_seen b y)
-change-step T F G b (counted e l) change_out = record { disk = refl; opened = refl; told = refl; later = omega arith; since = l; live = λ q. cc; lost = λ q. cc; kept = λ q. cc; up = refl; turned = inl refl }
-change-step T F G b (counted e l) change_left = record { disk = refl; opened = refl; told = refl; later = omega arith; since = l; live = λ q. cc; lost = λ q. cc; kept = λ q. cc; up = refl; turned = inl refl }
+change-step T F G b (counted e l) change_out = record { disk = refl; opened = refl; told = refl; later = omega arith; since = l; live = λ q. cc; lost = λ q. cc; kept = λ q. cc; up = refl; turned = inl refl; aside = λ q. refl }
+change-step T F G b (counted e l) change_left = record { disk = refl; opened = refl; told = refl; later = omega arith; since = l; live = λ q. cc; lost = λ q. cc; kept = λ q. cc; up = refl; turned = inl refl; aside = λ q. refl }
 change-step T F G b (counted e l) (change_live {c = c} {d = d} i k f m) =
-    record { disk = i; opened = refl; told = told-step b.told c.kept d.kept; later = k; since = l; live = λ q. refl; lost = λ q. inl refl; kept = λ q. kept-step T b.told F c.kept d.kept f; up = refl; turned = turn-step T b.told F G m }
+    record { disk = i; opened = refl; told = told-step b.told c.kept d.kept; later = k; since = l; live = λ q. refl; lost = λ q. inl refl; kept = λ q. kept-step T b.told F c.kept d.kept f; up = refl; turned = turn-step T b.told F G m; aside = λ q. cc }
 change-step T F G b (counted e l) (change_lost {c = c} {d = d} i k m) =
-    record { disk = i; opened = refl; told = told-step b.told c.kept d.kept; later = omega arith; since = l; live = λ q. cc; lost = λ q. inr k; kept = λ q. cc; up = refl; turned = turn-step T b.told F G m }
+    record { disk = i; opened = refl; told = told-step b.told c.kept d.kept; later = omega arith; since = l; live = λ q. cc; lost = λ q. inr k; kept = λ q. cc; up = refl; turned = turn-step T b.told F G m; aside = λ q. cc }
 
 pub steps : {T : Bool} {F G : List (List ℕ)} {bs : List Beside} {xs ys : List Seat} → Pairs Counted bs xs → Pairs (Change T F G) xs ys → Pairs (Step (pages_told T F) (pages_told T G)) (disks_seen bs xs) (disks_seen bs ys)
 steps pairs_none pairs_none = pairs_none
@@ -158,7 +158,7 @@ got-back (y ∷ ys) (suc p) x l e = got-back ys p x (omega arith) e
 pub data Unfaulted : Seat → Seat → Type 0 where
   unfaulted_live : {c d : Cell} → d.faults ≡ c.faults → d.disk ≡ c.disk → Unfaulted (In true c) (In true d)
   unfaulted_left : {x : Seat} {d : Cell} → Unfaulted x (In false d)
-  unfaulted_out : {x : Seat} {b : Bool} {s : Store} → Unfaulted x (Out b s)
+  unfaulted_out : {x : Seat} {b : Why} {s : Store} → Unfaulted x (Out b s)
 
 unfaulted-then : {x y z : Seat} → Unfaulted x y → Unfaulted y z → Unfaulted x z
 unfaulted-then (unfaulted_live a b) (unfaulted_live c d) = unfaulted_live (c ∙ a) (d ∙ b)
@@ -187,20 +187,20 @@ round-calm h = pairs-map (λ x y. one) h where
 calm-then : {xs ys zs : List Seat} → Pairs Unfaulted xs ys → Pairs Unfaulted ys zs → Pairs Unfaulted xs zs
 calm-then h i = pairs-then (λ x y z. unfaulted-then) h i
 
-raised-calm : {s : Says} {xs ys : List Seat} → Raised xs s ys → is_done s ≡ true → Pairs Unfaulted xs ys
+raised-calm : {g h : ℕ} {s : Says} {xs ys : List Seat} → Raised g xs s h ys → is_done s ≡ true → Pairs Unfaulted xs ys
 raised-calm (raised_whole h) e = round-calm h.each
 raised-calm (raised_again h i) e = calm-then (round-calm h.each) (raised-calm i e)
 raised-calm (raised_none h) e = cc
 
-pays-calm : {o : Bool} {s : Says} {xs ys : List Seat} → Pays o xs s ys → is_done s ≡ true → Pairs Unfaulted xs ys
-pays-calm (pays_none {xs = xs}) e = unfaulted-row xs
-pays-calm (pays_raise h) e = raised-calm h e
+pays-calm : {g h : ℕ} {s : Says} {xs ys : List Seat} → Pays g xs s h ys → is_done s ≡ true → Pairs Unfaulted xs ys
+pays-calm (pays_twice h i) e = calm-then (raised-calm h refl) (raised-calm i e)
+pays-calm (pays_unraised h) e = cc
 
-pub flush-calm : {o q : Bool} {s : Says} {xs ys : List Seat} → Flushes o xs s q ys → is_done s ≡ true → Pairs Unfaulted xs ys
-flush-calm (flush_whole h i) e = calm-then (pays-calm h refl) (round-calm i.each)
-flush-calm (flush_lost h i k) e = calm-then (calm-then (pays-calm h refl) (round-calm i.each)) (flush-calm k e)
-flush-calm (flush_none h i) e = cc
-flush-calm (flush_unraised h) e = cc
+pub flush-calm : {o q : Bool} {g h : ℕ} {s : Says} {xs ys : List Seat} → Flushes o g xs s q h ys → is_done s ≡ true → Pairs Unfaulted xs ys
+flush-calm (flush_owed h) e = pays-calm h e
+flush-calm (flush_even h) e = round-calm h.each
+flush-calm (flush_lost h i) e = calm-then (round-calm h.each) (pays-calm i e)
+flush-calm (flush_none h) e = cc
 
 pub calm-where : {bs : List Beside} {xs ys : List Seat} → Pairs Counted bs xs → Pairs Unfaulted xs ys → Has IsLive ys → Somewhere Calm (disks_seen bs xs) (disks_seen bs ys)
 calm-where (pairs_more c h) (pairs_more (unfaulted_live a b) i) (has_here k) = some_here (refl, a, b)
@@ -273,17 +273,17 @@ pub round-live : {a : Act} {s : Says} {xs ys : List Seat} → Round a xs s ys �
 round-live {s = Done w} h k = h.answer.0
 round-live {s = Fault d n} h k = none-live h.each k
 
-raised-stay : {s : Says} {xs ys : List Seat} → Raised xs s ys → Has IsLive xs → Has IsLive ys
+raised-stay : {g h : ℕ} {s : Says} {xs ys : List Seat} → Raised g xs s h ys → Has IsLive xs → Has IsLive ys
 raised-stay (raised_whole h) k = round-live h k
 raised-stay (raised_again h i) k = raised-stay i (round-live h k)
 raised-stay (raised_none h) k = round-live h k
 
-pays-stay : {o : Bool} {s : Says} {xs ys : List Seat} → Pays o xs s ys → Has IsLive xs → Has IsLive ys
-pays-stay pays_none k = k
-pays-stay (pays_raise h) k = raised-stay h k
+pays-stay : {g h : ℕ} {s : Says} {xs ys : List Seat} → Pays g xs s h ys → Has IsLive xs → Has IsLive ys
+pays-stay (pays_twice h i) k = raised-stay i (raised-stay h k)
+pays-stay (pays_unraised h) k = raised-stay h k
 
-pub flush-stay : {o q : Bool} {s : Says} {xs ys : List Seat} → Flushes o xs s q ys → Has IsLive xs → Has IsLive ys
-flush-stay (flush_whole h i) k = round-live i (pays-stay h k)
-flush-stay (flush_lost h i r) k = flush-stay r (round-live i (pays-stay h k))
-flush-stay (flush_none h i) k = round-live i (pays-stay h k)
-flush-stay (flush_unraised h) k = pays-stay h k
+pub flush-stay : {o q : Bool} {g h : ℕ} {s : Says} {xs ys : List Seat} → Flushes o g xs s q h ys → Has IsLive xs → Has IsLive ys
+flush-stay (flush_owed h) k = pays-stay h k
+flush-stay (flush_even h) k = round-live h k
+flush-stay (flush_lost h i) k = pays-stay i (round-live h k)
+flush-stay (flush_none h) k = round-live h k

@@ -1,5 +1,5 @@
 -- The stores that a ground gives back, over plain variables.
-use Rattle.std.proofs.Common.{◌≡◌, ◌≢◌, ℕ, zero, suc, ◌+◌, ◌<◌, ◌≤◌, Bool, true, List, [], ◌∷◌, ◌++◌, length, get_or, map, take, Option, Some, None, refl, sym, ap, ◌∙◌, subst, arith}
+use Rattle.std.proofs.Common.{◌≡◌, ◌≢◌, ℕ, zero, suc, ◌+◌, ◌<◌, ◌≤◌, Bool, true, false, List, [], ◌∷◌, ◌++◌, length, get_or, map, take, Option, Some, None, refl, sym, ap, ◌∙◌, subst, arith}
 use Rattle.std.specs.Prelude.{is_some}
 use Rattle.std.proofs.lemmas.Grind.{common_steps}
 use Rattle.std.proofs.lemmas.List.{length-map}
@@ -13,25 +13,25 @@ use Rattle.disk_layer.specs.Disk.{Disk, HasImage, kept_on}
 use Rattle.mirror_rules.specs.Tree.{Cell, Seat, In, Out, closed}
 use Rattle.mirror_rules.specs.Tree as machine
 use Rattle.mirror_rules.specs.Claims.{Pairs, pairs_none, pairs_more, Every, every_none, every_more, Has, has_here, has_later, Nth, nth_here, nth_later}
-use Rattle.mirror_rules.specs.Guards.{Leaves, leaves, leaves_none, shows_now, shows_out}
+use Rattle.mirror_rules.specs.Guards.{Direct, Leaves, leaves, leaves_none, shows_now, shows_out}
 use Rattle.mirror_rules.specs.Fates.{faults_of}
 use Rattle.mirror_rules.proofs.RoundLaws.{pairs-append}
 use Rattle.mirror_layer.specs.declared.node.Mark.{Mark}
 use Rattle.mirror_layer.specs.declared.node.Mark.TheVariants as mark
 use Rattle.mirror_layer.specs.Shut.{ShutSeen, content_in, faults_in}
-use Rattle.mirror_layer.specs.View.{Beside, as_image, cell_of, seat_of, store_of, beside_of, beside_of_shut}
+use Rattle.mirror_layer.specs.View.{Beside, as_image, cell_of, seat_of, store_of, beside_of, beside_of_shut, why_from, why_of}
 use Rattle.mirror_layer.specs.Ground.{Differ}
 use Rattle.mirror_layer.specs.Stores.{Finds, kept_of, Shuts, shuts, Stored, stored, Left, left, GivesBack, Numbered}
 
 -- a closed disk, as the machine sees its store
 abbrev pub shut_cell : Cell → machine.Store
-shut_cell c = record { disk = c.disk; image = Some c.now; kept = c.kept; faults = c.faults }
+shut_cell c = record { disk = c.disk; image = Some c.now; kept = c.kept; blank = false; faults = c.faults }
 
 pub finds : (d : Disk) (c : Option Content) → HasImage (record d { content = c }) → Finds d.shape d.disk c d.faults (shut_cell (cell_of (record d { content = c })))
-finds d None h = record { number = refl; count = refl; now = tt; last = tt }
-finds d (Some c) h = record { number = refl; count = refl; now = sym (ap (λ v. option_map {T = Imaged} as_image v) h); last = refl }
+finds d None h = record { number = refl; count = refl; now = tt; last = tt; zeros = tt }
+finds d (Some c) h = record { number = refl; count = refl; now = sym (ap (λ v. option_map {T = Imaged} as_image v) h); last = refl; zeros = λ e. cc }
 
-leaves-cell : (m : Mark) (c : Cell) → Leaves (seat_of m c) (shut_cell c)
+leaves-cell : (m : Mark) (c : Cell) → Leaves Direct (seat_of m c) (shut_cell c)
 leaves-cell mark.Live c = leaves shows_now refl
 leaves-cell mark.Left c = leaves shows_now refl
 leaves-cell mark.Down c = leaves (shows_out refl) refl
@@ -63,29 +63,29 @@ shut-opened content faults m d t places e f h l p =
     pairs_more (shuts p k (leaves-cell m (cell_of d)) (faults-cell m (cell_of d)) (kept-cell m (cell_of d)) (ap is_some e ∙ sym (told-kept d)) (subst (λ v. d.opened ≤ v) (sym f) l)) pairs_none
 
 -- a disk that was not opened
-abbrev pub shut_seen : {T : Type 0} (content : T → Option Content) (faults : T → ℕ) → ℕ → ImageShape → Option BadImage → ℕ → Option T → ShutSeen
-shut_seen content faults disk shape bad opened o = record { disk = disk; shape = shape; there = is_some o; bad = bad; content = content_in content o; faults = faults_in faults o; opened = opened }
+abbrev pub shut_seen : {T : Type 0} (content : T → Option Content) (faults : T → ℕ) → ℕ → ImageShape → Option BadImage → Bool → ℕ → Option T → ShutSeen
+shut_seen content faults disk shape bad blank opened o = record { disk = disk; shape = shape; there = is_some o; bad = bad; blank = blank; content = content_in content o; faults = faults_in faults o; opened = opened }
 
-pub finds-shut : (shape : ImageShape) (disk : ℕ) (bad : Option BadImage) (there : Bool) (opened n : ℕ) (c : Option Content) → Finds shape disk c n (store_of (record { disk = disk; shape = shape; there = there; bad = bad; content = c; faults = n; opened = opened }))
-finds-shut shape disk bad there opened n None = record { number = refl; count = refl; now = tt; last = tt }
-finds-shut shape disk bad there opened n (Some c) = record { number = refl; count = refl; now = refl; last = refl }
+pub finds-shut : (shape : ImageShape) (disk : ℕ) (bad : Option BadImage) (blank there : Bool) (opened n : ℕ) (c : Option Content) → Finds shape disk c n (store_of (record { disk = disk; shape = shape; there = there; bad = bad; blank = blank; content = c; faults = n; opened = opened }))
+finds-shut shape disk bad blank there opened n None = record { number = refl; count = refl; now = tt; last = tt; zeros = tt }
+finds-shut shape disk bad blank there opened n (Some c) = record { number = refl; count = refl; now = refl; last = refl; zeros = λ e. refl }
 
-leaves-shut : (b : Bool) (s : machine.Store) (i : Option machine.Image) → s.image ≡ i → Leaves (Out b s) s
+leaves-shut : (b : machine.Why) (s : machine.Store) (i : Option machine.Image) → s.image ≡ i → Leaves Direct (Out b s) s
 leaves-shut b s None e = leaves_none e e
 leaves-shut b s (Some i) e = leaves (shows_out e) e
 
-shut-there : {T : Type 0} (content : T → Option Content) (faults : T → ℕ) (disk : ℕ) (shape : ImageShape) (bad : Option BadImage) (opened : ℕ) (o : Option T) (places : List (Option T)) → is_some o ≡ true → opened ≤ faults_in faults o → get_or places disk None ≡ o
-    → Pairs (Shuts content faults places) (beside_of_shut (shut_seen content faults disk shape bad opened o) ∷ []) (Out (is_some bad) (store_of (shut_seen content faults disk shape bad opened o)) ∷ [])
-shut-there content faults disk shape bad opened None places e l p = cc
-shut-there content faults disk shape bad opened (Some t) places e l p =
-    let h : ShutSeen = shut_seen content faults disk shape bad opened (Some t) in
-    pairs_more (shuts p (finds-shut shape disk bad true opened (faults t) (content t)) (leaves-shut (is_some bad) (store_of h) (store_of h).image refl) refl refl refl l) pairs_none
+shut-there : {T : Type 0} (content : T → Option Content) (faults : T → ℕ) (disk : ℕ) (shape : ImageShape) (bad : Option BadImage) (blank : Bool) (opened : ℕ) (o : Option T) (places : List (Option T)) → is_some o ≡ true → opened ≤ faults_in faults o → get_or places disk None ≡ o
+    → Pairs (Shuts content faults places) (beside_of_shut (shut_seen content faults disk shape bad blank opened o) ∷ []) (Out (why_from bad blank) (store_of (shut_seen content faults disk shape bad blank opened o)) ∷ [])
+shut-there content faults disk shape bad blank opened None places e l p = cc
+shut-there content faults disk shape bad blank opened (Some t) places e l p =
+    let h : ShutSeen = shut_seen content faults disk shape bad blank opened (Some t) in
+    pairs_more (shuts p (finds-shut shape disk bad blank true opened (faults t) (content t)) (leaves-shut (why_from bad blank) (store_of h) (store_of h).image refl) refl refl refl l) pairs_none
 
-pub shut-shut : {T : Type 0} (content : T → Option Content) (faults : T → ℕ) (h : ShutSeen) (disk : ℕ) (shape : ImageShape) (bad : Option BadImage) (opened : ℕ) (o : Option T) (places : List (Option T)) → shut_seen content faults disk shape bad opened o ≡ h → h.there ≡ true
-    → h.opened ≤ h.faults → get_or places disk None ≡ o → Pairs (Shuts content faults places) (beside_of_shut h ∷ []) (Out (is_some h.bad) (store_of h) ∷ [])
-shut-shut content faults h disk shape bad opened o places e t l p =
-    subst (λ (v : ShutSeen). Pairs (Shuts content faults places) (beside_of_shut v ∷ []) (Out (is_some v.bad) (store_of v) ∷ [])) e
-    (shut-there content faults disk shape bad opened o places (ap (λ (v : ShutSeen). v.there) e ∙ t) (subst (λ (v : ShutSeen). v.opened ≤ v.faults) (sym e) l) p)
+pub shut-shut : {T : Type 0} (content : T → Option Content) (faults : T → ℕ) (h : ShutSeen) (disk : ℕ) (shape : ImageShape) (bad : Option BadImage) (blank : Bool) (opened : ℕ) (o : Option T) (places : List (Option T)) → shut_seen content faults disk shape bad blank opened o ≡ h → h.there ≡ true
+    → h.opened ≤ h.faults → get_or places disk None ≡ o → Pairs (Shuts content faults places) (beside_of_shut h ∷ []) (Out (why_of h) (store_of h) ∷ [])
+shut-shut content faults h disk shape bad blank opened o places e t l p =
+    subst (λ (v : ShutSeen). Pairs (Shuts content faults places) (beside_of_shut v ∷ []) (Out (why_of v) (store_of v) ∷ [])) e
+    (shut-there content faults disk shape bad blank opened o places (ap (λ (v : ShutSeen). v.there) e ∙ t) (subst (λ (v : ShutSeen). v.opened ≤ v.faults) (sym e) l) p)
 
 -- two sides
 pub every_left : {A : Type 0} {P : A → Type 0} (xs ys : List A) → Every P (xs ++ ys) → Every P xs

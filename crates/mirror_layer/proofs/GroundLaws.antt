@@ -6,21 +6,22 @@ use Rattle.std.specs.Prelude.{slice_get, OnOk, OnErr, IfErr, Result, Ok, Err}
 use Rattle.disk_format.specs.declared.shape.ImageShape.{ImageShape}
 use Rattle.page_ground.specs.declared.fault.StoreFault.{StoreFault}
 use Rattle.page_ground.specs.Seen.{Are, DiskSeen, Keeps, IsCalm, IsFault, ReadsPage, AllKept, KeptAt, with_page}
-use Rattle.mirror_rules.specs.Tree.{Image, Cell, Seat, In, Out, Tree, seats, top, limit}
-use Rattle.mirror_rules.specs.Claims.{Pairs, pairs_none, pairs_more, Every, every_none, every_more, Has, IsLive, HasPages, pages_live, KeepsPages, keeping_live, keeping_left, keeping_out, HasLevel, level_live, level_left, Even}
+use Rattle.mirror_rules.specs.Tree.{Image, Cell, Seat, In, Out, Tree, seats, limit}
+use Rattle.mirror_rules.specs.Claims.{Pairs, pairs_none, pairs_more, Every, every_none, every_more, Has, IsLive, HasPages, pages_live, KeepsPages, keeping_live, keeping_left, keeping_out}
 use Rattle.mirror_rules.specs.Claims as claims
-use Rattle.mirror_rules.specs.Steps.{Write, Says, Done, Fault, Round, Reads, Look, Flushes, Puts, put_whole, put_lost, put_refused}
-use Rattle.mirror_rules.specs.Guards.{Within, Guarding, live_at, Lower}
+use Rattle.mirror_rules.specs.Steps.{Write, Says, Done, Fault, is_fault, Round, Reads, Look, Pays, Flushes, flush_owed, flush_even, flush_lost, flush_none, Puts, put_whole, put_lost, put_refused}
+use Rattle.mirror_rules.specs.Guards.{Medium, Direct, shows_now, Within, Guarding, IsIn, live_at}
+use Rattle.mirror_rules.specs.Levels.{Near, HasLevel, has_live, has_left, Even, Lower}
 use Rattle.mirror_rules.specs.History.{Since_then}
 use Rattle.mirror_rules.proofs.GuardLaws.{flushes-rise, guards-flush, guards-found}
 use Rattle.mirror_rules.proofs.RoundLaws.{reads-look}
 use Rattle.mirror_rules.proofs.PageLaws.{flush_keeps, keeps-holds, flush-done, flush-rose, flush-names, write-rose, write-names, read-rose, write-holds, refused-holds, read-holds, read-gives, write_round}
-use Rattle.mirror_rules.proofs.GenLaws.{flush-levels, puts-even, look-even, flush-even, flush-bounded, write-bounded, look-bounded}
+use Rattle.mirror_rules.proofs.GenLaws.{pays-bound, pays-up, flush-levels, flush-paid, puts-near, puts-even, puts-owes, looks-near, looks-even, flush-near, flush-even, flush-bound}
 use Rattle.mirror_layer.specs.declared.node.Node.{Node, Opened, Shut, Coherency', Mirror'}
 use Rattle.mirror_layer.specs.View.{Beside, beside_in}
 use Rattle.mirror_layer.specs.Calls.{all_told, answered}
 use Rattle.mirror_layer.specs.Calls as calls
-use Rattle.mirror_layer.specs.Ground.{Ground, IsGround, Counted, outcome, as_imaged, image_told, kept_told, disk_seen, disks_seen, live_pages, pages_told, seen_of}
+use Rattle.mirror_layer.specs.Ground.{Ground, IsGround, Counted, outcome, as_imaged, image_told, kept_told, disk_seen, disks_seen, live_pages, pages_told, due_of, seen_of}
 use Rattle.mirror_layer.proofs.ReadSteps.{Taken, Refused}
 use Rattle.mirror_layer.proofs.SeenLaws.{keeps-by, calm-by, fault-by, kept-each, live-each, up-each}
 use Rattle.mirror_layer.proofs.ChangeLaws.{Change, look-change, put-change, flush-change, steps, counts-after, apart, live-some, pages-are, got-back, round-calm, flush-calm, calm-where, reads-answer, answers-where, rises, blamed, look-live, round-live, flush-stay}
@@ -34,8 +35,8 @@ every-right [] ys h = h
 every-right (x ∷ xs) ys (every_more h i) = every-right xs ys i
 
 -- a ground by its parts
-abbrev pub ground : ImageShape → Bool → List Seat → List Beside → Ground
-ground shape owed row beside = record { shape = shape; owed = owed; row = row; beside = beside }
+abbrev pub ground : ImageShape → Bool → ℕ → List Seat → List Beside → Ground
+ground shape owed generation row beside = record { shape = shape; owed = owed; generation = generation; row = row; beside = beside }
 
 -- pages that are told
 told-same : (T : Bool) (P Q : List (List ℕ)) → (T ≡ true → Q ≡ P) → pages_told T Q ≡ pages_told T P
@@ -69,24 +70,24 @@ pub record After (g h : Ground) : Type 0 where
 abbrev Changes : Ground → List Seat → Type 0
 Changes g u = Pairs (Change (all_told g.beside) (live_pages g.row) (live_pages u)) g.row u
 
-next-ground : (g : Ground) (q : Bool) (u : List Seat) → IsGround g → Changes g u → Has IsLive u → (all_told g.beside ≡ true → (F : List (List ℕ)) × Every (HasPages F) u × (length F ≡ g.shape.pages)) → Even q u → top u ≤ limit
-    → After g (ground g.shape q u g.beside)
-next-ground g q u i c l p e w =
-    let r : IsGround (ground g.shape q u g.beside) = record { live = l; there = i.there; shapes = i.shapes; differ = i.differ; counts = counts-after i.counts c; pages = p; even = e; within = w } in
+next-ground : (g : Ground) (q : Bool) (n : ℕ) (u : List Seat) → IsGround g → Changes g u → Has IsLive u → (all_told g.beside ≡ true → (F : List (List ℕ)) × Every (HasPages F) u × (length F ≡ g.shape.pages)) → Every (Near Direct n) u → Even Direct q n u → n ≤ limit → g.generation ≤ n → due_of g.owed g.generation ≤ due_of q n
+    → After g (ground g.shape q n u g.beside)
+next-ground g q n u i c l p m e w level due =
+    let r : IsGround (ground g.shape q n u g.beside) = record { live = l; there = i.there; shapes = i.shapes; differ = i.differ; counts = counts-after i.counts c; pages = p; near = m; even = e; within = w } in
     record {
       whole = r;
-      keeps = keeps-by (seen_of g) (seen_of (ground g.shape q u g.beside)) refl refl
-          (told-many (all_told g.beside) (live_pages u) g.shape.pages (λ t. pages-length (ground g.shape q u g.beside) r t)) (steps i.counts c) (apart i.counts i.differ) (live-some r.counts l);
+      keeps = keeps-by (seen_of g) (seen_of (ground g.shape q n u g.beside)) refl refl
+          (told-many (all_told g.beside) (live_pages u) g.shape.pages (λ t. pages-length (ground g.shape q n u g.beside) r t)) (steps i.counts c) (apart i.counts i.differ) (live-some r.counts l) level due;
     }
 
 -- a read
 read-changes : (g : Ground) (u : List Seat) {p : ℕ} {x : List ℕ} {s : Says} → Look p x g.row s u → Changes g u
 read-changes g u k = look-change k.each
 
-pub after-read : (g : Ground) (u : List Seat) {p : ℕ} {x : List ℕ} {s : Says} → IsGround g → Look p x g.row s u → After g (ground g.shape g.owed u g.beside)
-after-read g u i k = next-ground g g.owed u i (read-changes g u k) (look-live k.each i.live) (λ t. let r = i.pages t in (r.0, read-holds k.each r.1, r.2)) (look-even {o = g.owed} k.each i.even) (subst (λ v. v ≤ limit) (sym (look-bounded k.each)) i.within)
+pub after-read : (g : Ground) (u : List Seat) {p : ℕ} {x : List ℕ} {s : Says} → IsGround g → Look p x g.row s u → After g (ground g.shape g.owed g.generation u g.beside)
+after-read g u i k = next-ground g g.owed g.generation u i (read-changes g u k) (look-live k.each i.live) (λ t. let r = i.pages t in (r.0, read-holds k.each r.1, r.2)) (looks-near k.each i.near) (looks-even {o = g.owed} k.each i.even) i.within (omega arith) (omega arith)
 
-pub read-same : (g : Ground) (u : List Seat) {p : ℕ} {x : List ℕ} {s : Says} → IsGround g → Look p x g.row s u → (seen_of (ground g.shape g.owed u g.beside)).pages ≡ (seen_of g).pages
+pub read-same : (g : Ground) (u : List Seat) {p : ℕ} {x : List ℕ} {s : Says} → IsGround g → Look p x g.row s u → (seen_of (ground g.shape g.owed g.generation u g.beside)).pages ≡ (seen_of g).pages
 read-same g u i k = told-same (all_told g.beside) (live_pages g.row) (live_pages u) (λ t. pages-are (read-holds k.each (pages-of g i t)) (look-live k.each i.live))
 
 pub read-page : (g : Ground) (u : List Seat) (p : ℕ) (x out : List ℕ) {w : Bool} → IsGround g → Look p x g.row (Done w) u → p < g.shape.pages → (all_told g.beside ≡ true → x ≡ out) → ReadsPage (seen_of g).pages p out
@@ -94,15 +95,21 @@ read-page g u p x out i k l told =
     told-page (all_told g.beside) (live_pages g.row) p out
     (λ t. got-back (live_pages g.row) p out (subst (λ n. p < n) (sym (pages-length g i t)) l) (read-gives k.found.0 (pages-of g i t) ∙ told t))
 
-pub read-calm : (shape : ImageShape) (o : Bool) (bs : List Beside) (t u : Tree) {p : ℕ} {x : List ℕ} → IsGround (ground shape o (seats t) bs) → Reads p x t (Done true) u → IsCalm (seen_of (ground shape o (seats t) bs)) (seen_of (ground shape o (seats u) bs))
-read-calm shape o bs t u i r =
-    let g : Ground = ground shape o (seats t) bs in
-    calm-by (seen_of g) (seen_of (ground shape o (seats u) bs)) (steps i.counts (read-changes g (seats u) (reads-look r))) (apart i.counts i.differ) (answers-where i.counts (reads-answer r refl))
+pub read-calm : (shape : ImageShape) (o : Bool) (n : ℕ) (bs : List Beside) (t u : Tree) {p : ℕ} {x : List ℕ} → IsGround (ground shape o n (seats t) bs) → Reads p x t (Done true) u → IsCalm (seen_of (ground shape o n (seats t) bs)) (seen_of (ground shape o n (seats u) bs))
+read-calm shape o n bs t u i r =
+    let g : Ground = ground shape o n (seats t) bs in
+    calm-by (seen_of g) (seen_of (ground shape o n (seats u) bs)) (steps i.counts (read-changes g (seats u) (reads-look r))) (apart i.counts i.differ) (answers-where i.counts (reads-answer r refl))
 
-pub read-fault : (g : Ground) (u : List Seat) (f : StoreFault) {p : ℕ} {x : List ℕ} → IsGround g → Look p x g.row (Fault f.disk f.count) u → IsFault (seen_of g) (seen_of (ground g.shape g.owed u g.beside)) f
-read-fault g u f i k = fault-by (seen_of g) (seen_of (ground g.shape g.owed u g.beside)) f (steps i.counts (read-changes g u k)) (apart i.counts i.differ) (rises i.counts (read-rose k.each)) (blamed i.counts k.found)
+pub read-fault : (g : Ground) (u : List Seat) (f : StoreFault) {p : ℕ} {x : List ℕ} → IsGround g → Look p x g.row (Fault f.disk f.count) u → IsFault (seen_of g) (seen_of (ground g.shape g.owed g.generation u g.beside)) f
+read-fault g u f i k = fault-by (seen_of g) (seen_of (ground g.shape g.owed g.generation u g.beside)) f (steps i.counts (read-changes g u k)) (apart i.counts i.differ) (rises i.counts (read-rose k.each)) (blamed i.counts k.found)
 
--- a write
+-- a write, which may owe a raise, and pays none
+write-due : (o q : Bool) (g : ℕ) → (q ≡ false → o ≡ false) → g ≤ limit → due_of o g ≤ due_of q g
+write-due true true g f l = omega arith
+write-due true false g f l = let both : true ≡ false = f refl in cc
+write-due false true g f l = omega (arith, l)
+write-due false false g f l = omega arith
+
 puts-each : {p : ℕ} {x : List ℕ} {o q : Bool} {s : Says} {xs ys : List Seat} → Puts p x o xs s q ys → Round (Write p x) xs s ys
 puts-each (put_whole h) = h
 puts-each (put_lost h) = h
@@ -118,36 +125,58 @@ put-live g q u {s = s} i h t = let r = put-pages s g q u i h t in subst (λ F. E
 put-changes : (g : Ground) (q : Bool) (u : List Seat) {p : ℕ} {x : List ℕ} {s : Says} → IsGround g → Puts p x g.owed g.row s q u → Changes g u
 put-changes g q u i h = put-change (puts-each h).each (put-live g q u i h)
 
-pub after-write : (g : Ground) (q : Bool) (u : List Seat) {p : ℕ} {x : List ℕ} {s : Says} → IsGround g → Puts p x g.owed g.row s q u → After g (ground g.shape q u g.beside)
-after-write g q u {s = s} i h = next-ground g q u i (put-changes g q u i h) (round-live (puts-each h) i.live) (put-pages s g q u i h) (puts-even h i.even) (subst (λ v. v ≤ limit) (sym (write-bounded h)) i.within)
+pub after-write : (g : Ground) (q : Bool) (u : List Seat) {p : ℕ} {x : List ℕ} {s : Says} → IsGround g → Puts p x g.owed g.row s q u → After g (ground g.shape q g.generation u g.beside)
+after-write g q u {s = s} i h = next-ground g q g.generation u i (put-changes g q u i h) (round-live (puts-each h) i.live) (put-pages s g q u i h) (puts-near h i.near) (puts-even h i.even) i.within (omega arith) (write-due g.owed q g.generation (puts-owes h) i.within)
 
-pub write-pages : (g : Ground) (q : Bool) (u : List Seat) (p : ℕ) (x : List ℕ) {w : Bool} → IsGround g → Puts p x g.owed g.row (Done w) q u → (seen_of (ground g.shape q u g.beside)).pages ≡ with_page p x (seen_of g).pages
+pub write-pages : (g : Ground) (q : Bool) (u : List Seat) (p : ℕ) (x : List ℕ) {w : Bool} → IsGround g → Puts p x g.owed g.row (Done w) q u → (seen_of (ground g.shape q g.generation u g.beside)).pages ≡ with_page p x (seen_of g).pages
 write-pages g q u p x i h = told-set (all_told g.beside) (live_pages g.row) (live_pages u) p x (λ t. pages-are (write-holds (write_round (puts-each h)) (pages-of g i t)) (round-live (puts-each h) i.live))
 
-pub write-same : (g : Ground) (q : Bool) (u : List Seat) {p : ℕ} {x : List ℕ} {d n : ℕ} → IsGround g → Puts p x g.owed g.row (Fault d n) q u → (seen_of (ground g.shape q u g.beside)).pages ≡ (seen_of g).pages
+pub write-same : (g : Ground) (q : Bool) (u : List Seat) {p : ℕ} {x : List ℕ} {d n : ℕ} → IsGround g → Puts p x g.owed g.row (Fault d n) q u → (seen_of (ground g.shape q g.generation u g.beside)).pages ≡ (seen_of g).pages
 write-same g q u i h = told-same (all_told g.beside) (live_pages g.row) (live_pages u) (λ t. pages-are (refused-holds (write_round (puts-each h)) (pages-of g i t)) (round-live (puts-each h) i.live))
 
-pub write-calm : (g : Ground) (q : Bool) (u : List Seat) {p : ℕ} {x : List ℕ} {w : Bool} → IsGround g → Puts p x g.owed g.row (Done w) q u → IsCalm (seen_of g) (seen_of (ground g.shape q u g.beside))
-write-calm g q u i h = calm-by (seen_of g) (seen_of (ground g.shape q u g.beside)) (steps i.counts (put-changes g q u i h)) (apart i.counts i.differ) (calm-where i.counts (round-calm (puts-each h).each) (puts-each h).answer.0)
+pub write-calm : (g : Ground) (q : Bool) (u : List Seat) {p : ℕ} {x : List ℕ} {w : Bool} → IsGround g → Puts p x g.owed g.row (Done w) q u → IsCalm (seen_of g) (seen_of (ground g.shape q g.generation u g.beside))
+write-calm g q u i h = calm-by (seen_of g) (seen_of (ground g.shape q g.generation u g.beside)) (steps i.counts (put-changes g q u i h)) (apart i.counts i.differ) (calm-where i.counts (round-calm (puts-each h).each) (puts-each h).answer.0)
 
-pub write-fault : (g : Ground) (q : Bool) (u : List Seat) (f : StoreFault) {p : ℕ} {x : List ℕ} → IsGround g → Puts p x g.owed g.row (Fault f.disk f.count) q u → IsFault (seen_of g) (seen_of (ground g.shape q u g.beside)) f
-write-fault g q u f i h = fault-by (seen_of g) (seen_of (ground g.shape q u g.beside)) f (steps i.counts (put-changes g q u i h)) (apart i.counts i.differ) (rises i.counts (write-rose h)) (blamed i.counts (write-names h))
+pub write-fault : (g : Ground) (q : Bool) (u : List Seat) (f : StoreFault) {p : ℕ} {x : List ℕ} → IsGround g → Puts p x g.owed g.row (Fault f.disk f.count) q u → IsFault (seen_of g) (seen_of (ground g.shape q g.generation u g.beside)) f
+write-fault g q u f i h = fault-by (seen_of g) (seen_of (ground g.shape q g.generation u g.beside)) f (steps i.counts (put-changes g q u i h)) (apart i.counts i.differ) (rises i.counts (write-rose h)) (blamed i.counts (write-names h))
 
--- a flush
-flush-changes : (g : Ground) (q : Bool) (u : List Seat) {s : Says} → IsGround g → Flushes g.owed g.row s q u → Changes g u
-flush-changes g q u i h = flush-change (flush_keeps h) (flushes-rise h i.within) (pages-of g i)
+-- a flush lowers nothing that is due, also one that is refused: what stays owed is counted from the generation that it left
+raised-due : (g h : ℕ) → g ≤ h → due_of true g ≤ due_of true h
+raised-due g h l = omega (arith, l)
 
-pub after-flush : (g : Ground) (q : Bool) (u : List Seat) {s : Says} → IsGround g → Flushes g.owed g.row s q u → After g (ground g.shape q u g.beside)
-after-flush g q u i h = next-ground g q u i (flush-changes g q u i h) (flush-stay h i.live) (λ t. let r = i.pages t in (r.0, keeps-holds (flush_keeps h) r.1, r.2)) (flush-even h i.within i.even) (flush-bounded h i.within)
+pays-due : {g h : ℕ} (s : Says) {xs ys : List Seat} → Pays g xs s h ys → g ≤ limit → due_of true g ≤ due_of (is_fault s) h
+pays-due (Done w) h l = pays-up h refl l
+pays-due {g = g} {h = n} (Fault d k) h l = raised-due g n (pays-bound h l).0
 
-pub flush-same : (g : Ground) (q : Bool) (u : List Seat) {s : Says} → IsGround g → Flushes g.owed g.row s q u → (seen_of (ground g.shape q u g.beside)).pages ≡ (seen_of g).pages
-flush-same g q u i h = told-same (all_told g.beside) (live_pages g.row) (live_pages u) (λ t. pages-are (keeps-holds (flush_keeps h) (pages-of g i t)) (flush-stay h i.live))
+owed-later : (q : Bool) (g h : ℕ) → g ≤ h → h ≤ limit → g ≤ due_of q h
+owed-later true g h l m = omega (arith, l, m)
+owed-later false g h l m = l
 
-pub flush-quiet : (g : Ground) (q : Bool) (u : List Seat) {w : Bool} → IsGround g → Flushes g.owed g.row (Done w) q u → IsCalm (seen_of g) (seen_of (ground g.shape q u g.beside))
-flush-quiet g q u i h = calm-by (seen_of g) (seen_of (ground g.shape q u g.beside)) (steps i.counts (flush-changes g q u i h)) (apart i.counts i.differ) (calm-where i.counts (flush-calm h refl) (flush-stay h i.live))
+pub flush-due : {o q : Bool} {g h : ℕ} {s : Says} {xs ys : List Seat} → Flushes o g xs s q h ys → g ≤ limit → due_of o g ≤ due_of q h
+flush-due {s = s} (flush_owed h) l = pays-due s h l
+flush-due (flush_even h) l = omega arith
+flush-due {g = g} {h = n} {s = s} (flush_lost h i) l = let b = pays-bound i l in owed-later (is_fault s) g n b.0 b.1
+flush-due (flush_none h) l = omega arith
 
-pub flush-fault : (g : Ground) (q : Bool) (u : List Seat) (f : StoreFault) → IsGround g → Flushes g.owed g.row (Fault f.disk f.count) q u → IsFault (seen_of g) (seen_of (ground g.shape q u g.beside)) f
-flush-fault g q u f i h = fault-by (seen_of g) (seen_of (ground g.shape q u g.beside)) f (steps i.counts (flush-changes g q u i h)) (apart i.counts i.differ) (rises i.counts (flush-rose h)) (blamed i.counts (flush-names h refl))
+-- once nothing is owed, nothing more is due
+paid-due : (q : Bool) (g : ℕ) → q ≡ false → due_of q g ≤ g
+paid-due true g e = cc
+paid-due false g e = omega arith
+
+flush-changes : (g : Ground) (q : Bool) (n : ℕ) (u : List Seat) {s : Says} → IsGround g → Flushes g.owed g.generation g.row s q n u → Changes g u
+flush-changes g q n u i h = flush-change (flush_keeps h) (flushes-rise h i.within i.near) (pages-of g i)
+
+pub after-flush : (g : Ground) (q : Bool) (n : ℕ) (u : List Seat) {s : Says} → IsGround g → Flushes g.owed g.generation g.row s q n u → After g (ground g.shape q n u g.beside)
+after-flush g q n u i h = next-ground g q n u i (flush-changes g q n u i h) (flush-stay h i.live) (λ t. let r = i.pages t in (r.0, keeps-holds (flush_keeps h) r.1, r.2)) (flush-near h i.within i.near) (flush-even h i.within i.near i.even) (flush-bound h i.within).1 (flush-bound h i.within).0 (flush-due h i.within)
+
+pub flush-same : (g : Ground) (q : Bool) (n : ℕ) (u : List Seat) {s : Says} → IsGround g → Flushes g.owed g.generation g.row s q n u → (seen_of (ground g.shape q n u g.beside)).pages ≡ (seen_of g).pages
+flush-same g q n u i h = told-same (all_told g.beside) (live_pages g.row) (live_pages u) (λ t. pages-are (keeps-holds (flush_keeps h) (pages-of g i t)) (flush-stay h i.live))
+
+pub flush-quiet : (g : Ground) (q : Bool) (n : ℕ) (u : List Seat) {w : Bool} → IsGround g → Flushes g.owed g.generation g.row (Done w) q n u → IsCalm (seen_of g) (seen_of (ground g.shape q n u g.beside))
+flush-quiet g q n u i h = calm-by (seen_of g) (seen_of (ground g.shape q n u g.beside)) (steps i.counts (flush-changes g q n u i h)) (apart i.counts i.differ) (calm-where i.counts (flush-calm h refl) (flush-stay h i.live))
+
+pub flush-fault : (g : Ground) (q : Bool) (n : ℕ) (u : List Seat) (f : StoreFault) → IsGround g → Flushes g.owed g.generation g.row (Fault f.disk f.count) q n u → IsFault (seen_of g) (seen_of (ground g.shape q n u g.beside)) f
+flush-fault g q n u f i h = fault-by (seen_of g) (seen_of (ground g.shape q n u g.beside)) f (steps i.counts (flush-changes g q n u i h)) (apart i.counts i.differ) (rises i.counts (flush-rose h)) (blamed i.counts (flush-names h refl))
 
 -- after a flush that was taken each live disk keeps the pages
 keep-one : (T t : Bool) (F : List (List ℕ)) (k : Option Image) → (T ≡ true → claims.pages_in k ≡ Some F) → KeptAt (kept_told t k) (pages_told T F)
@@ -179,8 +208,8 @@ held-is : (t : Bool) (now : Image) (i : Imaged) → image_told t (Some now) ≡ 
 held-is true now i e = cc
 held-is false now i e = cc
 
-level-one : (g : ℕ) (b : Beside) (y : Seat) → HasLevel g y → (disk_seen b y).live ≡ true → (i : Imaged) → (disk_seen b y).holds ≡ Some i → i.generation ≡ g
-level-one g b (In true c) (level_live e) l i is = ap (λ (v : Imaged). v.generation) (held-is b.told c.now i is) ∙ e
+level-one : (g : ℕ) (b : Beside) (y : Seat) → HasLevel Direct g y → (disk_seen b y).live ≡ true → (i : Imaged) → (disk_seen b y).holds ≡ Some i → i.generation ≡ g
+level-one g b (In true c) (has_live f) l i is = ap (λ (v : Imaged). v.generation) (held-is b.told c.now i is) ∙ f c.now shows_now
 level-one g b (In false c) h l i is = cc
 level-one g b (Out q s) h l i is = cc
 
@@ -201,9 +230,9 @@ left-level g generation l = by (nat_lt generation g) refl
     by true e = inl (grind (arith, nat_tests))
     by false e = inr (let not_below : g ≤ generation = grind (arith, nat_tests) in omega (arith, not_below, l))
 
-behind-one : (T : Bool) (F : List (List ℕ)) (g : ℕ) (b : Beside) (y : Seat) → HasLevel g y → (T ≡ true → HasPages F y) → (disk_seen b y).up ≡ true → (j : Imaged) → (disk_seen b y).holds ≡ Some j → Behind (pages_told T F) g j
+behind-one : (T : Bool) (F : List (List ℕ)) (g : ℕ) (b : Beside) (y : Seat) → HasLevel Direct g y → (T ≡ true → HasPages F y) → (disk_seen b y).up ≡ true → (j : Imaged) → (disk_seen b y).holds ≡ Some j → Behind (pages_told T F) g j
 behind-one T F g b (In true c) h p up j is = inl (are-pages T F j.pages (λ t. ap (λ (v : Imaged). v.pages) (held-is b.told c.now j is) ∙ live-has (p t)))
-behind-one T F g b (In false c) (level_left l) p up j is = inr (left-level g j.generation (subst (λ (v : Imaged). min (v.generation + 1) limit ≤ g) (sym (held-is b.told c.now j is)) l))
+behind-one T F g b (In false c) (has_left f) p up j is = inr (left-level g j.generation (subst (λ (v : Imaged). min (v.generation + 1) limit ≤ g) (sym (held-is b.told c.now j is)) (f c.now shows_now)))
 behind-one T F g b (Out q s) h p up j is = cc
 
 first-has : {F : List (List ℕ)} {y : Seat} {ys : List Seat} → Every (HasPages F) (y ∷ ys) → HasPages F y
@@ -212,27 +241,28 @@ first-has (every_more k i) = k
 rest-have : {F : List (List ℕ)} {y : Seat} {ys : List Seat} → Every (HasPages F) (y ∷ ys) → Every (HasPages F) ys
 rest-have (every_more k i) = i
 
-levels : (g : ℕ) {bs : List Beside} {ys : List Seat} → Pairs Counted bs ys → Every (HasLevel g) ys → Every (λ (d : DiskSeen). d.live ≡ true → (i : Imaged) → d.holds ≡ Some i → i.generation ≡ g) (disks_seen bs ys)
+levels : (g : ℕ) {bs : List Beside} {ys : List Seat} → Pairs Counted bs ys → Every (HasLevel Direct g) ys → Every (λ (d : DiskSeen). d.live ≡ true → (i : Imaged) → d.holds ≡ Some i → i.generation ≡ g) (disks_seen bs ys)
 levels g pairs_none every_none = every_none
 levels g (pairs_more {x = b} {y = y} c h) (every_more k i) = every_more (level-one g b y k) (levels g h i)
 
-behinds : (T : Bool) (F : List (List ℕ)) (g : ℕ) {bs : List Beside} {ys : List Seat} → Pairs Counted bs ys → Every (HasLevel g) ys → (T ≡ true → Every (HasPages F) ys) → Every (λ (d : DiskSeen). d.up ≡ true → (j : Imaged) → d.holds ≡ Some j → Behind (pages_told T F) g j) (disks_seen bs ys)
+behinds : (T : Bool) (F : List (List ℕ)) (g : ℕ) {bs : List Beside} {ys : List Seat} → Pairs Counted bs ys → Every (HasLevel Direct g) ys → (T ≡ true → Every (HasPages F) ys) → Every (λ (d : DiskSeen). d.up ≡ true → (j : Imaged) → d.holds ≡ Some j → Behind (pages_told T F) g j) (disks_seen bs ys)
 behinds T F g pairs_none every_none p = every_none
 behinds T F g (pairs_more {x = b} {y = y} c h) (every_more k i) p = every_more (behind-one T F g b y k (λ t. first-has (p t))) (behinds T F g h i (λ t. rest-have (p t)))
 
-pub flush-kept : (g : Ground) (q : Bool) (u : List Seat) {w : Bool} → IsGround g → Flushes g.owed g.row (Done w) q u → AllKept (seen_of (ground g.shape q u g.beside)) (seen_of (ground g.shape q u g.beside)).pages
-flush-kept g q u i h =
-    let a = (after-flush g q u i h).whole in
+pub flush-kept : (g : Ground) (q : Bool) (n : ℕ) (u : List Seat) {w : Bool} → IsGround g → Flushes g.owed g.generation g.row (Done w) q n u → AllKept (seen_of (ground g.shape q n u g.beside)) (seen_of (ground g.shape q n u g.beside)).pages
+flush-kept g q n u i h =
+    let a = (after-flush g q n u i h).whole in
     let same : all_told g.beside ≡ true → live_pages u ≡ live_pages g.row = λ t. pages-are (keeps-holds (flush_keeps h) (pages-of g i t)) (flush-stay h i.live) in
-    let at : Every (HasLevel (top u)) u = flush-levels h i.within i.even in
+    let at : Every (HasLevel Direct n) u = flush-levels h i.within i.near i.even in
     record {
       kept = kept-each (pages_told (all_told g.beside) (live_pages u)) (disks_seen g.beside u) (apart a.counts a.differ)
           (keeping (all_told g.beside) (live_pages u) a.counts (λ t. subst (λ F. Every (KeepsPages F) u) (sym (same t)) (flush-done h (pages-of g i t))));
       behind = λ disk other i j live up is holds.
-          let level : i.generation ≡ top u = live-each (λ (v : Imaged). v.generation ≡ top u) (disks_seen g.beside u) (apart a.counts a.differ) (levels (top u) a.counts at) disk i live is in
-          subst (λ n. Behind (pages_told (all_told g.beside) (live_pages u)) n j) (sym level)
-          (up-each (Behind (pages_told (all_told g.beside) (live_pages u)) (top u)) (disks_seen g.beside u)
-          (behinds (all_told g.beside) (live_pages u) (top u) a.counts at (pages-of (ground g.shape q u g.beside) a)) other j up holds);
+          let level : i.generation ≡ n = live-each (λ (v : Imaged). v.generation ≡ n) (disks_seen g.beside u) (apart a.counts a.differ) (levels n a.counts at) disk i live is in
+          subst (λ m. Behind (pages_told (all_told g.beside) (live_pages u)) m j) (sym level)
+          (up-each (Behind (pages_told (all_told g.beside) (live_pages u)) n) (disks_seen g.beside u)
+          (behinds (all_told g.beside) (live_pages u) n a.counts at (pages-of (ground g.shape q n u g.beside) a)) other j up holds);
+      paid = paid-due q n (flush-paid h refl);
     }
 
 -- each disk has the ground's pages
@@ -243,11 +273,11 @@ has-pages shape page size (Coherency' p t) h l q = has-pages shape page size t h
 has-pages shape page size (Mirror' p a r b) h l q = (has-pages shape page size a (every-left (beside_in a) (beside_in b) h) l q, has-pages shape page size b (every-right (beside_in a) (beside_in b) h) l q)
 
 -- the same of a ground that is told in other words
-pub moved : {g h : Ground} {shape : ImageShape} {q : Bool} {u : List Seat} {bs cs : List Beside} (P : Ground → Ground → Type 0) → g ≡ h → cs ≡ bs → P g (ground shape q u bs) → P h (ground shape q u cs)
-moved {g} {h} {shape} {q} {u} {bs} {cs} P e b p = subst (λ v. P v (ground shape q u cs)) e (subst (λ v. P g (ground shape q u v)) (sym b) p)
+pub moved : {g h : Ground} {shape : ImageShape} {q : Bool} {n : ℕ} {u : List Seat} {bs cs : List Beside} (P : Ground → Ground → Type 0) → g ≡ h → cs ≡ bs → P g (ground shape q n u bs) → P h (ground shape q n u cs)
+moved {g} {h} {shape} {q} {n} {u} {bs} {cs} P e b p = subst (λ v. P v (ground shape q n u cs)) e (subst (λ v. P g (ground shape q n u v)) (sym b) p)
 
-pub moved-one : {shape : ImageShape} {q : Bool} {u : List Seat} {bs cs : List Beside} → cs ≡ bs → IsGround (ground shape q u bs) → IsGround (ground shape q u cs)
-moved-one {shape} {q} {u} b p = subst (λ v. IsGround (ground shape q u v)) (sym b) p
+pub moved-one : {shape : ImageShape} {q : Bool} {n : ℕ} {u : List Seat} {bs cs : List Beside} → cs ≡ bs → IsGround (ground shape q n u bs) → IsGround (ground shape q n u cs)
+moved-one {shape} {q} {n} {u} b p = subst (λ v. IsGround (ground shape q n u v)) (sym b) p
 
 -- what a write's round said
 pub done-put : {p : ℕ} {x : List ℕ} {o q : Bool} {xs ys : List Seat} → ((s : Says) × (outcome s ≡ Done true) × Puts p x o xs s q ys) → (w : Bool) × Puts p x o xs (Done w) q ys
@@ -272,12 +302,17 @@ told-is false P G e = cc
 ground-pages : (g : Ground) (G : List (List ℕ)) → IsGround g → (seen_of g).pages ≡ Some G → Every (HasPages G) g.row
 ground-pages g G i e = let t = told-is (all_told g.beside) (live_pages g.row) G e in subst (λ v. Every (HasPages v) g.row) t.1 (pages-of g i t.0)
 
-pub guards-flushed : (g : Ground) (q : Bool) (u : List Seat) {s : Says} → IsGround g → Flushes g.owed g.row s q u → (F : List (List ℕ)) (ws : List (ℕ × List ℕ)) (L : ℕ → Bool) (G : List (List ℕ)) → (seen_of g).pages ≡ Some G → Within (Since_then F ws) G
-    → Guarding (Since_then F ws) L g.row → Guarding (Since_then F ws) L u
-guards-flushed g q u i h F ws L G e w k = guards-flush h i.within (ground-pages g G i e) w k
+pub guards-flushed : (g : Ground) (q : Bool) (n : ℕ) (u : List Seat) {s : Says} → IsGround g → Flushes g.owed g.generation g.row s q n u → (v : Medium) (F : List (List ℕ)) (ws : List (ℕ × List ℕ)) (L : ℕ → Bool) (past : List Image) (G : List (List ℕ)) → (seen_of g).pages ≡ Some G
+    → Within (Since_then F ws) G → Every (Near v g.generation) g.row → Guarding v (Since_then F ws) L past g.row → Guarding v (Since_then F ws) L past u
+guards-flushed g q n u i h v F ws L past G e w m k = guards-flush h i.within m (ground-pages g G i e) w k
 
-pub guards-begin : (g : Ground) (q : Bool) (u : List Seat) {w : Bool} → IsGround g → Flushes g.owed g.row (Done w) q u → (G : List (List ℕ)) → (seen_of g).pages ≡ Some G → top u < limit → Every (Lower (top u)) u → Guarding (Since_then G []) (live_at u) u
-guards-begin g q u i h G e m lo = guards-found h i.within i.even (ground-pages g G i e) m lo
+abbrev Begins : Ground → ℕ → List Seat → Type 0
+Begins g n u =
+    (v : Medium) (past : List Image) (G : List (List ℕ)) → (seen_of g).pages ≡ Some G → Every (Near v g.generation) g.row → Even v g.owed g.generation g.row → n < limit → Every (Lower n) u → ((i : Image) → IsIn past i → i.generation < n)
+    → Guarding v (Since_then G []) (live_at u) past u
+
+guards-begin : (g : Ground) (q : Bool) (n : ℕ) (u : List Seat) {w : Bool} → IsGround g → Flushes g.owed g.generation g.row (Done w) q n u → Begins g n u
+guards-begin g q n u i h v past G e m k l lo p = guards-found h i.within m k (ground-pages g G i e) l lo p
 
 -- the same, whatever the call answers
 abbrev pub Answer : Type 0
@@ -287,53 +322,53 @@ pub read-looks : (r : Answer) (page : ℕ) (out : List ℕ) (t u : Tree) (bs : L
 read-looks (Ok v) page out t u bs h k = (h.0, reads-look h.1)
 read-looks (Err e) page out t u bs h k = ([], reads-look (k []))
 
-pub read-bytes : (r : Answer) (shape : ImageShape) (o : Bool) (bs : List Beside) (t u : Tree) (page : ℕ) (out : List ℕ) → IsGround (ground shape o (seats t) bs) → page < shape.pages → OnOk r (Taken page out t bs u)
-    → OnOk r (ReadsPage (seen_of (ground shape o (seats t) bs)).pages page out)
-read-bytes (Ok v) shape o bs t u page out i l h = read-page (ground shape o (seats t) bs) (seats u) page h.0 out i (reads-look h.1) l h.2
-read-bytes (Err e) shape o bs t u page out i l h = tt
+pub read-bytes : (r : Answer) (shape : ImageShape) (o : Bool) (n : ℕ) (bs : List Beside) (t u : Tree) (page : ℕ) (out : List ℕ) → IsGround (ground shape o n (seats t) bs) → page < shape.pages → OnOk r (Taken page out t bs u)
+    → OnOk r (ReadsPage (seen_of (ground shape o n (seats t) bs)).pages page out)
+read-bytes (Ok v) shape o n bs t u page out i l h = read-page (ground shape o n (seats t) bs) (seats u) page h.0 out i (reads-look h.1) l h.2
+read-bytes (Err e) shape o n bs t u page out i l h = tt
 
-pub read-calms : (r : Answer) (shape : ImageShape) (o : Bool) (bs : List Beside) (t u : Tree) (page : ℕ) (out : List ℕ) → IsGround (ground shape o (seats t) bs) → OnOk r (Taken page out t bs u)
-    → OnOk r (IsCalm (seen_of (ground shape o (seats t) bs)) (seen_of (ground shape o (seats u) bs)))
-read-calms (Ok v) shape o bs t u page out i h = read-calm shape o bs t u i h.1
-read-calms (Err e) shape o bs t u page out i h = tt
+pub read-calms : (r : Answer) (shape : ImageShape) (o : Bool) (n : ℕ) (bs : List Beside) (t u : Tree) (page : ℕ) (out : List ℕ) → IsGround (ground shape o n (seats t) bs) → OnOk r (Taken page out t bs u)
+    → OnOk r (IsCalm (seen_of (ground shape o n (seats t) bs)) (seen_of (ground shape o n (seats u) bs)))
+read-calms (Ok v) shape o n bs t u page out i h = read-calm shape o n bs t u i h.1
+read-calms (Err e) shape o n bs t u page out i h = tt
 
-pub read-faults : (r : Answer) (shape : ImageShape) (o : Bool) (bs : List Beside) (t u : Tree) (page : ℕ) → IsGround (ground shape o (seats t) bs) → IfErr r (Refused page t u)
-    → IfErr r (IsFault (seen_of (ground shape o (seats t) bs)) (seen_of (ground shape o (seats u) bs)))
-read-faults (Ok v) shape o bs t u page i h = tt
-read-faults (Err e) shape o bs t u page i h = read-fault (ground shape o (seats t) bs) (seats u) e i (reads-look (h []))
+pub read-faults : (r : Answer) (shape : ImageShape) (o : Bool) (n : ℕ) (bs : List Beside) (t u : Tree) (page : ℕ) → IsGround (ground shape o n (seats t) bs) → IfErr r (Refused page t u)
+    → IfErr r (IsFault (seen_of (ground shape o n (seats t) bs)) (seen_of (ground shape o n (seats u) bs)))
+read-faults (Ok v) shape o n bs t u page i h = tt
+read-faults (Err e) shape o n bs t u page i h = read-fault (ground shape o n (seats t) bs) (seats u) e i (reads-look (h []))
 
 abbrev Put : Answer → Ground → Bool → List Seat → ℕ → List ℕ → Type 0
 Put r g q u p x = (s : Says) × (outcome s ≡ answered r) × Puts p x g.owed g.row s q u
 
-pub write-oks : (r : Answer) (g : Ground) (q : Bool) (u : List Seat) (p : ℕ) (x : List ℕ) → IsGround g → Put r g q u p x → OnOk r ((seen_of (ground g.shape q u g.beside)).pages ≡ with_page p x (seen_of g).pages)
+pub write-oks : (r : Answer) (g : Ground) (q : Bool) (u : List Seat) (p : ℕ) (x : List ℕ) → IsGround g → Put r g q u p x → OnOk r ((seen_of (ground g.shape q g.generation u g.beside)).pages ≡ with_page p x (seen_of g).pages)
 write-oks (Ok v) g q u p x i h = write-pages g q u p x i (done-put h).1
 write-oks (Err e) g q u p x i h = tt
 
-pub write-errs : (r : Answer) (g : Ground) (q : Bool) (u : List Seat) (p : ℕ) (x : List ℕ) → IsGround g → Put r g q u p x → OnErr r ((seen_of (ground g.shape q u g.beside)).pages ≡ (seen_of g).pages)
+pub write-errs : (r : Answer) (g : Ground) (q : Bool) (u : List Seat) (p : ℕ) (x : List ℕ) → IsGround g → Put r g q u p x → OnErr r ((seen_of (ground g.shape q g.generation u g.beside)).pages ≡ (seen_of g).pages)
 write-errs (Ok v) g q u p x i h = tt
 write-errs (Err e) g q u p x i h = write-same g q u i (fault-put h)
 
-pub write-calms : (r : Answer) (g : Ground) (q : Bool) (u : List Seat) (p : ℕ) (x : List ℕ) → IsGround g → Put r g q u p x → OnOk r (IsCalm (seen_of g) (seen_of (ground g.shape q u g.beside)))
+pub write-calms : (r : Answer) (g : Ground) (q : Bool) (u : List Seat) (p : ℕ) (x : List ℕ) → IsGround g → Put r g q u p x → OnOk r (IsCalm (seen_of g) (seen_of (ground g.shape q g.generation u g.beside)))
 write-calms (Ok v) g q u p x i h = write-calm g q u i (done-put h).1
 write-calms (Err e) g q u p x i h = tt
 
-pub write-faults : (r : Answer) (g : Ground) (q : Bool) (u : List Seat) (p : ℕ) (x : List ℕ) → IsGround g → Put r g q u p x → IfErr r (IsFault (seen_of g) (seen_of (ground g.shape q u g.beside)))
+pub write-faults : (r : Answer) (g : Ground) (q : Bool) (u : List Seat) (p : ℕ) (x : List ℕ) → IsGround g → Put r g q u p x → IfErr r (IsFault (seen_of g) (seen_of (ground g.shape q g.generation u g.beside)))
 write-faults (Ok v) g q u p x i h = tt
 write-faults (Err e) g q u p x i h = write-fault g q u e i (fault-put h)
 
-pub flush-oks : (r : Answer) (g : Ground) (q : Bool) (u : List Seat) → IsGround g → Flushes g.owed g.row (answered r) q u → OnOk r (AllKept (seen_of (ground g.shape q u g.beside)) (seen_of (ground g.shape q u g.beside)).pages)
-flush-oks (Ok v) g q u i h = flush-kept g q u i h
-flush-oks (Err e) g q u i h = tt
+pub flush-oks : (r : Answer) (g : Ground) (q : Bool) (n : ℕ) (u : List Seat) → IsGround g → Flushes g.owed g.generation g.row (answered r) q n u → OnOk r (AllKept (seen_of (ground g.shape q n u g.beside)) (seen_of (ground g.shape q n u g.beside)).pages)
+flush-oks (Ok v) g q n u i h = flush-kept g q n u i h
+flush-oks (Err e) g q n u i h = tt
 
-pub flush-calms : (r : Answer) (g : Ground) (q : Bool) (u : List Seat) → IsGround g → Flushes g.owed g.row (answered r) q u → OnOk r (IsCalm (seen_of g) (seen_of (ground g.shape q u g.beside)))
-flush-calms (Ok v) g q u i h = flush-quiet g q u i h
-flush-calms (Err e) g q u i h = tt
+pub flush-calms : (r : Answer) (g : Ground) (q : Bool) (n : ℕ) (u : List Seat) → IsGround g → Flushes g.owed g.generation g.row (answered r) q n u → OnOk r (IsCalm (seen_of g) (seen_of (ground g.shape q n u g.beside)))
+flush-calms (Ok v) g q n u i h = flush-quiet g q n u i h
+flush-calms (Err e) g q n u i h = tt
 
-pub flush-faults : (r : Answer) (g : Ground) (q : Bool) (u : List Seat) → IsGround g → Flushes g.owed g.row (answered r) q u → IfErr r (IsFault (seen_of g) (seen_of (ground g.shape q u g.beside)))
-flush-faults (Ok v) g q u i h = tt
-flush-faults (Err e) g q u i h = flush-fault g q u e i h
+pub flush-faults : (r : Answer) (g : Ground) (q : Bool) (n : ℕ) (u : List Seat) → IsGround g → Flushes g.owed g.generation g.row (answered r) q n u → IfErr r (IsFault (seen_of g) (seen_of (ground g.shape q n u g.beside)))
+flush-faults (Ok v) g q n u i h = tt
+flush-faults (Err e) g q n u i h = flush-fault g q n u e i h
 
-pub flush-begins : (r : Answer) (g : Ground) (q : Bool) (u : List Seat) → IsGround g → Flushes g.owed g.row (answered r) q u
-    → OnOk r ((G : List (List ℕ)) → (seen_of g).pages ≡ Some G → top u < limit → Every (Lower (top u)) u → Guarding (Since_then G []) (live_at u) u)
-flush-begins (Ok v) g q u i h = guards-begin g q u i h
-flush-begins (Err e) g q u i h = tt
+pub flush-begins : (r : Answer) (g : Ground) (q : Bool) (n : ℕ) (u : List Seat) → IsGround g → Flushes g.owed g.generation g.row (answered r) q n u
+    → OnOk r (Begins g n u)
+flush-begins (Ok v) g q n u i h = guards-begin g q n u i h
+flush-begins (Err e) g q n u i h = tt

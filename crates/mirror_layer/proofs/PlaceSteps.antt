@@ -19,7 +19,7 @@ set-left : {A : Type 0} {i : ℕ} {x : A} (v : A) {xs : List A} (ys : List A) �
 set-left v ys nth_here = refl
 set-left v ys (nth_later {x = y} h) = ap (λ t. y ∷ t) (set-left v ys h)
 
-set-right : {A : Type 0} (j : ℕ) (v : A) (xs ys : List A) (i : ℕ) → i ≡ length xs + j → set (xs ++ ys) i v ≡ xs ++ set ys j v
+pub set-right : {A : Type 0} (j : ℕ) (v : A) (xs ys : List A) (i : ℕ) → i ≡ length xs + j → set (xs ++ ys) i v ≡ xs ++ set ys j v
 set-right j v [] ys i e = let q : i ≡ j = omega (arith, e) in ap (λ k. set ys k v) q
 set-right j v (x ∷ xs) ys zero e = absurd (omega (arith, e))
 set-right j v (x ∷ xs) ys (suc i) e = ap (λ t. x ∷ t) (set-right j v xs ys i (omega (arith, e)))

@@ -20,6 +20,7 @@ pub record Step (pages next : Option (List (List ℕ))) (a d : DiskSeen) : Type 
   pub kept : d.live ≡ true → (pages_in d.kept ≡ pages_in a.kept) ⊎ KeptAt d.kept pages
   pub up : d.up ≡ a.up
   pub turned : (d.holds ≡ a.holds) ⊎ Turns pages next a.holds d.holds
+  pub aside : a.up ≡ false → d.holds ≡ a.holds
 
 -- numbers that differ
 abbrev pub Apart : List DiskSeen → Type 0
@@ -107,6 +108,13 @@ turned-all {pages} {next} (pairs_more {x = a} {y = d} {xs = es} {ys = ds} s h) n
   | inr t ↦ rw (held-rest d ds n (λ e. t.1 (e ∙ s.disk)), held-rest a es n t.1) (turned-all h n)
 ]
 
+aside-all : {pages next : Option (List (List ℕ))} {es ds : List DiskSeen} → Pairs (Step pages next) es ds → (n : ℕ) → is_up_in es n ≡ false → held_in ds n ≡ held_in es n
+aside-all pairs_none n e = refl
+aside-all {pages} {next} (pairs_more {x = a} {y = d} {xs = es} {ys = ds} s h) n e = elim (eqb_tells n a.disk) as (λ _. held_in (d ∷ ds) n ≡ held_in (a ∷ es) n) [
+  | inl t ↦ rw (held-first d ds n (t.1 ∙ sym s.disk), held-first a es n t.1) (s.aside (sym (up-first a es n t.1) ∙ e))
+  | inr t ↦ rw (held-rest d ds n (λ q. t.1 (q ∙ s.disk)), held-rest a es n t.1) (aside-all h n (sym (up-rest a es n t.1) ∙ e))
+]
+
 told-all : {pages next : Option (List (List ℕ))} {es ds : List DiskSeen} → Pairs (Step pages next) es ds → (n : ℕ) → is_some (kept_in ds n) ≡ is_some (kept_in es n)
 told-all pairs_none n = refl
 told-all (pairs_more {x = a} {y = d} {xs = es} {ys = ds} s h) n = elim (eqb_tells n a.disk) as (λ _. is_some (kept_in (d ∷ ds) n) ≡ is_some (kept_in (a ∷ es) n)) [
@@ -167,8 +175,8 @@ kept-all {pages} (pairs_more {x = a} {y = d} {xs = es} {ys = ds} s i) p n h = el
 ]
 
 pub keeps-by : (before after : Seen) → after.page_size ≡ before.page_size → after.number ≡ before.number → IfSome after.pages (λ ps. length ps ≡ after.number)
-    → Pairs (Step before.pages after.pages) before.disks after.disks → Apart before.disks → 0 < length (live_in after.disks) → Keeps before after
-keeps-by before after size number many h p some = record {
+    → Pairs (Step before.pages after.pages) before.disks after.disks → Apart before.disks → 0 < length (live_in after.disks) → before.generation ≤ after.generation → before.due ≤ after.due → Keeps before after
+keeps-by before after size number many h p some level due = record {
   same_size = size;
   same_number = number;
   many = many;
@@ -177,12 +185,15 @@ keeps-by before after size number many h p some = record {
   kept = kept-all h p;
   same_up = up-all h;
   turned = turned-all h;
+  aside = aside-all h;
   live = live-all h;
   some = some;
   lost = lost-all h p;
   later = later-all h;
   same_opened = opened-all h;
   since = since-all h;
+  level = level;
+  due = due;
 }
 
 -- a disk that is live then, with no fault in the call

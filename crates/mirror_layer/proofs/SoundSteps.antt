@@ -1,18 +1,16 @@
 -- What holds of every tree whose disks have their stores, over plain variables.
-use Rattle.std.proofs.Common.{◌≤◌, List, ◌++◌, refl, arith}
+use Rattle.std.proofs.Common.{◌≤◌, refl}
 use Rattle.std.proofs.lemmas.Bool.{eq-eqb}
 use Rattle.disk_layer.specs.Disk.{Disk}
 use Rattle.disk_layer.specs.Disk as disk_layer
 use Rattle.page_ground.specs.Seen.{Keeps}
-use Rattle.mirror_rules.specs.Tree.{Seat, Out, top, limit}
+use Rattle.mirror_rules.specs.Tree.{Out}
 use Rattle.mirror_rules.specs.Claims.{Pairs, pairs_none, pairs_more}
-use Rattle.mirror_rules.proofs.RoundLaws.{top_append}
 use Rattle.std.proofs.Common.{[], ◌∷◌}
-use Rattle.std.specs.Prelude.{is_some}
 use Rattle.mirror_layer.specs.declared.node.Mark.{Mark}
 use Rattle.mirror_layer.specs.declared.node.Mark.TheVariants as mark
 use Rattle.mirror_layer.specs.Shut.{ShutSeen}
-use Rattle.mirror_layer.specs.View.{beside_of, beside_of_shut, cell_of, seat_of, store_of}
+use Rattle.mirror_layer.specs.View.{beside_of, beside_of_shut, cell_of, seat_of, why_of, store_of}
 use Rattle.mirror_layer.specs.Ground.{Counted, counted}
 
 pub disk-since : (d : Disk) → Keeps (disk_layer.seen_of d) (disk_layer.seen_of d) → d.opened ≤ d.faults
@@ -23,8 +21,5 @@ opened-counted mark.Live d k = pairs_more (counted refl (disk-since d k)) pairs_
 opened-counted mark.Left d k = pairs_more (counted refl (disk-since d k)) pairs_none
 opened-counted mark.Down d k = pairs_more (counted refl (disk-since d k)) pairs_none
 
-pub shut-counted : (s : ShutSeen) → s.opened ≤ s.faults → Pairs Counted (beside_of_shut s ∷ []) (Out (is_some s.bad) (store_of s) ∷ [])
+pub shut-counted : (s : ShutSeen) → s.opened ≤ s.faults → Pairs Counted (beside_of_shut s ∷ []) (Out (why_of s) (store_of s) ∷ [])
 shut-counted s l = pairs_more (counted refl l) pairs_none
-
-pub top-both : (xs ys : List Seat) → top xs ≤ limit → top ys ≤ limit → top (xs ++ ys) ≤ limit
-top-both xs ys a b = omega (arith, top_append xs ys, a, b)

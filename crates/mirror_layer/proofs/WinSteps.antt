@@ -1,12 +1,18 @@
 -- One disk wins, over plain variables.
-use Rattle.std.proofs.Common.{◌≡◌, ℕ, ◌<◌, ◌≤◌, true, false, List, [], ◌∷◌, ◌++◌, refl, sym, ap, ◌∙◌, subst, arith}
+use Rattle.std.proofs.Common.{◌≡◌, ℕ, max, ◌<◌, ◌≤◌, true, false, List, [], ◌∷◌, ◌++◌, refl, sym, ap, ◌∙◌, subst, arith}
 use Rattle.mirror_rules.specs.Tree.{Image, Cell, Seat, In, Out, seats}
 use Rattle.mirror_rules.specs.Claims.{Every, every_none, every_more}
 use Rattle.mirror_rules.specs.Opening.{AtMost, most_in, most_out, Wins, wins_here, wins_later, wins_out}
 use Rattle.mirror_layer.proofs.CloseSteps.{every_left, every_right, every_both}
-use Rattle.mirror_layer.specs.Winning.{Waits, waits_in, waits_out, Below, below_in, below_out, WaitsUnder}
+use Rattle.mirror_layer.specs.Winning.{Waits, waits_in, waits_out, Below, below_in, below_out, WaitsUnder, best}
 use Rattle.mirror_layer.specs.declared.node.Node.{Node, Opened, Shut, Coherency', Mirror'}
 use Rattle.mirror_layer.specs.View.{tree_of}
+
+-- the greatest generation of two rows
+pub best_append : (xs ys : List Seat) → best (xs ++ ys) ≡ max (best xs) (best ys)
+best_append [] ys = omega arith
+best_append (In b c ∷ xs) ys = omega (arith, best_append xs ys)
+best_append (Out b s ∷ xs) ys = best_append xs ys
 
 pub wins-left : {w : Image} {xs ys : List Seat} (zs : List Seat) → Wins w xs ys → Every (AtMost w.generation) zs → Wins w (xs ++ zs) (ys ++ zs)
 wins-left zs (wins_here {xs = xs} q a) m = wins_here q (both a m) where

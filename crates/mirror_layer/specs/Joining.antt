@@ -34,10 +34,10 @@ abbrev pub joined : Result Bool StoreFault → Bool
 joined (Ok live) = live
 joined (Err e) = false
 
--- it joins, at whatever place it was taken from
-abbrev pub Joins : Bool → Bool → ℕ → List Seat → Cell → Result Bool StoreFault → Bool → List Seat → Cell → Type 0
-Joins told even n xs c result wrote ys d =
-    (i : ℕ) (b : Bool) (s : machine.Store) → Nth i xs (Out b s) → Copies told i even n 0 (set xs i (In false c)) (said result) wrote (set ys i (In (joined result) d))
+-- it joins a ground of the generation g, at whatever place it was taken from
+abbrev pub Joins : Bool → ℕ → Bool → ℕ → List Seat → Cell → Result Bool StoreFault → Bool → List Seat → Cell → Type 0
+Joins told g even n xs c result wrote ys d =
+    (i : ℕ) (b : machine.Why) (s : machine.Store) → Nth i xs (Out b s) → Copies told g i even n 0 (set xs i (In false c)) (said result) wrote (set ys i (In (joined result) d))
 
 -- what the opening says of a joining
 abbrev pub ended : Result Bool StoreFault → Says

@@ -1,5 +1,5 @@
 -- The opening of each disk of a ground.
-use Rattle.std.specs.Prelude.{◌≡◌, ◌≢◌, ◌⊎◌, ◌<◌, Bool, List, [], ◌∷◌, ◌++◌, true, false, Option, Some, None, IfSome, Result, Ok, Err}
+use Rattle.std.specs.Prelude.{◌≡◌, ◌≢◌, ◌⊎◌, ◌<◌, List, [], ◌∷◌, ◌++◌, true, false, Option, Some, None, IfSome, Result, Ok, Err}
 use Rattle.spr_io.specs.Content.{Content}
 use Rattle.disk_format.specs.declared.shape.ImageShape.{ImageShape}
 use Rattle.disk_format.specs.declared.why.BadImage.{BadImage}
@@ -12,7 +12,7 @@ use Rattle.disk_layer.specs.Disk.{Disk}
 use Rattle.disk_layer.specs.Calls.{IsRefusal}
 use Rattle.disk_layer.specs.Calls as calls
 use Rattle.stack_accept.specs.Plan.{Plan, OnDisk, OnMirror, OnCoherency}
-use Rattle.mirror_rules.specs.Tree.{Seat, Out, Tree, Leaf, Coherent, Mirror}
+use Rattle.mirror_rules.specs.Tree.{Seat, Out, Down, Tree, Leaf, Coherent, Mirror}
 use Rattle.mirror_rules.specs.Fates.{disk_of}
 use Rattle.mirror_rules.specs.Tree as machine
 use Rattle.mirror_rules.specs.Claims.{Pairs}
@@ -55,8 +55,8 @@ pub record Met (shuts : List ShutSeen) (row : List Seat) : Type 0 where
 abbrev pub MeetsLeaf : ShutSeen → Result (Option Disk) OpenWhy → ShutSeen → Type 0
 MeetsLeaf s (Ok (Some d)) t = calls.Opened (record { disk = s.disk; shape = s.shape; content = s.content; faults = s.faults }) d
 MeetsLeaf s (Ok None) t =
-    (t ≡ record s { bad = t.bad; faults = t.faults })
-    × (((t.bad ≡ None) × (s.faults < t.faults)) ⊎ ((b : BadImage) × (blank : Bool) × (t.bad ≡ Some b) × IsRefusal (record { disk = s.disk; shape = s.shape; content = s.content; faults = s.faults }) t.faults (whys.BadImage b blank)))
+    (t ≡ record s { bad = t.bad; blank = t.blank; faults = t.faults })
+    × (((t.bad ≡ None) × (s.faults < t.faults)) ⊎ ((b : BadImage) × (t.bad ≡ Some b) × IsRefusal (record { disk = s.disk; shape = s.shape; content = s.content; faults = s.faults }) t.faults (whys.BadImage b t.blank)))
 MeetsLeaf s (Err e) t = Unit {0}
 
 -- why blocks are no image, if they are told; it is never that memory ran out
@@ -81,7 +81,7 @@ Reasons shuts found = Pairs Reason shuts found
 -- no store was written: a disk was opened, or not yet
 pub data Rests (s : machine.Store) : Seat → Type 0 where
   rests_met : {x : Seat} → Meets s x → Rests s x
-  rests_shut : Rests s (Out false s)
+  rests_shut : Rests s (Out Down s)
 
 pub record Rested (shuts : List ShutSeen) (row : List Seat) : Type 0 where
   pub seen : List machine.Store

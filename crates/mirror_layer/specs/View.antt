@@ -4,10 +4,11 @@ use Rattle.std.specs.Option.{option_map}
 use Rattle.spr_io.specs.Content.{Content}
 use Rattle.disk_format.specs.declared.shape.ImageShape.{ImageShape}
 use Rattle.page_ground.specs.Seen.{Imaged}
+use Rattle.disk_format.specs.declared.why.BadImage.{BadImage}
 use Rattle.disk_format.specs.Image.{image}
-use Rattle.disk_layer.specs.Disk.{pages_on, kept_on}
+use Rattle.disk_layer.specs.Disk.{is_blank, pages_on, kept_on}
 use Rattle.disk_layer.specs.Disk as disk_layer
-use Rattle.mirror_rules.specs.Tree.{Image, Cell, Store, Seat, In, Out, Tree, Leaf, closed}
+use Rattle.mirror_rules.specs.Tree.{Image, Cell, Store, Why, Blank, Bad, Down, Seat, In, Out, Tree, Leaf, closed}
 use Rattle.mirror_rules.specs.Tree as machine
 use Rattle.mirror_layer.specs.Shut.{ShutSeen}
 use Rattle.mirror_layer.specs.declared.node.Mark.{Mark}
@@ -42,24 +43,39 @@ leaf_of d = Leaf (In true (cell_of d))
 abbrev pub seat_of : Mark → Cell → Seat
 seat_of mark.Live c = In true c
 seat_of mark.Left c = In false c
-seat_of mark.Down c = Out false (closed (In false c))
+seat_of mark.Down c = Out Down (closed (In false c))
 
 -- the image of blocks, if they are told
 abbrev pub image_in : ImageShape → (Content → List (List ℕ)) → Option Content → Option Image
 image_in shape blocks None = None
 image_in shape blocks (Some c) = option_map {T = Imaged} as_image (image shape (blocks c))
 
+-- whether block 0 is all zeros, if blocks are told; else what was found
+abbrev pub is_blank_in : Bool → Option Content → Bool
+is_blank_in found None = found
+is_blank_in found (Some c) = is_blank c.blocks
+
+-- why a disk is not opened
+abbrev pub why_from : Option BadImage → Bool → Why
+why_from None blank = Down
+why_from (Some bad) true = Blank
+why_from (Some bad) false = Bad
+
+abbrev pub why_of : ShutSeen → Why
+why_of s = why_from s.bad s.blank
+
 abbrev pub store_of : ShutSeen → Store
 store_of s = record {
   disk = s.disk;
   image = image_in s.shape (λ c. c.blocks) s.content;
   kept = image_in s.shape (λ c. c.kept) s.content;
+  blank = is_blank_in s.blank s.content;
   faults = s.faults;
 }
 
 abbrev pub tree_of : {D H : Type 0} → Node D H → Tree
 tree_of (Opened m d) = Leaf (seat_of m (cell_of d))
-tree_of (Shut s) = Leaf (Out (is_some s.bad) (store_of s))
+tree_of (Shut s) = Leaf (Out (why_of s) (store_of s))
 tree_of (Coherency' p t) = machine.Coherent (tree_of t)
 tree_of (Mirror' p l q r) = machine.Mirror (tree_of l) (tree_of r)
 

@@ -1,19 +1,17 @@
 //! The good disks of a ground: one wins, and the others join it.
 
-ghost use Rattle.std.specs.Prelude.{◌≡◌, ◌≤◌, ℕ, Bool, List, true, false, length};
+ghost use Rattle.std.specs.Prelude.{◌≡◌, ◌<◌, ◌≤◌, ◌^◌, ℕ, Bool, List, true, false, length};
 ghost use Rattle.mirror_rules.specs.Tree as machine;
 ghost use Rattle.mirror_rules.specs.Claims.{Every};
 ghost use Rattle.mirror_rules.specs.Opening.{Wins, Enters};
 ghost use Rattle.mirror_layer.specs.View.{tree_of, beside_in};
 ghost use Rattle.mirror_layer.specs.Calls.{all_told, answered};
 ghost use Rattle.mirror_layer.specs.Places.{IsSpare};
-ghost use Rattle.mirror_rules.specs.Opening as opening;
 ghost use Rattle.mirror_layer.specs.Winning.{Waits, Admits};
 ghost use Rattle.mirror_layer.specs.Winning as winning;
 
 use crate::asked::Side;
 use crate::enter::{Entered, enter_all};
-use crate::flush::top;
 use crate::node::{Mark, Node, Unopened};
 use crate::win::win;
 use disk_format::ImageShape;
@@ -39,31 +37,12 @@ pub(crate) fn is_good<D: Side, H: Unopened>(node: &Node<D, H>) -> bool
     }
 }
 
-/// Whether every disk is live.
-#[tactic(auto, using(crate::proofs::AdmitSteps::live_append))]
-pub(crate) fn all_live<D: Side, H: Unopened>(node: &Node<D, H>) -> bool
-    ensures { result ≡ opening.all_live (machine.seats (tree_of node.now)) }
-{
-    match node {
-        Node::Opened(mark, _) => match mark {
-            Mark::Live => true,
-            Mark::Left => false,
-            Mark::Down => false,
-        },
-        Node::Shut(_) => false,
-        Node::Coherency(below) => all_live(below),
-        Node::Mirror(left, right) => {
-            let first = all_live(left);
-            let second = all_live(right);
-            first && second
-        }
-    }
-}
-
-/// Lets the leftmost good disk of the greatest generation win, and the other good disks join it. A disk is good.
+/// Lets the leftmost good disk of the greatest generation win, which this is, and the other good disks join it. A disk is
+/// good.
 pub(crate) fn admit<D: Side, H: Unopened>(
     node: &mut Node<D, H>,
     disks: usize,
+    generation: u64,
     spare: &mut Node<D, H>,
     shape: &ImageShape,
     ours: &mut [u8],
@@ -71,19 +50,21 @@ pub(crate) fn admit<D: Side, H: Unopened>(
 ) -> Entered
     requires waits { Every Waits (machine.seats (tree_of node.old)) }
     requires good { winning.is_good (machine.seats (tree_of node.old)) ≡ true }
+    requires best { generation ≡ winning.best (machine.seats (tree_of node.old)) }
+    requires low { 1 ≤ generation }
+    requires high { generation < 2 ^ 63 }
     requires disks { disks ≡ length (beside_in node.old) }
     requires spare { IsSpare shape.now spare.old }
     requires shapes { Every (λ b. b.shape ≡ shape.now) (beside_in node.old) }
     requires ours { length ours.old ≡ shape.now.page_size }
     requires its { length its.old ≡ shape.now.page_size }
-    ensures admits { (told : Bool) → (told ≡ true → all_told (beside_in node.old) ≡ true) → Admits told shape.now.pages disks (machine.seats (tree_of node.old)) (answered result.outcome) result.wrote (machine.seats (tree_of node.new)) }
+    ensures admits { (told : Bool) → (told ≡ true → all_told (beside_in node.old) ≡ true) → Admits told generation shape.now.pages disks (machine.seats (tree_of node.old)) (answered result.outcome) result.wrote (machine.seats (tree_of node.new)) }
     ensures live { machine.is_live (tree_of node.new) ≡ true }
     ensures spare { IsSpare shape.now spare.new }
     ensures beside { beside_in node.new ≡ beside_in node.old }
 {
-    let best = top(node);
-    if !win(node, best) {
+    if !win(node, generation) {
         unreachable!();
     }
-    enter_all(node, disks, spare, shape, ours, its)
+    enter_all(node, disks, generation, spare, shape, ours, its)
 }

@@ -1,11 +1,12 @@
 //! A ground as a stack asks for it.
 
-ghost use Rattle.std.specs.Prelude.{◌≡◌, ◌<◌, ℕ, List, [], ◌∷◌, Bool, Some, OnOk, OnErr, IfOk, IfErr, length, true};
+ghost use Rattle.std.specs.Prelude.{◌≡◌, ◌<◌, ◌≤◌, ◌^◌, ℕ, List, [], ◌∷◌, Bool, Some, OnOk, OnErr, IfOk, IfErr, length, true};
 ghost use Rattle.page_ground.specs.Seen.{Keeps, IsCalm, IsFault, ReadsPage, AllKept, with_page};
 ghost use Rattle.mirror_rules.specs.Tree as machine;
 ghost use Rattle.mirror_rules.specs.Claims.{Every};
-ghost use Rattle.mirror_rules.specs.Guards.{Guarding, Within, Lower, live_at};
+ghost use Rattle.mirror_rules.specs.Guards.{Medium, Guarding, Within, IsIn, live_at};
 ghost use Rattle.mirror_rules.specs.History.{Since_then};
+ghost use Rattle.mirror_rules.specs.Levels.{Near, Even, Lower};
 ghost use Rattle.mirror_rules.specs.Steps.{Says, Look, Puts, Flushes};
 ghost use Rattle.mirror_layer.specs.Calls.{answered};
 ghost use Rattle.mirror_layer.specs.Ground.{IsGround, PutsPage, outcome, seen_of};
@@ -16,7 +17,6 @@ ghost use Rattle.disk_format.specs.Shape.{IsShape};
 ghost use Rattle.disk_layer.specs.Disk.{Suits};
 ghost use Rattle.stack_accept.specs.Plan.{disks_in, numbers_below, plan_of};
 
-use crate::admit::all_live;
 use crate::close::give_back;
 use crate::ground::MirrorGround;
 use crate::node::Shut;
@@ -55,8 +55,8 @@ impl<S: Store> Model for AnyGround<S> {
 impl<S: Store> AnyGround<S> {
     /// Opens the disks of a plan over their stores, which stand in the order of the disks' numbers, as one ground.
     ///
-    /// It is refused if no disk has an image, if the ground refused a read or a raise, or if memory ran out, which comes
-    /// before any store is written. The stores go back then.
+    /// It is refused if no disk has an image, if the ground refused a read, or if memory ran out, which comes before any
+    /// store is written. The stores go back then.
     pub fn open(
         alloc: Global,
         plan: &GroundPlan,
@@ -70,14 +70,11 @@ impl<S: Store> AnyGround<S> {
         ensures refused { IfErr result (λ e. RefusedOver (λ s. S.content s) (λ s. S.faults s) shape.now stores.items (plan_of plan.now) e.why e.stores.items) }
     {
         match open_over(alloc, plan, stores, shape) {
-            Ok(room) => {
-                let owed = !all_live(&room.node);
-                Ok(AnyGround {
-                    ground: MirrorGround::new(room.node, *shape, owed),
-                    places: room.places,
-                    emptied: room.emptied,
-                })
-            }
+            Ok(room) => Ok(AnyGround {
+                ground: MirrorGround::new(room.node, *shape, room.owed, room.generation),
+                places: room.places,
+                emptied: room.emptied,
+            }),
             Err(refused) => Err(refused),
         }
     }
@@ -88,6 +85,13 @@ impl<S: Store> AnyGround<S> {
         ensures numbered { Numbered self.now.beside }
     {
         self.ground.sound();
+    }
+
+    /// Its generation.
+    pub fn generation(&self) -> u64
+        ensures { result ≡ self.now.generation }
+    {
+        self.ground.generation()
     }
 
     /// Gives the stores back, in the order of the disks. It asks no store, and takes no memory.
@@ -112,7 +116,7 @@ impl<S: Store> Ground for AnyGround<S> {
         ensures fault { IfErr result (IsFault (seen_of self.old) (seen_of self.new)) }
         ensures look { (x : List ℕ) × Look page x self.old.row (answered result) self.new.row }
         ensures rest { self.new ≡ record self.old { row = self.new.row } }
-        ensures guards { (F : List (List ℕ)) (ws : List (ℕ × List ℕ)) (L : ℕ → Bool) → Guarding (Since_then F ws) L self.old.row → Guarding (Since_then F ws) L self.new.row }
+        ensures guards { (v : Medium) (F : List (List ℕ)) (ws : List (ℕ × List ℕ)) (L : ℕ → Bool) (past : List machine.Image) → Guarding v (Since_then F ws) L past self.old.row → Guarding v (Since_then F ws) L past self.new.row }
     {
         Ground::read(&mut self.ground, page, out)
     }
@@ -127,7 +131,7 @@ impl<S: Store> Ground for AnyGround<S> {
         ensures fault { IfErr result (IsFault (seen_of self.old) (seen_of self.new)) }
         ensures puts { PutsPage page bytes.now self.old result self.new }
         ensures rest { self.new ≡ record self.old { owed = self.new.owed; row = self.new.row } }
-        ensures guards { (F : List (List ℕ)) (ws : List (ℕ × List ℕ)) (L : ℕ → Bool) → Guarding (Since_then F ws) L self.old.row → Guarding (Since_then F ((page, bytes.now) ∷ ws)) L self.new.row }
+        ensures guards { (v : Medium) (F : List (List ℕ)) (ws : List (ℕ × List ℕ)) (L : ℕ → Bool) (past : List machine.Image) → Guarding v (Since_then F ws) L past self.old.row → Guarding v (Since_then F ((page, bytes.now) ∷ ws)) L past self.new.row }
     {
         Ground::write(&mut self.ground, page, bytes)
     }
@@ -138,10 +142,10 @@ impl<S: Store> Ground for AnyGround<S> {
         ensures keeps { Keeps (seen_of self.old) (seen_of self.new) }
         ensures calm { OnOk result (IsCalm (seen_of self.old) (seen_of self.new)) }
         ensures fault { IfErr result (IsFault (seen_of self.old) (seen_of self.new)) }
-        ensures flushes { Flushes self.old.owed self.old.row (answered result) self.new.owed self.new.row }
-        ensures rest { self.new ≡ record self.old { owed = self.new.owed; row = self.new.row } }
-        ensures guards { (F : List (List ℕ)) (ws : List (ℕ × List ℕ)) (L : ℕ → Bool) (G : List (List ℕ)) → (seen_of self.old).pages ≡ Some G → Within (Since_then F ws) G → Guarding (Since_then F ws) L self.old.row → Guarding (Since_then F ws) L self.new.row }
-        ensures begins { OnOk result ((G : List (List ℕ)) → (seen_of self.old).pages ≡ Some G → machine.top self.new.row < machine.limit → Every (Lower (machine.top self.new.row)) self.new.row → Guarding (Since_then G []) (live_at self.new.row) self.new.row) }
+        ensures flushes { Flushes self.old.owed self.old.generation self.old.row (answered result) self.new.owed self.new.generation self.new.row }
+        ensures rest { self.new ≡ record self.old { owed = self.new.owed; generation = self.new.generation; row = self.new.row } }
+        ensures guards { (v : Medium) (F : List (List ℕ)) (ws : List (ℕ × List ℕ)) (L : ℕ → Bool) (past : List machine.Image) (G : List (List ℕ)) → (seen_of self.old).pages ≡ Some G → Within (Since_then F ws) G → Every (Near v self.old.generation) self.old.row → Guarding v (Since_then F ws) L past self.old.row → Guarding v (Since_then F ws) L past self.new.row }
+        ensures begins { OnOk result ((v : Medium) (past : List machine.Image) (G : List (List ℕ)) → (seen_of self.old).pages ≡ Some G → Every (Near v self.old.generation) self.old.row → Even v self.old.owed self.old.generation self.old.row → self.new.generation < machine.limit → Every (Lower self.new.generation) self.new.row → ((i : machine.Image) → IsIn past i → i.generation < self.new.generation) → Guarding v (Since_then G []) (live_at self.new.row) past self.new.row) }
     {
         Ground::flush(&mut self.ground)
     }

@@ -1,6 +1,6 @@
 //! The good disks join the winner, from left to right.
 
-ghost use Rattle.std.specs.Prelude.{◌≡◌, ◌≢◌, ◌+◌, ◌<◌, ◌≤◌, ℕ, List, Bool, length, true, false};
+ghost use Rattle.std.specs.Prelude.{◌≡◌, ◌≢◌, ◌+◌, ◌<◌, ◌≤◌, ◌^◌, ℕ, List, Bool, length, true, false};
 ghost use Rattle.mirror_rules.specs.Tree as machine;
 ghost use Rattle.mirror_rules.specs.Claims.{Every, Nth};
 ghost use Rattle.mirror_layer.specs.View.{beside_in, tree_of, seat_of};
@@ -10,7 +10,6 @@ ghost use Rattle.mirror_layer.specs.Calls.{all_told, answered};
 ghost use Rattle.mirror_layer.specs.Places.{IsLeaf, IsSpare, first_seat, first_beside, EntersLeaf, LeafTells};
 
 use crate::asked::{Side, level};
-use crate::flush::generation;
 use crate::join::join;
 use crate::node::{Mark, Node, Unopened};
 use crate::place::exchange_at;
@@ -51,10 +50,11 @@ pub(crate) fn mark_joined(
     }
 }
 
-/// Lets a leaf join that was taken out of the ground, if it is a good disk that is not live.
+/// Lets a leaf join that was taken out of a ground of this generation, if it is a good disk that is not live.
 pub(crate) fn enter_leaf<D: Side, H: Unopened>(
     node: &mut Node<D, H>,
     leaf: &mut Node<D, H>,
+    generation: u64,
     shape: &ImageShape,
     ours: &mut [u8],
     its: &mut [u8],
@@ -65,17 +65,19 @@ pub(crate) fn enter_leaf<D: Side, H: Unopened>(
     requires shape { (first_beside leaf.old).shape ≡ shape.now }
     requires ours { length ours.old ≡ shape.now.page_size }
     requires its { length its.old ≡ shape.now.page_size }
-    ensures enters { (told : Bool) → LeafTells told (beside_in node.old) leaf.old → EntersLeaf told shape.now.pages (machine.seats (tree_of node.old)) (first_seat leaf.old) result.outcome result.wrote (machine.seats (tree_of node.new)) (first_seat leaf.new) }
+    requires low { 1 ≤ generation }
+    requires high { generation < 2 ^ 63 }
+    ensures enters { (told : Bool) → LeafTells told (beside_in node.old) leaf.old → EntersLeaf told generation shape.now.pages (machine.seats (tree_of node.old)) (first_seat leaf.old) result.outcome result.wrote (machine.seats (tree_of node.new)) (first_seat leaf.new) }
     ensures leaf { IsLeaf leaf.new }
-    ensures out { (i : ℕ) (b : Bool) (s : machine.Store) → Nth i (machine.seats (tree_of node.old)) (machine.Out b s) → Nth i (machine.seats (tree_of node.new)) (machine.Out b s) }
+    ensures out { (i : ℕ) (b : machine.Why) (s : machine.Store) → Nth i (machine.seats (tree_of node.old)) (machine.Out b s) → Nth i (machine.seats (tree_of node.new)) (machine.Out b s) }
     ensures beside { beside_in node.new ≡ beside_in node.old }
     ensures own { first_beside leaf.new ≡ first_beside leaf.old }
 {
     match leaf {
         Node::Opened(mark, disk) => match mark {
             Mark::Left => {
-                let even = level(disk) == generation(node);
-                let joined = join(node, disk, shape, even, ours, its);
+                let even = level(disk) == generation;
+                let joined = join(node, disk, shape, generation, even, ours, its);
                 let outcome = mark_joined(mark, joined.outcome);
                 Entered {
                     outcome,
@@ -96,6 +98,7 @@ pub(crate) fn enter_leaf<D: Side, H: Unopened>(
 fn enter_at<D: Side, H: Unopened>(
     node: &mut Node<D, H>,
     place: usize,
+    generation: u64,
     spare: &mut Node<D, H>,
     shape: &ImageShape,
     ours: &mut [u8],
@@ -107,21 +110,25 @@ fn enter_at<D: Side, H: Unopened>(
     requires shapes { Every (λ b. b.shape ≡ shape.now) (beside_in node.old) }
     requires ours { length ours.old ≡ shape.now.page_size }
     requires its { length its.old ≡ shape.now.page_size }
-    ensures enters { (told : Bool) → (told ≡ true → all_told (beside_in node.old) ≡ true) → Enters told shape.now.pages place 1 (machine.seats (tree_of node.old)) (answered result.outcome) result.wrote (machine.seats (tree_of node.new)) }
+    requires low { 1 ≤ generation }
+    requires high { generation < 2 ^ 63 }
+    ensures enters { (told : Bool) → (told ≡ true → all_told (beside_in node.old) ≡ true) → Enters told generation shape.now.pages place 1 (machine.seats (tree_of node.old)) (answered result.outcome) result.wrote (machine.seats (tree_of node.new)) }
     ensures live { machine.is_live (tree_of node.new) ≡ true }
     ensures spare { IsSpare shape.now spare.new }
     ensures beside { beside_in node.new ≡ beside_in node.old }
 {
     exchange_at(node, place, spare);
-    let entered = enter_leaf(node, spare, shape, ours, its);
+    let entered = enter_leaf(node, spare, generation, shape, ours, its);
     exchange_at(node, place, spare);
     entered
 }
 
-/// Lets each good disk join that is not live, from left to right. Ends if the ground refuses a read.
+/// Lets each good disk that is not live join a ground of this generation, from left to right. Ends if the ground refuses a
+/// read.
 pub(crate) fn enter_all<D: Side, H: Unopened>(
     node: &mut Node<D, H>,
     disks: usize,
+    generation: u64,
     spare: &mut Node<D, H>,
     shape: &ImageShape,
     ours: &mut [u8],
@@ -133,14 +140,16 @@ pub(crate) fn enter_all<D: Side, H: Unopened>(
     requires shapes { Every (λ b. b.shape ≡ shape.now) (beside_in node.old) }
     requires ours { length ours.old ≡ shape.now.page_size }
     requires its { length its.old ≡ shape.now.page_size }
-    ensures enters { (told : Bool) → (told ≡ true → all_told (beside_in node.old) ≡ true) → Enters told shape.now.pages 0 disks (machine.seats (tree_of node.old)) (answered result.outcome) result.wrote (machine.seats (tree_of node.new)) }
+    requires low { 1 ≤ generation }
+    requires high { generation < 2 ^ 63 }
+    ensures enters { (told : Bool) → (told ≡ true → all_told (beside_in node.old) ≡ true) → Enters told generation shape.now.pages 0 disks (machine.seats (tree_of node.old)) (answered result.outcome) result.wrote (machine.seats (tree_of node.new)) }
     ensures live { machine.is_live (tree_of node.new) ≡ true }
     ensures spare { IsSpare shape.now spare.new }
     ensures beside { beside_in node.new ≡ beside_in node.old }
 {
     let mut wrote = false;
     for place in 0..disks {
-        let entered = enter_at(node, place, spare, shape, ours, its);
+        let entered = enter_at(node, place, generation, spare, shape, ours, its);
         wrote |= entered.wrote;
         match entered.outcome {
             Ok(()) => {}

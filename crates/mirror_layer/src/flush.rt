@@ -1,107 +1,101 @@
-//! The raise that is owed, and the flush.
+//! The raises that are owed, and the flush.
 
 ghost use Rattle.std.specs.Prelude.{◌≡◌, ◌<◌, ◌≤◌, ◌^◌, Result, true};
 ghost use Rattle.mirror_rules.specs.Tree as machine;
-ghost use Rattle.mirror_rules.specs.Steps.{Raised, Pays, Flushes};
+ghost use Rattle.mirror_rules.specs.Steps.{Raised, Pays, Flushes, is_fault};
 ghost use Rattle.mirror_layer.specs.View.{tree_of, beside_in};
 ghost use Rattle.mirror_layer.specs.Calls.{answered};
 
-use crate::asked::{Call, Side, level};
-use crate::node::{Mark, Node, Unopened};
+use crate::asked::{Call, Side};
+use crate::node::{Node, Unopened};
 use crate::round::pass;
 use page_ground::StoreFault;
 
 /// The greatest generation that there may be.
 const LIMIT: u64 = 9_223_372_036_854_775_807;
 
-/// The greatest generation of every disk that was opened.
-#[tactic(auto, using(mirror_rules::proofs::RoundLaws::top_append))]
-pub fn top<D: Side, H: Unopened>(node: &Node<D, H>) -> u64
-    ensures top { result ≡ machine.top (machine.seats (tree_of node.now)) }
-    ensures high { result < 2 ^ 63 }
-{
-    match node {
-        Node::Opened(mark, disk) => match mark {
-            Mark::Live => level(disk),
-            Mark::Left => level(disk),
-            Mark::Down => 0,
-        },
-        Node::Shut(_) => 0,
-        Node::Coherency(below) => top(below),
-        Node::Mirror(left, right) => top(left).max(top(right)),
-    }
-}
-
-/// The greatest generation of every live disk.
-#[tactic(auto, using(crate::proofs::RowLaws::generation_append))]
-pub fn generation<D: Side, H: Unopened>(node: &Node<D, H>) -> u64
-    ensures generation { result ≡ machine.generation (machine.seats (tree_of node.now)) }
-    ensures low { machine.is_live (tree_of node.now) ≡ true → 1 ≤ result }
-    ensures high { result < 2 ^ 63 }
-{
-    match node {
-        Node::Opened(mark, disk) => match mark {
-            Mark::Live => level(disk),
-            Mark::Left => 0,
-            Mark::Down => 0,
-        },
-        Node::Shut(_) => 0,
-        Node::Coherency(below) => generation(below),
-        Node::Mirror(left, right) => generation(left).max(generation(right)),
-    }
-}
-
-/// The number that a raise writes.
-fn next<D: Side, H: Unopened>(node: &Node<D, H>) -> u64
-    ensures next { result ≡ machine.next (machine.seats (tree_of node.now)) }
+/// The number that a raise writes in a ground of this generation: one more, up to the greatest. This project's own rule.
+pub fn next_generation(level: u64) -> u64
+    ensures next { result ≡ machine.next level }
     ensures low { 1 ≤ result }
     ensures high { result < 2 ^ 63 }
 {
-    let most = top(node);
-    if most < LIMIT { most + 1 } else { LIMIT }
+    if level < LIMIT { level + 1 } else { LIMIT }
 }
 
-/// Raises the live disks, until a round makes no side stale.
-pub fn raise_all<D: Side, H: Unopened>(node: &mut Node<D, H>) -> Result<(), StoreFault>
+/// Raises the live disks, each time to one more than the ground's generation, until a round makes no side stale.
+///
+/// A round that was taken gives the ground its number. A refused one leaves it, whatever stands on the disks.
+pub fn raise_all<D: Side, H: Unopened>(
+    node: &mut Node<D, H>,
+    level: &mut u64,
+) -> Result<(), StoreFault>
     requires { machine.is_live (tree_of node.old) ≡ true }
-    ensures raised { Raised (machine.seats (tree_of node.old)) (answered result) (machine.seats (tree_of node.new)) }
+    ensures raised { Raised level.old (machine.seats (tree_of node.old)) (answered result) level.new (machine.seats (tree_of node.new)) }
     ensures beside { beside_in node.new ≡ beside_in node.old }
 {
-    let generation = next(node);
+    let generation = next_generation(*level);
     match pass(node, Call::Raise { generation }) {
-        Ok(true) => Ok(()),
-        Ok(false) => raise_all(node),
+        Ok(true) => {
+            *level = generation;
+            Ok(())
+        }
+        Ok(false) => {
+            *level = generation;
+            raise_all(node, level)
+        }
         Err(fault) => Err(fault),
     }
 }
 
-/// A raise that is owed.
-fn pay<D: Side, H: Unopened>(node: &mut Node<D, H>, owed: bool) -> Result<(), StoreFault>
+/// Raises until two rounds have made no side stale. After one a disk that refused it, or was not asked before the program was
+/// stopped, may have the number of the live disks; after two it is below them.
+fn raise_twice<D: Side, H: Unopened>(
+    node: &mut Node<D, H>,
+    level: &mut u64,
+) -> Result<(), StoreFault>
     requires { machine.is_live (tree_of node.old) ≡ true }
-    ensures pays { Pays owed (machine.seats (tree_of node.old)) (answered result) (machine.seats (tree_of node.new)) }
+    ensures pays { Pays level.old (machine.seats (tree_of node.old)) (answered result) level.new (machine.seats (tree_of node.new)) }
     ensures beside { beside_in node.new ≡ beside_in node.old }
 {
-    if owed { raise_all(node) } else { Ok(()) }
+    match raise_all(node, level) {
+        Ok(()) => raise_all(node, level),
+        Err(fault) => Err(fault),
+    }
 }
 
-/// Pays what is owed, and flushes until a round makes no side stale.
-pub fn flush<D: Side, H: Unopened>(node: &mut Node<D, H>, owed: &mut bool) -> Result<(), StoreFault>
+/// Pays what is owed. If it is refused, it stays owed.
+fn pay<D: Side, H: Unopened>(
+    node: &mut Node<D, H>,
+    owed: &mut bool,
+    level: &mut u64,
+) -> Result<(), StoreFault>
     requires { machine.is_live (tree_of node.old) ≡ true }
-    ensures flushes { Flushes owed.old (machine.seats (tree_of node.old)) (answered result) owed.new (machine.seats (tree_of node.new)) }
+    ensures pays { Pays level.old (machine.seats (tree_of node.old)) (answered result) level.new (machine.seats (tree_of node.new)) }
+    ensures owes { owed.new ≡ is_fault (answered result) }
     ensures beside { beside_in node.new ≡ beside_in node.old }
 {
-    match pay(node, *owed) {
-        Ok(()) => match pass(node, Call::Flush) {
-            Ok(true) => {
-                *owed = false;
-                Ok(())
-            }
-            Ok(false) => {
-                *owed = true;
-                flush(node, owed)
-            }
-            Err(fault) => Err(fault),
-        },
+    let answer = raise_twice(node, level);
+    *owed = answer.is_err();
+    answer
+}
+
+/// Pays what is owed; or flushes in one round, if nothing is. If that makes a side stale, a raise is owed, and paid.
+pub fn flush<D: Side, H: Unopened>(
+    node: &mut Node<D, H>,
+    owed: &mut bool,
+    level: &mut u64,
+) -> Result<(), StoreFault>
+    requires { machine.is_live (tree_of node.old) ≡ true }
+    ensures flushes { Flushes owed.old level.old (machine.seats (tree_of node.old)) (answered result) owed.new level.new (machine.seats (tree_of node.new)) }
+    ensures beside { beside_in node.new ≡ beside_in node.old }
+{
+    if *owed {
+        return pay(node, owed, level);
+    }
+    match pass(node, Call::Flush) {
+        Ok(true) => Ok(()),
+        Ok(false) => pay(node, owed, level),
         Err(fault) => Err(fault),
     }
 }

@@ -1,18 +1,19 @@
 //! A ground: disks in mirrors, as what lies under a file.
 
-ghost use Rattle.std.specs.Prelude.{◌≡◌, ◌<◌, ℕ, List, [], ◌∷◌, Bool, Some, OnOk, OnErr, IfErr, length, true};
+ghost use Rattle.std.specs.Prelude.{◌≡◌, ◌<◌, ◌≤◌, ◌^◌, ℕ, List, [], ◌∷◌, Bool, Some, OnOk, OnErr, IfErr, length, true};
 ghost use Rattle.page_ground.specs.Seen.{Keeps, IsCalm, IsFault, ReadsPage, AllKept, with_page};
 ghost use Rattle.mirror_rules.specs.Tree as machine;
 ghost use Rattle.mirror_rules.specs.Claims.{Every};
-ghost use Rattle.mirror_rules.specs.Guards.{Guarding, Within, Lower, live_at};
+ghost use Rattle.mirror_rules.specs.Guards.{Medium, Guarding, Within, IsIn, live_at};
 ghost use Rattle.mirror_rules.specs.History.{Since_then};
+ghost use Rattle.mirror_rules.specs.Levels.{Near, Even, Lower};
 ghost use Rattle.mirror_rules.specs.Steps.{Says, Look, Puts, Flushes};
 ghost use Rattle.mirror_layer.specs.View.{tree_of, beside_in};
 ghost use Rattle.mirror_layer.specs.Calls.{HasPages, answered};
 ghost use Rattle.mirror_layer.specs.Ground.{IsGround, PutsPage, outcome, seen_of};
 
 use crate::asked::{Call, Side};
-use crate::flush::{flush, generation};
+use crate::flush::flush;
 use crate::node::{Node, Unopened};
 use crate::round::{pass, read};
 use disk_format::ImageShape;
@@ -26,8 +27,10 @@ use std::marker::Model;
 pub struct MirrorGround<D: Side + Send, H: Unopened + Send> {
     node: Node<D, H>,
     shape: ImageShape,
-    /// A raise is owed: a disk was left out, and the live ones were not raised above it since.
+    /// A raise is owed: a later flush pays it.
     owed: bool,
+    /// The ground's generation: that of the disk that won its opening, and then that of the last round of raises that was taken.
+    level: u64,
 }
 
 impl<D: Side + Send, H: Unopened + Send> Model for MirrorGround<D, H> {
@@ -37,9 +40,9 @@ impl<D: Side + Send, H: Unopened + Send> Model for MirrorGround<D, H> {
 
     ghost Value = { Ground };
 
-    ghost view = { λ g. record { shape = g.shape; owed = g.owed; row = seats (tree_of g.node); beside = beside_in g.node } };
+    ghost view = { λ g. record { shape = g.shape; owed = g.owed; generation = g.level; row = seats (tree_of g.node); beside = beside_in g.node } };
 
-    ghost invariant = { λ g. IsGround (record { shape = g.shape; owed = g.owed; row = seats (tree_of g.node); beside = beside_in g.node }) };
+    ghost invariant = { λ g. IsGround (record { shape = g.shape; owed = g.owed; generation = g.level; row = seats (tree_of g.node); beside = beside_in g.node }) };
 }
 
 /// Writes a page in one round. If it made a side stale, a raise is owed.
@@ -66,18 +69,29 @@ pub fn put<D: Side, H: Unopened>(
 
 impl<D: Side + Send, H: Unopened + Send> MirrorGround<D, H> {
     /// A ground of these disks, of images of the shape.
-    pub fn new(node: Node<D, H>, shape: ImageShape, owed: bool) -> MirrorGround<D, H>
-        requires { IsGround (record { shape = shape; owed = owed; row = machine.seats (tree_of node); beside = beside_in node }) }
-        ensures { result ≡ record { shape = shape; owed = owed; row = machine.seats (tree_of node); beside = beside_in node } }
+    pub fn new(
+        node: Node<D, H>,
+        shape: ImageShape,
+        owed: bool,
+        generation: u64,
+    ) -> MirrorGround<D, H>
+        requires { IsGround (record { shape = shape; owed = owed; generation = generation; row = machine.seats (tree_of node); beside = beside_in node }) }
+        ensures { result ≡ record { shape = shape; owed = owed; generation = generation; row = machine.seats (tree_of node); beside = beside_in node } }
     {
-        MirrorGround { node, shape, owed }
+        MirrorGround {
+            node,
+            shape,
+            owed,
+            level: generation,
+        }
     }
 
-    /// The generation: the greatest of the live disks.
+    /// Its generation.
     pub fn generation(&self) -> u64
-        ensures { result ≡ machine.generation self.now.row }
+        ensures level { result ≡ self.now.generation }
+        ensures high { result < 2 ^ 63 }
     {
-        generation(&self.node)
+        self.level
     }
 
     /// What it is made of.
@@ -110,7 +124,7 @@ impl<D: Side + Send, H: Unopened + Send> Ground for MirrorGround<D, H> {
         ensures fault { IfErr result (IsFault (seen_of self.old) (seen_of self.new)) }
         ensures look { (x : List ℕ) × Look page x self.old.row (answered result) self.new.row }
         ensures rest { self.new ≡ record self.old { row = self.new.row } }
-        ensures guards { (F : List (List ℕ)) (ws : List (ℕ × List ℕ)) (L : ℕ → Bool) → Guarding (Since_then F ws) L self.old.row → Guarding (Since_then F ws) L self.new.row }
+        ensures guards { (v : Medium) (F : List (List ℕ)) (ws : List (ℕ × List ℕ)) (L : ℕ → Bool) (past : List machine.Image) → Guarding v (Since_then F ws) L past self.old.row → Guarding v (Since_then F ws) L past self.new.row }
     {
         read(&mut self.node, page, out)
     }
@@ -125,7 +139,7 @@ impl<D: Side + Send, H: Unopened + Send> Ground for MirrorGround<D, H> {
         ensures fault { IfErr result (IsFault (seen_of self.old) (seen_of self.new)) }
         ensures puts { PutsPage page bytes.now self.old result self.new }
         ensures rest { self.new ≡ record self.old { owed = self.new.owed; row = self.new.row } }
-        ensures guards { (F : List (List ℕ)) (ws : List (ℕ × List ℕ)) (L : ℕ → Bool) → Guarding (Since_then F ws) L self.old.row → Guarding (Since_then F ((page, bytes.now) ∷ ws)) L self.new.row }
+        ensures guards { (v : Medium) (F : List (List ℕ)) (ws : List (ℕ × List ℕ)) (L : ℕ → Bool) (past : List machine.Image) → Guarding v (Since_then F ws) L past self.old.row → Guarding v (Since_then F ((page, bytes.now) ∷ ws)) L past self.new.row }
     {
         put(&mut self.node, &mut self.owed, page, bytes)
     }
@@ -136,11 +150,11 @@ impl<D: Side + Send, H: Unopened + Send> Ground for MirrorGround<D, H> {
         ensures keeps { Keeps (seen_of self.old) (seen_of self.new) }
         ensures calm { OnOk result (IsCalm (seen_of self.old) (seen_of self.new)) }
         ensures fault { IfErr result (IsFault (seen_of self.old) (seen_of self.new)) }
-        ensures flushes { Flushes self.old.owed self.old.row (answered result) self.new.owed self.new.row }
-        ensures rest { self.new ≡ record self.old { owed = self.new.owed; row = self.new.row } }
-        ensures guards { (F : List (List ℕ)) (ws : List (ℕ × List ℕ)) (L : ℕ → Bool) (G : List (List ℕ)) → (seen_of self.old).pages ≡ Some G → Within (Since_then F ws) G → Guarding (Since_then F ws) L self.old.row → Guarding (Since_then F ws) L self.new.row }
-        ensures begins { OnOk result ((G : List (List ℕ)) → (seen_of self.old).pages ≡ Some G → machine.top self.new.row < machine.limit → Every (Lower (machine.top self.new.row)) self.new.row → Guarding (Since_then G []) (live_at self.new.row) self.new.row) }
+        ensures flushes { Flushes self.old.owed self.old.generation self.old.row (answered result) self.new.owed self.new.generation self.new.row }
+        ensures rest { self.new ≡ record self.old { owed = self.new.owed; generation = self.new.generation; row = self.new.row } }
+        ensures guards { (v : Medium) (F : List (List ℕ)) (ws : List (ℕ × List ℕ)) (L : ℕ → Bool) (past : List machine.Image) (G : List (List ℕ)) → (seen_of self.old).pages ≡ Some G → Within (Since_then F ws) G → Every (Near v self.old.generation) self.old.row → Guarding v (Since_then F ws) L past self.old.row → Guarding v (Since_then F ws) L past self.new.row }
+        ensures begins { OnOk result ((v : Medium) (past : List machine.Image) (G : List (List ℕ)) → (seen_of self.old).pages ≡ Some G → Every (Near v self.old.generation) self.old.row → Even v self.old.owed self.old.generation self.old.row → self.new.generation < machine.limit → Every (Lower self.new.generation) self.new.row → ((i : machine.Image) → IsIn past i → i.generation < self.new.generation) → Guarding v (Since_then G []) (live_at self.new.row) past self.new.row) }
     {
-        flush(&mut self.node, &mut self.owed)
+        flush(&mut self.node, &mut self.owed, &mut self.level)
     }
 }

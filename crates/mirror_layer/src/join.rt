@@ -8,7 +8,6 @@ ghost use Rattle.mirror_layer.specs.Calls.{HasPages};
 ghost use Rattle.mirror_layer.specs.Joining.{CopiesPage, Settles, Joins, Tells};
 
 use crate::asked::{Call, Held, Side, ask, level, read_disk};
-use crate::flush::generation;
 use crate::node::{Node, Unopened};
 use crate::round::read;
 use disk_format::ImageShape;
@@ -104,12 +103,13 @@ fn settle<D: Side>(disk: &mut Held<D>, generation: u64) -> Joined
     }
 }
 
-/// Lets a disk join that was taken out of the ground; the slices are one page each. `even` if it has the ground's
-/// generation.
+/// Lets a disk join that was taken out of a ground of this generation; the slices are one page each. `even` if it has the
+/// ground's generation.
 pub(crate) fn join<D: Side, H: Unopened>(
     node: &mut Node<D, H>,
     disk: &mut Held<D>,
     shape: &ImageShape,
+    generation: u64,
     even: bool,
     ours: &mut [u8],
     its: &mut [u8],
@@ -119,8 +119,10 @@ pub(crate) fn join<D: Side, H: Unopened>(
     requires shape { disk.old.shape ≡ shape.now }
     requires ours { length ours.old ≡ shape.now.page_size }
     requires its { length its.old ≡ shape.now.page_size }
-    ensures joins { (told : Bool) → Tells told (beside_in node.old) disk.old → Joins told even shape.now.pages (machine.seats (tree_of node.old)) (cell_of disk.old) result.outcome result.wrote (machine.seats (tree_of node.new)) (cell_of disk.new) }
-    ensures out { (i : ℕ) (b : Bool) (s : machine.Store) → Nth i (machine.seats (tree_of node.old)) (machine.Out b s) → Nth i (machine.seats (tree_of node.new)) (machine.Out b s) }
+    requires low { 1 ≤ generation }
+    requires high { generation < 2 ^ 63 }
+    ensures joins { (told : Bool) → Tells told (beside_in node.old) disk.old → Joins told generation even shape.now.pages (machine.seats (tree_of node.old)) (cell_of disk.old) result.outcome result.wrote (machine.seats (tree_of node.new)) (cell_of disk.new) }
+    ensures out { (i : ℕ) (b : machine.Why) (s : machine.Store) → Nth i (machine.seats (tree_of node.old)) (machine.Out b s) → Nth i (machine.seats (tree_of node.new)) (machine.Out b s) }
     ensures beside { beside_in node.new ≡ beside_in node.old }
     ensures own { beside_of disk.new ≡ beside_of disk.old }
 {
@@ -153,7 +155,7 @@ pub(crate) fn join<D: Side, H: Unopened>(
             wrote,
         };
     }
-    let settled = settle(disk, generation(node));
+    let settled = settle(disk, generation);
     Joined {
         outcome: settled.outcome,
         wrote: wrote || settled.wrote,

@@ -24,6 +24,7 @@ mod win;
 
 pub use any::AnyGround;
 pub use asked::{Call, Held, Side, hold};
+pub use flush::next_generation;
 pub use ground::MirrorGround;
 pub use node::{Kept, Mark, Node, Shut, Unopened};
 pub use refuse::{OpenAll, Refusal};

@@ -9,12 +9,12 @@ ghost use Rattle.mirror_layer.specs.Meeting.{AllLeft, AllNew, AllThere, IsNew, M
 
 use crate::asked::hold;
 use crate::node::{Mark, Node, Shut};
-use disk_layer::{Disk, FreshImage, OpenWhy};
+use disk_layer::{Disk, OpenWhy};
 use spr_io::Store;
-use std::alloc::{AllocError, Global};
+use std::alloc::Global;
 
 /// Opens a disk that was not opened. None if its blocks are no image, or its store refused; the reason of the first is kept,
-/// and what its format needs.
+/// and whether the disk is blank.
 ///
 /// An error is that memory ran out, and leaves it as it was.
 fn meet_leaf<S: Store>(alloc: Global, shut: &mut Shut<S>) -> Result<Option<Disk<S>>, OpenWhy>
@@ -30,14 +30,11 @@ fn meet_leaf<S: Store>(alloc: Global, shut: &mut Shut<S>) -> Result<Option<Disk<
         Err(err) => {
             shut.store = Some(err.store);
             match err.why {
-                OpenWhy::BadImage { bad, blank: _ } => match FreshImage::new(alloc, &shut.shape) {
-                    Ok(fresh) => {
-                        shut.fresh = Some(fresh);
-                        shut.bad = Some(bad);
-                        Ok(None)
-                    }
-                    Err(AllocError) => Err(OpenWhy::Memory),
-                },
+                OpenWhy::BadImage { bad, blank } => {
+                    shut.bad = Some(bad);
+                    shut.blank = blank;
+                    Ok(None)
+                }
                 OpenWhy::StoreFault { fault: _ } => Ok(None),
                 OpenWhy::Memory => Err(OpenWhy::Memory),
             }

@@ -8,7 +8,6 @@ ghost use Rattle.mirror_layer.specs.View.{seat_of, tree_of, beside_in};
 
 use crate::asked::{Held, Side};
 use disk_format::{BadImage, ImageShape};
-use disk_layer::FreshImage;
 use spr_io::Store;
 use std::marker::Model;
 
@@ -23,17 +22,17 @@ pub enum Mark {
     Down,
 }
 
-/// A disk that was not opened, or not formatted.
+/// A disk that was not opened, or not made.
 #[derive(Drop)]
 pub struct Shut<S: Store> {
     /// Its store, but for the time in which that is taken.
     pub(crate) store: Option<S>,
     pub(crate) disk: u32,
     pub(crate) shape: ImageShape,
-    /// Why its blocks are no image, if they are none and it was not formatted.
+    /// Why its blocks are no image, if they are none and no making of it was refused.
     pub(crate) bad: Option<BadImage>,
-    /// What its format needs, if its blocks are no image. So no memory is taken once a store may be written.
-    pub(crate) fresh: Option<FreshImage>,
+    /// Whether its block 0 was found to be all zeros.
+    pub(crate) blank: bool,
     /// The store's count of faults when the ground took it.
     pub(crate) opened: u64,
 }
@@ -45,9 +44,9 @@ impl<S: Store> Model for Shut<S> {
 
     ghost Value = { ShutSeen };
 
-    ghost view = { λ s. record { disk = s.disk; shape = s.shape; there = is_some s.store; bad = s.bad; content = content_in (λ t. S.content t) s.store; faults = faults_in (λ t. S.faults t) s.store; opened = s.opened } };
+    ghost view = { λ s. record { disk = s.disk; shape = s.shape; there = is_some s.store; bad = s.bad; blank = s.blank; content = content_in (λ t. S.content t) s.store; faults = faults_in (λ t. S.faults t) s.store; opened = s.opened } };
 
-    ghost invariant = { λ s. IsShape s.shape × Fits s.shape (λ t. S.size t) (λ t. S.number t) s.store × CanRenew s.shape s.bad s.fresh s.opened (λ t. S.content t) (λ t. S.faults t) s.store × Since s.opened (λ t. S.faults t) s.store };
+    ghost invariant = { λ s. IsShape s.shape × Fits s.shape (λ t. S.size t) (λ t. S.number t) s.store × CanRenew s.bad s.blank s.opened (λ t. S.content t) (λ t. S.faults t) s.store × Since s.opened (λ t. S.faults t) s.store };
 }
 
 impl<S: Store> Shut<S> {

@@ -1,6 +1,6 @@
 //! A ground is opened over its stores.
 
-ghost use Rattle.std.specs.Prelude.{◌≡◌, ◌≤◌, ℕ, [], IfOk, IfErr, OnOk, OnErr, length, replicate, vec_capacity, map, Some, true};
+ghost use Rattle.std.specs.Prelude.{◌≡◌, ◌<◌, ◌≤◌, ◌^◌, ◌||◌, ltb, ℕ, [], IfOk, IfErr, OnOk, OnErr, length, replicate, vec_capacity, map, Some, true};
 ghost use Rattle.std.specs.List.Sorted.{IsPermutation};
 ghost use Rattle.disk_format.specs.Shape.{IsShape};
 ghost use Rattle.stack_accept.specs.Plan.{disks_in, numbers_below, plan_of};
@@ -14,7 +14,6 @@ ghost use Rattle.mirror_layer.specs.Places.{IsSpare};
 ghost use Rattle.mirror_layer.specs.Bringing.{IsReady, RefusedOver, UnitedAs};
 
 use crate::admit::is_good;
-use crate::asked::level;
 use crate::choose::choose;
 use crate::close::give_back;
 use crate::fill::fill_all;
@@ -22,7 +21,7 @@ use crate::meet::meet;
 use crate::node::{Kept, Node, Shut};
 use crate::plan::empty_tree;
 use crate::refuse::{OpenAll, Refusal, why_none};
-use crate::renew::renew_all;
+use crate::renew::{images_for, renew_all};
 use disk_format::ImageShape;
 use disk_layer::Disk;
 use spr_io::Store;
@@ -44,6 +43,9 @@ pub(crate) struct Room<S: Store> {
     pub ours: Vec<u8>,
     /// A page of a disk that joins.
     pub its: Vec<u8>,
+    /// The ground's generation, once it is opened, and whether it owes a raise.
+    pub generation: u64,
+    pub owed: bool,
 }
 
 /// A leaf that is no disk's.
@@ -57,7 +59,7 @@ fn spare_leaf<S: Store>(shape: &ImageShape) -> Node<Disk<S>, Shut<S>>
             disk: 0,
             shape: *shape,
             bad: None,
-            fresh: None,
+            blank: false,
             opened: 0,
         },
     })
@@ -86,6 +88,8 @@ pub(crate) fn room_for<S: Store>(
         spare: spare_leaf(shape),
         ours: vec![in alloc; 0u8; shape.page_size as usize]?,
         its: vec![in alloc; 0u8; shape.page_size as usize]?,
+        generation: 0,
+        owed: false,
     })
 }
 
@@ -100,7 +104,8 @@ pub(crate) fn set_out<S: Store>(stores: Vec<S>, places: &mut Vec<Option<S>>)
     }
 }
 
-/// Opens each disk; the good ones become one ground, and then the bad ones are formatted and join it.
+/// Opens each disk; the good ones become one ground, and then the blank ones are made and join it. It answers the ground's
+/// generation. All memory is taken before a store is written.
 pub(crate) fn unite<S: Store>(
     alloc: Global,
     node: &mut Node<Disk<S>, Shut<S>>,
@@ -109,7 +114,8 @@ pub(crate) fn unite<S: Store>(
     shape: &ImageShape,
     ours: &mut [u8],
     its: &mut [u8],
-) -> Result<(), Refusal>
+) -> Result<u64, Refusal>
+    requires shape { IsShape shape.now }
     requires new { AllNew node.old }
     requires disks { disks ≡ length (beside_in node.old) }
     requires spare { IsSpare shape.now spare.old }
@@ -118,6 +124,7 @@ pub(crate) fn unite<S: Store>(
     requires its { length its.old ≡ shape.now.page_size }
     ensures united { UnitedAs result shape.now (shuts_in node.old) (beside_in node.old) (machine.seats (tree_of node.new)) }
     ensures live { OnOk result (machine.is_live (tree_of node.new) ≡ true) }
+    ensures high { IfOk result (λ g. g < 2 ^ 63) }
     ensures beside { beside_in node.new ≡ beside_in node.old }
 {
     if meet(alloc, node).is_err() {
@@ -126,25 +133,37 @@ pub(crate) fn unite<S: Store>(
     if !is_good(node) {
         return Err(why_none(node));
     }
-    if let Err(fault) = choose(node, disks, spare, shape, ours, its) {
-        return Err(Refusal::StoreFault { fault });
-    }
-    match renew_all(node, disks, spare, shape, ours, its) {
-        Ok(()) => Ok(()),
+    let Ok(found) = images_for(alloc, node, shape) else {
+        return Err(Refusal::Memory);
+    };
+    let mut images = found;
+    match choose(node, disks, spare, shape, ours, its) {
         Err(fault) => Err(Refusal::StoreFault { fault }),
+        Ok(generation) => {
+            match renew_all(node, disks, generation, spare, &mut images, shape, ours) {
+                Ok(()) => Ok(generation),
+                Err(fault) => Err(Refusal::StoreFault { fault }),
+            }
+        }
     }
+}
+
+/// Whether a ground of so many disks and this generation owes a raise when it is opened: but for a ground of one disk whose
+/// generation is 1 it does.
+fn owes(disks: usize, generation: u64) -> bool
+    ensures { result ≡ (ltb 1 disks || ltb 1 generation) }
+{
+    disks > 1 || generation > 1
 }
 
 /// What holds of every tree whose disks have their stores, for proofs alone.
 fn sound_all<S: Store>(node: &Node<Disk<S>, Shut<S>>)
     requires { Every (λ b. b.there ≡ true) (beside_in node.now) }
-    ensures counts { Pairs Counted (beside_in node.now) (machine.seats (tree_of node.now)) }
-    ensures within { machine.top (machine.seats (tree_of node.now)) ≤ machine.limit }
+    ensures { Pairs Counted (beside_in node.now) (machine.seats (tree_of node.now)) }
 {
     match node {
         Node::Opened(_, held) => {
             held.disk.sound();
-            let _ = level(held);
         }
         Node::Shut(kept) => kept.shut.sound(),
         Node::Coherency(below) => sound_all(below),
@@ -172,7 +191,7 @@ pub(crate) fn open_over<S: Store>(
     requires shape { IsShape shape.now }
     requires plan { IsPermutation (disks_in (plan_of plan.now)) (numbers_below (length stores.items)) }
     requires suits { Every (λ s. Suits shape.now (S.size s) (S.number s)) stores.items }
-    ensures ready { IfOk result (λ room. IsReady (λ s. S.content s) (λ s. S.faults s) shape.now stores.items (plan_of plan.now) (beside_in room.node) (machine.seats (tree_of room.node)) room.places.items room.emptied.items (vec_capacity room.emptied)) }
+    ensures ready { IfOk result (λ room. IsReady (λ s. S.content s) (λ s. S.faults s) shape.now stores.items (plan_of plan.now) (beside_in room.node) (machine.seats (tree_of room.node)) room.owed room.generation room.places.items room.emptied.items (vec_capacity room.emptied)) }
     ensures refused { IfErr result (λ e. RefusedOver (λ s. S.content s) (λ s. S.faults s) shape.now stores.items (plan_of plan.now) e.why e.stores.items) }
 {
     let disks = number_of(&stores);
@@ -194,8 +213,10 @@ pub(crate) fn open_over<S: Store>(
         &mut room.ours,
         &mut room.its,
     ) {
-        Ok(()) => {
+        Ok(generation) => {
             sound_all(&room.node);
+            room.generation = generation;
+            room.owed = owes(disks, generation);
             Ok(room)
         }
         Err(why) => {

@@ -30,7 +30,7 @@ pub(crate) fn empty_tree<S: Store>(
                 disk: *disk,
                 shape: *shape,
                 bad: None,
-                fresh: None,
+                blank: false,
                 opened: 0,
             },
         })),

@@ -1,14 +1,34 @@
 //! One disk wins an opening.
 
-ghost use Rattle.std.specs.Prelude.{◌≡◌, ◌<◌, true, false};
+ghost use Rattle.std.specs.Prelude.{◌≡◌, ◌<◌, ◌≤◌, ◌^◌, max, true, false};
 ghost use Rattle.mirror_rules.specs.Tree as machine;
 ghost use Rattle.mirror_rules.specs.Claims.{Every};
 ghost use Rattle.mirror_rules.specs.Opening.{Wins};
 ghost use Rattle.mirror_layer.specs.View.{tree_of, beside_in, seat_of, cell_of};
 ghost use Rattle.mirror_layer.specs.Winning.{Waits, Below, WaitsUnder};
+ghost use Rattle.mirror_layer.specs.Winning as winning;
 
 use crate::asked::{Held, Side, level};
 use crate::node::{Mark, Node, Unopened};
+
+/// The greatest generation of the good disks; 0 if none is good.
+#[tactic(auto, using(crate::proofs::WinSteps::best_append, crate::proofs::AdmitSteps::good_append))]
+pub(crate) fn best<D: Side, H: Unopened>(node: &Node<D, H>) -> u64
+    ensures best { result ≡ winning.best (machine.seats (tree_of node.now)) }
+    ensures low { winning.is_good (machine.seats (tree_of node.now)) ≡ true → 1 ≤ result }
+    ensures high { result < 2 ^ 63 }
+{
+    match node {
+        Node::Opened(mark, disk) => match mark {
+            Mark::Live => level(disk),
+            Mark::Left => level(disk),
+            Mark::Down => 0,
+        },
+        Node::Shut(_) => 0,
+        Node::Coherency(below) => best(below),
+        Node::Mirror(left, right) => best(left).max(best(right)),
+    }
+}
 
 /// Makes a good disk of this generation live.
 fn win_leaf<D: Side>(mark: &mut Mark, disk: &Held<D>, best: u64) -> bool

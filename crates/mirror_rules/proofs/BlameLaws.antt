@@ -1,11 +1,11 @@
 -- Whose fault a refused opening names, and an opening without a refusal.
 use Rattle.std.proofs.Common.{◌≡◌, ℕ, ◌≤◌, inl, inr, Bool, true, false, List, Option, Some, refl, sym, ◌∙◌, arith}
 use Rattle.std.proofs.Math.Nat.{eq-or-lt_of_le}
-use Rattle.mirror_rules.specs.Tree.{Image, Cell, Store, Seat, In, Out, generation}
+use Rattle.mirror_rules.specs.Tree.{Image, Cell, Store, Blank, Down, Seat, In, Out}
 use Rattle.mirror_rules.specs.Claims.{Pairs, pairs_none, pairs_more}
-use Rattle.mirror_rules.specs.Steps.{Raise, Says, Done, Fault, faulted, written, raise_taken, Asked, asked_out, asked_stale, asked_took, asked_lost, asked_none, Looked, looked_out, looked_stale, looked_same, looked_refused, Named, named_here, named_later}
-use Rattle.mirror_rules.specs.Opening.{Meets, meets_good, meets_bad, meets_down, Wins, wins_here, wins_later, wins_out, settled, Copies, copy_same, copy_differs, copy_left, copy_gone, copy_even, copy_settled, copy_unflushed, copy_unraised, Enters, enter_end, enter_next, enter_joins, enter_gone, Readies, ready_higher, ready_raised, Formats, Unformatted, unformatted, Renews, renew_end, renew_next, renew_unraised, renew_refused, renew_joins, renew_gone, all_live, Good, Lost, LastDown, last_here, last_later, Opens, open_down, open_gone, open_unrenewed, open_again}
-use Rattle.mirror_rules.specs.Fates.{Fate, fate_old, fate_new, fate_fresh, fate_made, faults_of, disk_of, Excused, excused_live, excused_left, Blamed, blamed_here, blamed_later, Calmly, calmly, Behind, behind_pages, behind_lower, behind_level}
+use Rattle.mirror_rules.specs.Steps.{Says, Done, Fault, faulted, written, Looked, looked_out, looked_stale, looked_same, looked_refused, Named, named_here, named_later}
+use Rattle.mirror_rules.specs.Opening.{Meets, meets_good, meets_blank, meets_bad, meets_down, Wins, wins_here, wins_later, wins_out, Only, only_here, only_later, settled, Copies, copy_same, copy_differs, copy_left, copy_gone, copy_even, copy_settled, copy_unflushed, copy_unraised, Enters, enter_end, enter_next, enter_joins, enter_gone, Fills, fill_end, fill_next, fill_gone, Makes, Unmade, unmade_blank, unmade_whole, Begun, begun, Renews, renew_next, renew_made, renew_left, renew_gone, all_but_bad, Good, Lost, LastDown, last_here, last_later, Opens, open_down, open_gone, open_unrenewed, open_again}
+use Rattle.mirror_rules.specs.Fates.{Fate, fate_old, fate_new, fate_made, faults_of, disk_of, Excused, excused_live, excused_left, excused_bad, Blamed, blamed_here, blamed_later, Calmly, calmly, Behind, behind_pages, behind_lower, behind_level}
 use Rattle.mirror_rules.proofs.PageLaws.{pairs-then}
 use Rattle.mirror_rules.proofs.RoundLaws.{pairs-map, refuses-fault}
 use Rattle.mirror_rules.proofs.OpenLaws.{only-pairs}
@@ -22,26 +22,19 @@ look-counts (counts e l) looked_stale = counts e l
 look-counts (counts e l) (looked_same q) = counts e l
 look-counts (counts e l) (looked_refused b) = counts e (omega arith)
 
-asked-counts : {g : ℕ} {a : Says} {s : Store} {x y : Seat} → Counts s x → Asked (Raise g) a x y → Counts s y
-asked-counts (counts e l) asked_out = counts e l
-asked-counts (counts e l) asked_stale = counts e l
-asked-counts (counts e l) (asked_took raise_taken) = counts e l
-asked-counts (counts e l) (asked_lost h) = let r = refuses-fault h in counts (sym r.0 ∙ e) (omega (arith, r.1))
-asked-counts (counts e l) (asked_none h) = let r = refuses-fault h in counts (sym r.0 ∙ e) (omega (arith, r.1))
-
 look-all : {a : Says} {ss : List Store} {xs ys : List Seat} → Pairs Counts ss xs → Pairs (Looked a) xs ys → Pairs Counts ss ys
 look-all h m = pairs-then (λ s x y. look-counts) h m
 
 more : {s : Store} {x : Seat} (y : Seat) → disk_of y ≡ disk_of x → faults_of x ≤ faults_of y → Counts s x → Counts s y
 more y e l (counts q k) = counts (e ∙ q) (omega arith)
 
-copies-count : {told : Bool} {i n p : ℕ} {e : Bool} {s : Says} {ss : List Store} {xs ys : List Seat} {wrote : Bool} → Copies told i e n p xs s wrote ys → Pairs Counts ss xs → Pairs Counts ss ys
+copies-count : {told : Bool} {g i n p : ℕ} {e : Bool} {s : Says} {ss : List Store} {xs ys : List Seat} {wrote : Bool} → Copies told g i e n p xs s wrote ys → Pairs Counts ss xs → Pairs Counts ss ys
 copies-count (copy_same h k q r) f = copies-count r (look-all f h.each)
 copies-count (copy_differs {p = p} {z = x} {c = c} h ne q k r) f = copies-count r (only-pairs k (λ s. more (In false (written p x c)) refl (omega arith)) (look-all f h.each))
 copies-count (copy_left {m = m} {c = c} h l k) f = only-pairs k (λ s. more (In false (faulted m c)) refl (omega arith)) (look-all f h.each)
 copies-count (copy_gone h) f = look-all f h.each
 copies-count (copy_even {c = c} k) f = only-pairs k (λ s. more (In true c) refl (omega arith)) f
-copies-count (copy_settled {c = c} {xs = xs} k) f = only-pairs k (λ s. more (In true (settled (generation xs) c)) refl (omega arith)) f
+copies-count {g = g} (copy_settled {c = c} k) f = only-pairs k (λ s. more (In true (settled g c)) refl (omega arith)) f
 copies-count (copy_unflushed {d = d} h k) f = let r = refuses-fault h in only-pairs k (λ s. more (In false d) (sym r.0) (omega (arith, r.1))) f
 copies-count (copy_unraised {d = d} h q k) f = let r = refuses-fault h in only-pairs k (λ s. more (In false d) (sym r.0) (omega (arith, r.1))) f
 
@@ -54,7 +47,7 @@ abbrev pub Blames : Says → List Store → List Seat → Type 0
 Blames (Done w) ss ys = Unit {0}
 Blames (Fault d k) ss ys = Blamed d k ss ys
 
-copies-blame : {told : Bool} {i n p : ℕ} {e : Bool} {s : Says} {ss : List Store} {xs ys : List Seat} {wrote : Bool} → Copies told i e n p xs s wrote ys → Pairs Counts ss xs → Blames s ss ys
+copies-blame : {told : Bool} {g i n p : ℕ} {e : Bool} {s : Says} {ss : List Store} {xs ys : List Seat} {wrote : Bool} → Copies told g i e n p xs s wrote ys → Pairs Counts ss xs → Blames s ss ys
 copies-blame (copy_same h k q r) f = copies-blame r (look-all f h.each)
 copies-blame (copy_differs {p = p} {z = x} {c = c} h ne q k r) f = copies-blame r (only-pairs k (λ s. more (In false (written p x c)) refl (omega arith)) (look-all f h.each))
 copies-blame (copy_left h l k) f = tt
@@ -64,44 +57,53 @@ copies-blame (copy_settled k) f = tt
 copies-blame (copy_unflushed h k) f = tt
 copies-blame (copy_unraised h q k) f = tt
 
-enters-count : {told : Bool} {n i m : ℕ} {s : Says} {ss : List Store} {xs ys : List Seat} {wrote : Bool} → Enters told n i m xs s wrote ys → Pairs Counts ss xs → Pairs Counts ss ys
+enters-count : {told : Bool} {g n i m : ℕ} {s : Says} {ss : List Store} {xs ys : List Seat} {wrote : Bool} → Enters told g n i m xs s wrote ys → Pairs Counts ss xs → Pairs Counts ss ys
 enters-count enter_end f = f
 enters-count (enter_next h p r) f = enters-count r f
 enters-count (enter_joins h q k r) f = enters-count r (copies-count k f)
 enters-count (enter_gone h q k) f = copies-count k f
 
-enters-blame : {told : Bool} {n i m : ℕ} {s : Says} {ss : List Store} {xs ys : List Seat} {wrote : Bool} → Enters told n i m xs s wrote ys → Pairs Counts ss xs → Blames s ss ys
+enters-blame : {told : Bool} {g n i m : ℕ} {s : Says} {ss : List Store} {xs ys : List Seat} {wrote : Bool} → Enters told g n i m xs s wrote ys → Pairs Counts ss xs → Blames s ss ys
 enters-blame enter_end f = tt
 enters-blame (enter_next h p r) f = enters-blame r f
 enters-blame (enter_joins h q k r) f = enters-blame r (copies-count k f)
 enters-blame (enter_gone h q k) f = copies-blame k f
 
-ready-count : {s : Says} {ss : List Store} {xs ys : List Seat} → Readies xs s ys → Pairs Counts ss xs → Pairs Counts ss ys
-ready-count (ready_higher l) f = f
-ready-count (ready_raised q r) f = pairs-then (λ s x y. asked-counts) f r.each
+fills-count : {n p : ℕ} {s : Says} {G : List (List ℕ)} {ss : List Store} {xs ys : List Seat} → Fills n p xs s G ys → Pairs Counts ss xs → Pairs Counts ss ys
+fills-count fill_end f = f
+fills-count (fill_next h r) f = fills-count r (look-all f h.each)
+fills-count (fill_gone h) f = look-all f h.each
 
-ready-blame : {s : Says} {ss : List Store} {xs ys : List Seat} → Readies xs s ys → Pairs Counts ss xs → Blames s ss ys
-ready-blame (ready_higher l) f = tt
-ready-blame (ready_raised {s = Done v} q r) f = tt
-ready-blame (ready_raised {s = Fault d k} q r) f = named-blamed f r.answer
+fills-blame : {n p d k : ℕ} {G : List (List ℕ)} {ss : List Store} {xs ys : List Seat} → Fills n p xs (Fault d k) G ys → Pairs Counts ss xs → Blamed d k ss ys
+fills-blame (fill_next h r) f = fills-blame r (look-all f h.each)
+fills-blame (fill_gone h) f = named-blamed f h.found
 
-format-count : {told : Bool} {size n : ℕ} {b s : Store} {c : Cell} → Formats told size n b c → Counts s (Out true b) → Counts s (In false c)
-format-count f (counts e l) = counts (f.disk ∙ e) (omega (arith, f.faults))
+make-count : {told : Bool} {g : ℕ} {G : List (List ℕ)} {b s : Store} {c : Cell} → Makes told g G b c → Counts s (Out Blank b) → Counts s (In true c)
+make-count f (counts e l) = counts (f.disk ∙ e) (omega (arith, f.faults))
 
-unformat-count : {size n : ℕ} {b t s : Store} → Unformatted size n b t → Counts s (Out true b) → Counts s (Out false t)
-unformat-count (unformatted d e f) (counts q l) = counts (d ∙ q) (omega (arith, e))
+unmade-count : {told : Bool} {n g : ℕ} {G : List (List ℕ)} {b t s : Store} → Unmade told n g G b t → Counts s (Out Blank b) → Counts s (Out Down t)
+unmade-count (unmade_blank d e i z) (counts q l) = counts (d ∙ q) (omega (arith, e))
+unmade-count (unmade_whole d e i z) (counts q l) = counts (d ∙ q) (omega (arith, e))
 
-renews-blame : {told : Bool} {size n i m : ℕ} {s : Says} {ss : List Store} {xs ys : List Seat} → Renews told size n i m xs s ys → Pairs Counts ss xs → Blames s ss ys
-renews-blame renew_end f = tt
+begun-count : {b t s : Store} → Begun b t → Counts s (Out Blank b) → Counts s (Out Blank t)
+begun-count (begun d e i z) (counts q l) = counts (d ∙ q) (omega (arith, e))
+
+begun-blame : {b t : Store} {d k n : ℕ} {ss : List Store} {xs ys : List Seat} → Begun b t → Only (Out Blank b) (Out Blank t) n xs ys → Blamed d k ss xs → Blamed d k ss ys
+begun-blame (begun d e i z) only_here (blamed_here q l m) = blamed_here q l (omega (arith, e))
+begun-blame b only_here (blamed_later h) = blamed_later h
+begun-blame b (only_later k) (blamed_here q l m) = blamed_here q l m
+begun-blame b (only_later k) (blamed_later h) = blamed_later (begun-blame b k h)
+
+renews-blame : {told : Bool} {g n i m d k : ℕ} {ss : List Store} {xs ys : List Seat} → Renews told g n i m xs (Fault d k) ys → Pairs Counts ss xs → Blamed d k ss ys
 renews-blame (renew_next h p r) f = renews-blame r f
-renews-blame (renew_unraised h q) f = ready-blame q f
-renews-blame (renew_refused q u k r) f = renews-blame r (only-pairs k (λ s. unformat-count u) (ready-count q f))
-renews-blame (renew_joins q z k c r) f = renews-blame r (copies-count c (only-pairs k (λ s. format-count z) (ready-count q f)))
-renews-blame (renew_gone q z k c) f = copies-blame c (only-pairs k (λ s. format-count z) (ready-count q f))
+renews-blame (renew_made h c k r) f = renews-blame r (only-pairs k (λ s. make-count c) (fills-count h f))
+renews-blame (renew_left q h u k r) f = renews-blame r (only-pairs k (λ s. unmade-count u) (fills-count h f))
+renews-blame (renew_gone h b k) f = begun-blame b k (fills-blame h f)
 
 met-count : {s : Store} {x : Seat} → Meets s x → Counts s x
 met-count (meets_good e) = counts refl (omega arith)
-met-count (meets_bad e) = counts refl (omega arith)
+met-count (meets_blank e b) = counts refl (omega arith)
+met-count (meets_bad e b) = counts refl (omega arith)
 met-count (meets_down a b f) = counts a (omega (arith, f))
 
 wins-count : {w : Image} {ss : List Store} {xs ys : List Seat} → Wins w xs ys → Pairs Counts ss xs → Pairs Counts ss ys
@@ -115,27 +117,24 @@ down-blame (pairs_more (meets_down a b f) m) (last_here p q h) = blamed_here (sy
 down-blame (pairs_more h m) (last_later k) = blamed_later (down-blame m k)
 
 -- a StoreFault of an opening names a disk whose count rose in it
-pub opens-blame : {told : Bool} {size n : ℕ} {d k : ℕ} {ss : List Store} {xs us : List Seat} → Opens told size n xs (Lost d k) us → Pairs Meets ss xs → Blamed d k ss us
+pub opens-blame : {told : Bool} {n d k : ℕ} {ss : List Store} {xs us : List Seat} → Opens told n xs (Lost d k) us → Pairs Meets ss xs → Blamed d k ss us
 opens-blame (open_down h l) m = down-blame m l
 opens-blame (open_gone w e y) m = enters-blame e (wins-count w (pairs-map (λ s x. met-count) m))
 opens-blame (open_unrenewed w e r) m = renews-blame r (enters-count e (wins-count w (pairs-map (λ s x. met-count) m)))
 opens-blame (open_again w e y r) m = opens-blame r (way-meets m y.way)
 
--- an opening in which no store refused a call leaves no disk out, and nothing is owed
-calm-all : {ss : List Store} {us : List Seat} → Pairs Excused ss us → Pairs Calmly ss us → all_live us ≡ true
+-- an opening in which no store refused a call leaves no disk out but those that were found bad
+calm-all : {ss : List Store} {us : List Seat} → Pairs Excused ss us → Pairs Calmly ss us → all_but_bad us ≡ true
 calm-all pairs_none pairs_none = refl
 calm-all (pairs_more excused_live m) (pairs_more c k) = calm-all m k
+calm-all (pairs_more (excused_bad e b) m) (pairs_more c k) = calm-all m k
 calm-all (pairs_more (excused_left l) m) (pairs_more (calmly e) k) = absurd (omega (arith, e))
 
-pub opens-whole : {told : Bool} {size n : ℕ} {owed : Bool} {ss : List Store} {xs us : List Seat} → Opens told size n xs (Good owed) us → Pairs Meets ss xs → Pairs Calmly ss us → all_live us ≡ true
+pub opens-whole : {told : Bool} {n g : ℕ} {owed : Bool} {ss : List Store} {xs us : List Seat} → Opens told n xs (Good owed g) us → Pairs Meets ss xs → Pairs Calmly ss us → all_but_bad us ≡ true
 opens-whole h m c = calm-all (opens-excused h m) c
 
--- an opening, also a refused one: a disk that was lower, or is new, stays below the ground until all pages stand on it, and none is above it
-pub fate-behind : {F : List (List ℕ)} {w g : ℕ} {o : Option Image} {c : Image} → w ≤ g → Fate F w g o c → Behind F g o c
-fate-behind {F} {w} {g} l (fate_old {i = i} {c = c} a b m) = elim (eq-or-lt_of_le b) as (λ _. Behind F g (Some i) c) [
-  | inl e ↦ elim (eq-or-lt_of_le l) as (λ _. Behind F g (Some i) c) [ inl q ↦ behind_level a (e ∙ q) | inr q ↦ behind_lower (omega (arith, a, e)) ]
-  | inr k ↦ behind_lower (omega arith)
-]
-fate-behind l (fate_new a b m) = behind_pages a m
-fate-behind l (fate_fresh a b m) = behind_lower (omega arith)
-fate-behind l (fate_made a b) = behind_pages a b
+-- an opening, also a refused one: a disk that was lower stays below the ground until all pages stand on it, and none is above it
+pub fate-behind : {F : List (List ℕ)} {g : ℕ} {o : Option Image} {c : Image} → Fate F g o c → Behind F g o c
+fate-behind {F} {g} (fate_old {i = i} {c = c} a b m) = elim (eq-or-lt_of_le b) as (λ _. Behind F g (Some i) c) [ inl e ↦ behind_level a e | inr k ↦ behind_lower (omega arith) ]
+fate-behind (fate_new a b m) = behind_pages a m
+fate-behind (fate_made a b) = behind_pages a (omega (arith, b))

@@ -1,198 +1,295 @@
--- Generations: where nothing is owed, the live disks are at the top, and each opened other is below.
-use Rattle.std.proofs.Common.{◌≡◌, ℕ, ◌+◌, ◌≤◌, max, min, Bool, true, false, List, refl, sym, ◌∙◌, ap, subst, arith}
-use Rattle.mirror_rules.specs.Tree.{Cell, Seat, next, top, limit}
-use Rattle.mirror_rules.specs.Claims.{Pairs, pairs_none, pairs_more, Every, every_none, every_more, Has, has_here, has_later, IsLive, live_in, HasLevel, level_live, level_left, level_out, Even, Calm, calm_out, calm_left, calm_live}
-use Rattle.mirror_rules.specs.Steps.{Act, Write, Raise, Flush, Says, Done, Fault, is_done, Takes, write_taken, raise_taken, flush_taken, Refuses, refused, raise_unkept, raise_kept, flush_kept, Asked, asked_out, asked_stale, asked_took, asked_lost, asked_none, Looked, looked_out, looked_stale, looked_same, looked_refused, Round, Raised, raised_whole, raised_again, raised_none, Pays, pays_none, pays_raise, Flushes, flush_whole, flush_lost, flush_none, flush_unraised, Puts, put_whole, put_lost, put_refused}
-use Rattle.mirror_rules.proofs.RoundLaws.{pairs-map}
+-- Generations: the live disks have the ground's, or the next one, and no opened disk has more; once what was owed is paid, each
+-- other is below.
+use Rattle.std.proofs.Common.{◌≡◌, ℕ, ◌+◌, ◌≤◌, ◌⊎◌, inl, inr, min, Bool, true, false, List, Option, Some, None, refl, sym, ◌∙◌, ap, subst, arith}
+use Rattle.mirror_rules.specs.Tree.{Image, Cell, Seat, In, next, limit}
+use Rattle.mirror_rules.specs.Claims.{Pairs, Every, every_none, every_more, Has, IsLive}
+use Rattle.mirror_rules.specs.Steps.{Write, Raise, Flush, Says, Done, Fault, is_done, is_fault, write_taken, raise_taken, flush_taken, Refuses, refused, raise_unkept, raise_kept, flush_kept, faulted, headed, kept_now, written, Asked, asked_out, asked_stale, asked_took, asked_lost, asked_none, Looked, looked_out, looked_stale, looked_same, looked_refused, Round, Raised, raised_whole, raised_again, raised_none, Pays, pays_twice, pays_unraised, Flushes, flush_owed, flush_even, flush_lost, flush_none, Puts, put_whole, put_lost, put_refused, cut_before, cut_taken, cut_refused, Halted, halted_out, halted_stale, halted_live, RaiseStops, stops_here, stops_later, FlushStops, stops_owed, stops_even, stops_lost}
+use Rattle.mirror_rules.specs.Guards.{Medium, Shows, shows_now, shows_kept}
+use Rattle.mirror_rules.specs.Levels.{Near, near_in, near_out, Level, level_in, level_out, HasLevel, has_live, has_left, has_out, Even}
+use Rattle.mirror_rules.proofs.RoundLaws.{raised-live}
 use Rattle.mirror_rules.proofs.PageLaws.{pairs-every}
 
-calm-top : {xs ys : List Seat} → Pairs Calm xs ys → top ys ≡ top xs
-calm-top pairs_none = refl
-calm-top (pairs_more calm_out i) = calm-top i
-calm-top (pairs_more (calm_left {c}) i) = ap (λ v. max c.now.generation v) (calm-top i)
-calm-top (pairs_more (calm_live e) i) = omega (arith, e, calm-top i)
+-- what a disk shows
+pub shows-any : {v : Medium} {a b : Bool} {c : Cell} {i : Image} → Shows v (In a c) i → Shows v (In b c) i
+shows-any shows_now = shows_now
+shows-any (shows_kept e k) = shows_kept e k
 
-calm-level : {g : ℕ} {xs ys : List Seat} → Pairs Calm xs ys → Every (HasLevel g) xs → Every (HasLevel g) ys
-calm-level h i = pairs-every (λ x y. one) h i where
-  one : {g : ℕ} {x y : Seat} → Calm x y → HasLevel g x → HasLevel g y
-  one calm_out l = level_out
-  one calm_left l = l
-  one (calm_live e) (level_live f) = level_live (e ∙ f)
+pub some-same : (c d : Image) → ◌≡◌ {A = Option Image} (Some c) (Some d) → c ≡ d
+some-same c d e = cc
 
-pub calm-even : {o : Bool} {xs ys : List Seat} → Pairs Calm xs ys → Even o xs → Even o ys
-calm-even {xs = xs} {ys = ys} h e q = subst (λ g. Every (HasLevel g) ys) (sym (calm-top h)) (calm-level h (e q))
+pub some-none : (c : Image) → ◌≡◌ {A = Option Image} (Some c) None → ⊥
+some-none c e = cc
 
--- a round that made no side stale, of writes or flushes
-whole-calm : {x y : Seat} (a : Act) → ((c d : Cell) → Takes a c d → d.now.generation ≡ c.now.generation) → Asked a (Done true) x y → Calm x y
-whole-calm a f asked_out = calm_out
-whole-calm a f asked_stale = calm_left
-whole-calm a f (asked_took {c = c} {d = d} h) = calm_live (f c d h)
+pub flushed-shows : {v : Medium} {b : Bool} {c : Cell} (i : Image) → Shows v (In b (kept_now c)) i → Shows v (In b c) i
+flushed-shows i shows_now = shows_now
+flushed-shows {v} {b} {c} i (shows_kept e k) = subst (λ j. Shows v (In b c) j) (some-same c.now i k) shows_now
 
-none-calm : {x y : Seat} {d n : ℕ} (a : Act) → ((c d : Cell) → Refuses a c d → d.now.generation ≡ c.now.generation) → Asked a (Fault d n) x y → Calm x y
-none-calm a f asked_out = calm_out
-none-calm a f asked_stale = calm_left
-none-calm a f (asked_none {c = c} {d = d} h) = calm_live (f c d h)
+pub raised-shows : {v : Medium} {b : Bool} {k : ℕ} (c : Cell) (i : Image) → Shows v (In b (kept_now (headed k c))) i → i.generation ≡ k
+raised-shows c i shows_now = refl
+raised-shows {k = k} c i (shows_kept e q) = sym (ap (λ (j : Image). j.generation) (some-same (headed k c).now i q))
 
-flush-level : (c d : Cell) → Takes Flush c d → d.now.generation ≡ c.now.generation
-flush-level c d flush_taken = refl
+pub faulted-shows : {v : Medium} {b : Bool} {c : Cell} (n : ℕ) (i : Image) → Shows v (In b (faulted n c)) i → Shows v (In b c) i
+faulted-shows n i shows_now = shows_now
+faulted-shows n i (shows_kept e k) = shows_kept e k
 
-flush-unlevel : (c d : Cell) → Refuses Flush c d → d.now.generation ≡ c.now.generation
-flush-unlevel c d (refused l) = refl
-flush-unlevel c d (flush_kept l) = refl
+pub unraised-shows : {v : Medium} {b : Bool} {k : ℕ} {c d : Cell} → Refuses (Raise k) c d → (i : Image) → Shows v (In b d) i → Shows v (In b c) i ⊎ (i.generation ≡ k)
+unraised-shows (refused l) i shows_now = inl shows_now
+unraised-shows (refused l) i (shows_kept e q) = inl (shows_kept e q)
+unraised-shows (raise_unkept l) i shows_now = inr refl
+unraised-shows (raise_unkept l) i (shows_kept e q) = inl (shows_kept e q)
+unraised-shows {v} {b} {k} {c} (raise_kept {n = n} l) i z = inr (raised-shows {v = v} {b = b} c i (faulted-shows n i z))
 
-write-level : (p : ℕ) (x : List ℕ) (c d : Cell) → Takes (Write p x) c d → d.now.generation ≡ c.now.generation
-write-level p x c d write_taken = refl
+pub unflushed-shows : {v : Medium} {b : Bool} {c d : Cell} → Refuses Flush c d → (i : Image) → Shows v (In b d) i → Shows v (In b c) i
+unflushed-shows (refused {n = n} l) i z = faulted-shows n i z
+unflushed-shows (flush_kept {n = n} l) i z = flushed-shows i (faulted-shows n i z)
 
-write-unlevel : (p : ℕ) (x : List ℕ) (c d : Cell) → Refuses (Write p x) c d → d.now.generation ≡ c.now.generation
-write-unlevel p x c d (refused l) = refl
+-- a round of raises
+done-level : {v : Medium} {g : ℕ} {w : Bool} {x y : Seat} → Near v g x → Asked (Raise (next g)) (Done w) x y → Level v (next g) y
+done-level near_out asked_out = level_out
+done-level (near_in most least) asked_stale = level_in most (λ e. cc)
+done-level (near_in most least) (asked_took (raise_taken {c = c})) = level_in (λ i z. omega (arith, raised-shows c i z)) (λ e i z. omega (arith, raised-shows c i z))
+done-level (near_in most least) (asked_lost h) = level_in {b = false} (λ i z. elim (unraised-shows h i z) [ inl q ↦ most i (shows-any q) | inr q ↦ omega (arith, q) ]) (λ e. cc)
 
-pub flush-calm : {xs ys : List Seat} → Round Flush xs (Done true) ys → Pairs Calm xs ys
-flush-calm h = pairs-map (λ x y. whole-calm Flush flush-level) h.each
+none-near : {v : Medium} {g d n : ℕ} {x y : Seat} → g ≤ limit → Near v g x → Asked (Raise (next g)) (Fault d n) x y → Near v g y
+none-near l near_out asked_out = near_out
+none-near l (near_in most least) asked_stale = near_in most (λ e. cc)
+none-near l (near_in most least) (asked_none h) = near_in (λ i z. elim (unraised-shows h i z) [ inl q ↦ most i q | inr q ↦ omega (arith, q) ]) (λ e i z. elim (unraised-shows h i z) [ inl q ↦ least refl i q | inr q ↦ omega (arith, q) ])
 
-pub flush-uncalm : {d n : ℕ} {xs ys : List Seat} → Round Flush xs (Fault d n) ys → Pairs Calm xs ys
-flush-uncalm h = pairs-map (λ x y. none-calm Flush flush-unlevel) h.each
+pub level-near : {v : Medium} {g : ℕ} {x : Seat} → g ≤ limit → Level v g x → Near v g x
+level-near l level_out = near_out
+level-near l (level_in most least) = near_in (λ i z. let k = most i z in omega arith) least
 
-pub look-calm : {s : Says} {xs ys : List Seat} → Pairs (Looked s) xs ys → Pairs Calm xs ys
-look-calm h = pairs-map (λ x y. one) h where
-  one : {s : Says} {x y : Seat} → Looked s x y → Calm x y
-  one looked_out = calm_out
-  one looked_stale = calm_left
-  one (looked_same e) = calm_live refl
-  one (looked_refused l) = calm_live refl
+pub every-map : {A : Type 0} {P Q : A → Type 0} {xs : List A} → ((x : A) → P x → Q x) → Every P xs → Every Q xs
+every-map f every_none = every_none
+every-map f (every_more {x = x} p i) = every_more (f x p) (every-map f i)
 
--- a round of raises to a number that no opened disk passes
-pub raise-top : {g : ℕ} {s : Says} {xs ys : List Seat} → Pairs (Asked (Raise g) s) xs ys → top xs ≤ g → top ys ≤ g
-raise-top pairs_none l = omega arith
-raise-top (pairs_more asked_out i) l = raise-top i l
-raise-top (pairs_more asked_stale i) l = let k = raise-top i (omega arith) in omega arith
-raise-top (pairs_more (asked_took raise_taken) i) l = let k = raise-top i (omega arith) in omega arith
-raise-top (pairs_more (asked_lost (refused b)) i) l = let k = raise-top i (omega arith) in omega arith
-raise-top (pairs_more (asked_lost (raise_unkept b)) i) l = let k = raise-top i (omega arith) in omega arith
-raise-top (pairs_more (asked_lost (raise_kept b)) i) l = let k = raise-top i (omega arith) in omega arith
-raise-top (pairs_more (asked_none (refused b)) i) l = let k = raise-top i (omega arith) in omega arith
-raise-top (pairs_more (asked_none (raise_unkept b)) i) l = let k = raise-top i (omega arith) in omega arith
-raise-top (pairs_more (asked_none (raise_kept b)) i) l = let k = raise-top i (omega arith) in omega arith
+pub levels-near : {v : Medium} {g : ℕ} {xs : List Seat} → g ≤ limit → Every (Level v g) xs → Every (Near v g) xs
+levels-near l h = every-map (λ x. level-near l) h
 
-pub raise-reaches : {g : ℕ} {w : Bool} {xs ys : List Seat} → Pairs (Asked (Raise g) (Done w)) xs ys → Has IsLive ys → g ≤ top ys
-raise-reaches pairs_none k = elim k [ ]
-raise-reaches (pairs_more asked_out i) (has_here k) = elim k [ ]
-raise-reaches (pairs_more asked_out i) (has_later k) = raise-reaches i k
-raise-reaches (pairs_more asked_stale i) (has_here k) = elim k [ ]
-raise-reaches (pairs_more asked_stale i) (has_later k) = let a = raise-reaches i k in omega arith
-raise-reaches (pairs_more (asked_took raise_taken) i) k = omega arith
-raise-reaches (pairs_more (asked_lost h) i) (has_here k) = elim k [ ]
-raise-reaches (pairs_more (asked_lost h) i) (has_later k) = let a = raise-reaches i k in omega arith
+round-level : {v : Medium} {g : ℕ} {w : Bool} {xs ys : List Seat} → Round (Raise (next g)) xs (Done w) ys → Every (Near v g) xs → Every (Level v (next g)) ys
+round-level h i = pairs-every (λ x y k n. done-level n k) h.each i
 
-raise-levels : {g : ℕ} {xs ys : List Seat} (k : ℕ) → Pairs (Asked (Raise g) (Done true)) xs ys → top xs ≤ k → min (k + 1) limit ≤ g → Every (HasLevel g) ys
-raise-levels k pairs_none l m = every_none
-raise-levels k (pairs_more asked_out i) l m = every_more level_out (raise-levels k i l m)
-raise-levels k (pairs_more asked_stale i) l m = every_more (level_left (omega arith)) (raise-levels k i (omega arith) m)
-raise-levels k (pairs_more (asked_took raise_taken) i) l m = every_more (level_live refl) (raise-levels k i (omega arith) m)
+-- a round that was taken leaves the disks near to the next generation
+pub taken-near : {v : Medium} {g : ℕ} {w : Bool} {xs ys : List Seat} → Round (Raise (next g)) xs (Done w) ys → g ≤ limit → Every (Near v g) xs → Every (Near v (next g)) ys
+taken-near h l n = levels-near (omega arith) (round-level h n)
 
-whole-levels : {xs ys : List Seat} → Round (Raise (next xs)) xs (Done true) ys → top xs ≤ limit → Every (HasLevel (top ys)) ys
-whole-levels {xs} {ys} h l =
-    let a : top ys ≤ next xs = raise-top h.each (omega arith) in
-    let b : next xs ≤ top ys = raise-reaches h.each h.answer.0 in
-    let e : next xs ≡ top ys = omega arith in
-    subst (λ g. Every (HasLevel g) ys) e (raise-levels (top xs) h.each (omega arith) (omega arith))
+round-none : {v : Medium} {g d n : ℕ} {xs ys : List Seat} → Round (Raise (next g)) xs (Fault d n) ys → g ≤ limit → Every (Near v g) xs → Every (Near v g) ys
+round-none h l i = pairs-every (λ x y k n. none-near l n k) h.each i
 
-pub raised-bounded : {s : Says} {xs ys : List Seat} → Raised xs s ys → top xs ≤ limit → top ys ≤ limit
-raised-bounded (raised_whole h) l = let a = raise-top h.each (omega arith) in omega arith
-raised-bounded (raised_again h i) l = let a = raise-top h.each (omega arith) in raised-bounded i (omega arith)
-raised-bounded (raised_none h) l = let a = raise-top h.each (omega arith) in omega arith
+-- a second round that made no side stale
+whole-level : {v : Medium} {g : ℕ} {x y : Seat} → Level v g x → Asked (Raise (next g)) (Done true) x y → HasLevel v (next g) y
+whole-level level_out asked_out = has_out
+whole-level (level_in most least) asked_stale = has_left (λ i z. let k = most i z in omega arith)
+whole-level (level_in most least) (asked_took (raise_taken {c = c})) = has_live (λ i z. raised-shows c i z)
 
-pub raised-levels : {s : Says} {xs ys : List Seat} → Raised xs s ys → is_done s ≡ true → top xs ≤ limit → Every (HasLevel (top ys)) ys
-raised-levels (raised_whole h) e l = whole-levels h l
-raised-levels (raised_again h i) e l = let a = raise-top h.each (omega arith) in raised-levels i e (omega arith)
-raised-levels (raised_none h) e l = cc
+-- raises
+pub raised-bound : {g h : ℕ} {s : Says} {xs ys : List Seat} → Raised g xs s h ys → g ≤ limit → (g ≤ h) × (h ≤ limit)
+raised-bound (raised_whole h) l = (omega arith, omega arith)
+raised-bound (raised_again h i) l = let a = raised-bound i (omega arith) in (omega (arith, a.0), a.1)
+raised-bound (raised_none h) l = (omega arith, l)
 
--- a flush
-pub round-bounded : {s : Says} {xs ys : List Seat} → Pairs (Asked Flush s) xs ys → top ys ≡ top xs
-round-bounded pairs_none = refl
-round-bounded (pairs_more asked_out i) = round-bounded i
-round-bounded (pairs_more asked_stale i) = let a = round-bounded i in omega arith
-round-bounded (pairs_more (asked_took flush_taken) i) = let a = round-bounded i in omega arith
-round-bounded (pairs_more (asked_lost (refused b)) i) = let a = round-bounded i in omega arith
-round-bounded (pairs_more (asked_lost (flush_kept b)) i) = let a = round-bounded i in omega arith
-round-bounded (pairs_more (asked_none (refused b)) i) = let a = round-bounded i in omega arith
-round-bounded (pairs_more (asked_none (flush_kept b)) i) = let a = round-bounded i in omega arith
+pub raised-up : {g h : ℕ} {s : Says} {xs ys : List Seat} → Raised g xs s h ys → is_done s ≡ true → g ≤ limit → next g ≤ h
+raised-up (raised_whole h) e l = omega arith
+raised-up (raised_again h i) e l = (raised-bound i (omega arith)).0
+raised-up (raised_none h) e l = cc
 
-pub pays-bounded : {o : Bool} {s : Says} {xs ys : List Seat} → Pays o xs s ys → top xs ≤ limit → top ys ≤ limit
-pays-bounded pays_none l = l
-pays-bounded (pays_raise h) l = raised-bounded h l
+pub raised-level : {v : Medium} {g h : ℕ} {s : Says} {xs ys : List Seat} → Raised g xs s h ys → is_done s ≡ true → g ≤ limit → Every (Near v g) xs → Every (Level v h) ys
+raised-level (raised_whole h) e l n = round-level h n
+raised-level (raised_again h i) e l n = raised-level i e (omega arith) (levels-near (omega arith) (round-level h n))
+raised-level (raised_none h) e l n = cc
 
--- once what is owed was paid, the disks are level
-pays-levels : {o : Bool} {s : Says} {xs ys : List Seat} → Pays o xs s ys → is_done s ≡ true → top xs ≤ limit → Even o xs → Every (HasLevel (top ys)) ys
-pays-levels pays_none e l v = v refl
-pays-levels (pays_raise h) e l v = raised-levels h e l
+pub raised-near : {v : Medium} {g h : ℕ} {s : Says} {xs ys : List Seat} → Raised g xs s h ys → g ≤ limit → Every (Near v g) xs → Every (Near v h) ys
+raised-near (raised_whole h) l n = levels-near (omega arith) (round-level h n)
+raised-near (raised_again h i) l n = raised-near i (omega arith) (levels-near (omega arith) (round-level h n))
+raised-near (raised_none h) l n = round-none h l n
 
-pub flush-bounded : {o q : Bool} {s : Says} {xs ys : List Seat} → Flushes o xs s q ys → top xs ≤ limit → top ys ≤ limit
-flush-bounded (flush_whole h i) l = omega (arith, pays-bounded h l, round-bounded i.each)
-flush-bounded (flush_lost h i k) l = flush-bounded k (omega (arith, pays-bounded h l, round-bounded i.each))
-flush-bounded (flush_none h i) l = omega (arith, pays-bounded h l, round-bounded i.each)
-flush-bounded (flush_unraised h) l = pays-bounded h l
+raised-has : {v : Medium} {g h : ℕ} {s : Says} {xs ys : List Seat} → Raised g xs s h ys → is_done s ≡ true → g ≤ limit → Every (Level v g) xs → Every (HasLevel v h) ys
+raised-has (raised_whole h) e l n = pairs-every (λ x y k m. whole-level m k) h.each n
+raised-has (raised_again h i) e l n = raised-has i e (omega arith) (round-level h (levels-near l n))
+raised-has (raised_none h) e l n = cc
 
-none-even : (o : Bool) {d n : ℕ} {xs ys zs : List Seat} → Pays o xs (Done true) ys → Round Flush ys (Fault d n) zs → top xs ≤ limit → Even o xs → Even o zs
-none-even true h i l v q = cc
-none-even false h i l v q = calm-even {o = false} (flush-uncalm i) (λ e. pays-levels h refl l v) refl
+-- what is paid
+pub pays-bound : {g h : ℕ} {s : Says} {xs ys : List Seat} → Pays g xs s h ys → g ≤ limit → (g ≤ h) × (h ≤ limit)
+pays-bound (pays_twice h i) l = let a = raised-bound h l in let b = raised-bound i a.1 in (omega (arith, a.0, b.0), b.1)
+pays-bound (pays_unraised h) l = raised-bound h l
 
-unraised-even : (o : Bool) {d n : ℕ} {xs ys : List Seat} → Pays o xs (Fault d n) ys → Even o xs → Even o ys
-unraised-even true h v q = cc
-unraised-even false h v q = elim h [ ]
+pub pays-near : {v : Medium} {g h : ℕ} {s : Says} {xs ys : List Seat} → Pays g xs s h ys → g ≤ limit → Every (Near v g) xs → Every (Near v h) ys
+pays-near (pays_twice h i) l n = raised-near i (raised-bound h l).1 (raised-near h l n)
+pays-near (pays_unraised h) l n = raised-near h l n
 
-pub flush-even : {o q : Bool} {s : Says} {xs ys : List Seat} → Flushes o xs s q ys → top xs ≤ limit → Even o xs → Even q ys
-flush-even (flush_whole {ys = ys} {zs = zs} h i) l v = calm-even {o = false} (flush-calm i) (λ q. pays-levels h refl l v)
-flush-even (flush_lost h i k) l v = flush-even k (omega (arith, pays-bounded h l, round-bounded i.each)) (λ q. cc)
-flush-even {o} (flush_none h i) l v = none-even o h i l v
-flush-even {o} (flush_unraised h) l v = unraised-even o h v
+pub pays-up : {g h : ℕ} {s : Says} {xs ys : List Seat} → Pays g xs s h ys → is_done s ≡ true → g ≤ limit → min (g + 2) limit ≤ h
+pays-up (pays_twice h i) e l = omega (arith, raised-up h refl l, raised-up i e (raised-bound h l).1)
+pays-up (pays_unraised h) e l = cc
 
--- after a flush that answers Ok nothing is owed
-pub flush-paid : {o q : Bool} {s : Says} {xs ys : List Seat} → Flushes o xs s q ys → is_done s ≡ true → q ≡ false
-flush-paid (flush_whole h i) e = refl
-flush-paid (flush_lost h i k) e = flush-paid k e
-flush-paid (flush_none h i) e = cc
-flush-paid (flush_unraised h) e = cc
+pub pays-has : {v : Medium} {g h : ℕ} {s : Says} {xs ys : List Seat} → Pays g xs s h ys → is_done s ≡ true → g ≤ limit → Every (Near v g) xs → Every (HasLevel v h) ys
+pays-has (pays_twice h i) e l n = raised-has i e (raised-bound h l).1 (raised-level h refl l n)
+pays-has (pays_unraised h) e l n = cc
 
--- and a disk is live
-calm-live : {xs ys : List Seat} → Pairs Calm xs ys → Has IsLive xs → Has IsLive ys
-calm-live (pairs_more (calm_live e) i) (has_here h) = has_here live_in
-calm-live pairs_none h = elim h [ ]
-calm-live (pairs_more calm_out i) (has_here h) = elim h [ ]
-calm-live (pairs_more calm_left i) (has_here h) = elim h [ ]
-calm-live (pairs_more h i) (has_later k) = has_later (calm-live i k)
+pub pays-live : {g h : ℕ} {s : Says} {xs ys : List Seat} → Pays g xs s h ys → is_done s ≡ true → Has IsLive ys
+pays-live (pays_twice h i) e = raised-live i e
+pays-live (pays_unraised h) e = cc
 
-pub flush-live : {o q : Bool} {s : Says} {xs ys : List Seat} → Flushes o xs s q ys → is_done s ≡ true → Has IsLive ys
-flush-live (flush_whole h i) e = i.answer.0
-flush-live (flush_lost h i k) e = flush-live k e
-flush-live (flush_none h i) e = cc
-flush-live (flush_unraised h) e = cc
+-- flushes
+flushed-near : {v : Medium} {g : ℕ} {s : Says} {x y : Seat} → Near v g x → Asked Flush s x y → Near v g y
+flushed-near near_out asked_out = near_out
+flushed-near (near_in most least) asked_stale = near_in most least
+flushed-near (near_in most least) (asked_took flush_taken) = near_in (λ i z. most i (flushed-shows i z)) (λ e i z. least e i (flushed-shows i z))
+flushed-near (near_in most least) (asked_lost h) = near_in (λ i z. most i (shows-any (unflushed-shows h i z))) (λ e. cc)
+flushed-near (near_in most least) (asked_none h) = near_in (λ i z. most i (unflushed-shows h i z)) (λ e i z. least e i (unflushed-shows h i z))
 
-pub flush-levels : {o q w : Bool} {xs ys : List Seat} → Flushes o xs (Done w) q ys → top xs ≤ limit → Even o xs → Every (HasLevel (top ys)) ys
-flush-levels h l v = flush-even h l v (flush-paid h refl)
+flushed-has : {v : Medium} {g : ℕ} {x y : Seat} → HasLevel v g x → Asked Flush (Done true) x y → HasLevel v g y
+flushed-has has_out asked_out = has_out
+flushed-has (has_left f) asked_stale = has_left f
+flushed-has (has_live f) (asked_took flush_taken) = has_live (λ i z. f i (flushed-shows i z))
+
+unflushed-has : {v : Medium} {g d n : ℕ} {x y : Seat} → HasLevel v g x → Asked Flush (Fault d n) x y → HasLevel v g y
+unflushed-has has_out asked_out = has_out
+unflushed-has (has_left f) asked_stale = has_left f
+unflushed-has (has_live f) (asked_none h) = has_live (λ i z. f i (unflushed-shows h i z))
+
+pub flush-round-near : {v : Medium} {g : ℕ} {s : Says} {xs ys : List Seat} → Round Flush xs s ys → Every (Near v g) xs → Every (Near v g) ys
+flush-round-near h n = pairs-every (λ x y k m. flushed-near m k) h.each n
+
+pub flush-bound : {o q : Bool} {g h : ℕ} {s : Says} {xs ys : List Seat} → Flushes o g xs s q h ys → g ≤ limit → (g ≤ h) × (h ≤ limit)
+flush-bound (flush_owed h) l = pays-bound h l
+flush-bound (flush_even h) l = (omega arith, l)
+flush-bound (flush_lost h i) l = pays-bound i l
+flush-bound (flush_none h) l = (omega arith, l)
+
+pub flush-near : {v : Medium} {o q : Bool} {g h : ℕ} {s : Says} {xs ys : List Seat} → Flushes o g xs s q h ys → g ≤ limit → Every (Near v g) xs → Every (Near v h) ys
+flush-near (flush_owed h) l n = pays-near h l n
+flush-near (flush_even h) l n = flush-round-near h n
+flush-near (flush_lost h i) l n = pays-near i l (flush-round-near h n)
+flush-near (flush_none h) l n = flush-round-near h n
+
+-- after a flush that answers Ok nothing is owed, and a disk is live
+pub flush-paid : {o q : Bool} {g h : ℕ} {s : Says} {xs ys : List Seat} → Flushes o g xs s q h ys → is_done s ≡ true → q ≡ false
+flush-paid (flush_owed {s = Done w} h) e = refl
+flush-paid (flush_owed {s = Fault d n} h) e = cc
+flush-paid (flush_even h) e = refl
+flush-paid (flush_lost {s = Done w} h i) e = refl
+flush-paid (flush_lost {s = Fault d n} h i) e = cc
+flush-paid (flush_none h) e = refl
+
+pub flush-live : {o q : Bool} {g h : ℕ} {s : Says} {xs ys : List Seat} → Flushes o g xs s q h ys → is_done s ≡ true → Has IsLive ys
+flush-live (flush_owed h) e = pays-live h e
+flush-live (flush_even h) e = h.answer.0
+flush-live (flush_lost h i) e = pays-live i e
+flush-live (flush_none h) e = cc
+
+-- what is not owed is paid
+is-paid : (s : Says) → is_fault s ≡ false → is_done s ≡ true
+is-paid (Done w) e = refl
+is-paid (Fault d n) e = cc
+
+pub flush-even : {v : Medium} {o q : Bool} {g h : ℕ} {s : Says} {xs ys : List Seat} → Flushes o g xs s q h ys → g ≤ limit → Every (Near v g) xs → Even v o g xs → Even v q h ys
+flush-even (flush_owed {s = s} h) l n v e = pays-has h (is-paid s e) l n
+flush-even (flush_even h) l n v e = pairs-every (λ x y k m. flushed-has m k) h.each (v refl)
+flush-even (flush_lost {s = s} h i) l n v e = pays-has i (is-paid s e) l (flush-round-near h n)
+flush-even (flush_none h) l n v e = pairs-every (λ x y k m. unflushed-has m k) h.each (v refl)
+
+pub flush-levels : {v : Medium} {o q w : Bool} {g h : ℕ} {xs ys : List Seat} → Flushes o g xs (Done w) q h ys → g ≤ limit → Every (Near v g) xs → Even v o g xs → Every (HasLevel v h) ys
+flush-levels h l n v = flush-even h l n v (flush-paid h refl)
 
 -- a write
-pub puts-even : {p : ℕ} {x : List ℕ} {o q : Bool} {s : Says} {xs ys : List Seat} → Puts p x o xs s q ys → Even o xs → Even q ys
-puts-even {p} {x} {o} (put_whole h) v = calm-even {o = o} (pairs-map (λ a b. whole-calm (Write p x) (write-level p x)) h.each) v
-puts-even (put_lost h) v = λ q. cc
-puts-even {p} {x} {o} (put_refused h) v = calm-even {o = o} (pairs-map (λ a b. none-calm (Write p x) (write-unlevel p x)) h.each) v
+pub written-shows : {v : Medium} {b : Bool} (p : ℕ) (x : List ℕ) (c : Cell) (i : Image) → Shows v (In b (written p x c)) i → (j : Image) × Shows v (In b c) j × (i.generation ≡ j.generation)
+written-shows p x c i shows_now = (c.now, shows_now, refl)
+written-shows p x c i (shows_kept e k) = (i, shows_kept e k, refl)
+
+pub unwritten-shows : {v : Medium} {b : Bool} {p : ℕ} {x : List ℕ} {c d : Cell} → Refuses (Write p x) c d → (i : Image) → Shows v (In b d) i → Shows v (In b c) i
+unwritten-shows (refused {n = n} l) i z = faulted-shows n i z
+
+write-near : {v : Medium} {g p : ℕ} {u : List ℕ} {s : Says} {x y : Seat} → Near v g x → Asked (Write p u) s x y → Near v g y
+write-near near_out asked_out = near_out
+write-near (near_in most least) asked_stale = near_in most least
+write-near (near_in most least) (asked_took (write_taken {p = p} {x = x} {c = c})) = near_in (λ i z. let r = written-shows p x c i z in let k = most r.0 r.1 in omega (arith, r.2)) (λ e i z. let r = written-shows p x c i z in let k = least e r.0 r.1 in omega (arith, r.2))
+write-near (near_in most least) (asked_lost h) = near_in (λ i z. most i (shows-any (unwritten-shows h i z))) (λ e. cc)
+write-near (near_in most least) (asked_none h) = near_in (λ i z. most i (unwritten-shows h i z)) (λ e i z. least e i (unwritten-shows h i z))
+
+write-has : {v : Medium} {g p : ℕ} {u : List ℕ} {x y : Seat} → HasLevel v g x → Asked (Write p u) (Done true) x y → HasLevel v g y
+write-has has_out asked_out = has_out
+write-has (has_left f) asked_stale = has_left f
+write-has (has_live f) (asked_took (write_taken {p = p} {x = x} {c = c})) = has_live (λ i z. let r = written-shows p x c i z in r.2 ∙ f r.0 r.1)
+
+unwritten-has : {v : Medium} {g p d n : ℕ} {u : List ℕ} {x y : Seat} → HasLevel v g x → Asked (Write p u) (Fault d n) x y → HasLevel v g y
+unwritten-has has_out asked_out = has_out
+unwritten-has (has_left f) asked_stale = has_left f
+unwritten-has (has_live f) (asked_none h) = has_live (λ i z. f i (unwritten-shows h i z))
+
+pub puts-near : {v : Medium} {g p : ℕ} {x : List ℕ} {o q : Bool} {s : Says} {xs ys : List Seat} → Puts p x o xs s q ys → Every (Near v g) xs → Every (Near v g) ys
+puts-near (put_whole h) n = pairs-every (λ x y k m. write-near m k) h.each n
+puts-near (put_lost h) n = pairs-every (λ x y k m. write-near m k) h.each n
+puts-near (put_refused h) n = pairs-every (λ x y k m. write-near m k) h.each n
+
+pub puts-even : {v : Medium} {g p : ℕ} {x : List ℕ} {o q : Bool} {s : Says} {xs ys : List Seat} → Puts p x o xs s q ys → Even v o g xs → Even v q g ys
+puts-even (put_whole h) v e = pairs-every (λ x y k m. write-has m k) h.each (v e)
+puts-even (put_lost h) v e = cc
+puts-even (put_refused h) v e = pairs-every (λ x y k m. unwritten-has m k) h.each (v e)
+
+-- a write owes, or leaves what is owed
+pub puts-owes : {p : ℕ} {x : List ℕ} {o q : Bool} {s : Says} {xs ys : List Seat} → Puts p x o xs s q ys → q ≡ false → o ≡ false
+puts-owes (put_whole h) e = e
+puts-owes (put_lost h) e = cc
+puts-owes (put_refused h) e = e
 
 -- a read
-pub look-even : {o : Bool} {s : Says} {xs ys : List Seat} → Pairs (Looked s) xs ys → Even o xs → Even o ys
-look-even {o = o} h v = calm-even {o = o} (look-calm h) v
+look-near : {v : Medium} {g : ℕ} {s : Says} {x y : Seat} → Near v g x → Looked s x y → Near v g y
+look-near near_out looked_out = near_out
+look-near (near_in most least) looked_stale = near_in most least
+look-near (near_in most least) (looked_same e) = near_in most least
+look-near (near_in most least) (looked_refused {n = n} l) = near_in (λ i z. most i (faulted-shows n i z)) (λ e i z. least e i (faulted-shows n i z))
 
--- no write and no read lifts the greatest generation
-pub look-bounded : {s : Says} {xs ys : List Seat} → Pairs (Looked s) xs ys → top ys ≡ top xs
-look-bounded h = calm-top (look-calm h)
+look-has : {v : Medium} {g : ℕ} {s : Says} {x y : Seat} → HasLevel v g x → Looked s x y → HasLevel v g y
+look-has has_out looked_out = has_out
+look-has (has_left f) looked_stale = has_left f
+look-has (has_live f) (looked_same e) = has_live f
+look-has (has_live f) (looked_refused {n = n} l) = has_live (λ i z. f i (faulted-shows n i z))
 
-written-top : {p : ℕ} {x : List ℕ} {s : Says} {xs ys : List Seat} → Pairs (Asked (Write p x) s) xs ys → top ys ≡ top xs
-written-top pairs_none = refl
-written-top (pairs_more asked_out i) = written-top i
-written-top (pairs_more asked_stale i) = let a = written-top i in omega arith
-written-top (pairs_more (asked_took write_taken) i) = let a = written-top i in omega arith
-written-top (pairs_more (asked_lost (refused b)) i) = let a = written-top i in omega arith
-written-top (pairs_more (asked_none (refused b)) i) = let a = written-top i in omega arith
+pub looks-near : {v : Medium} {g : ℕ} {s : Says} {xs ys : List Seat} → Pairs (Looked s) xs ys → Every (Near v g) xs → Every (Near v g) ys
+looks-near h n = pairs-every (λ x y k m. look-near m k) h n
 
-pub write-bounded : {p : ℕ} {x : List ℕ} {o q : Bool} {s : Says} {xs ys : List Seat} → Puts p x o xs s q ys → top ys ≡ top xs
-write-bounded (put_whole h) = written-top h.each
-write-bounded (put_lost h) = written-top h.each
-write-bounded (put_refused h) = written-top h.each
+pub looks-even : {v : Medium} {o : Bool} {g : ℕ} {s : Says} {xs ys : List Seat} → Pairs (Looked s) xs ys → Even v o g xs → Even v o g ys
+looks-even h v e = pairs-every (λ x y k m. look-has m k) h (v e)
+
+-- a call that was stopped
+halted-near : {v : Medium} {g : ℕ} {x y : Seat} → g ≤ limit → Near v g x → Halted (Raise (next g)) x y → Near v g y
+halted-near l near_out halted_out = near_out
+halted-near l (near_in most least) halted_stale = near_in most least
+halted-near l (near_in most least) (halted_live cut_before) = near_in (λ i z. most i (shows-any z)) (λ e i z. least refl i (shows-any z))
+halted-near l (near_in most least) (halted_live (cut_taken (raise_taken {c = c}))) = near_in (λ i z. omega (arith, raised-shows c i z)) (λ e i z. omega (arith, raised-shows c i z))
+halted-near l (near_in most least) (halted_live {b = b} (cut_refused h)) = near_in {b = b} (λ i z. elim (unraised-shows h i z) [ inl q ↦ most i (shows-any q) | inr q ↦ omega (arith, q) ]) (λ e i z. elim (unraised-shows h i z) [ inl q ↦ least refl i (shows-any q) | inr q ↦ omega (arith, q) ])
+
+halted-flush-near : {v : Medium} {g : ℕ} {x y : Seat} → Near v g x → Halted Flush x y → Near v g y
+halted-flush-near near_out halted_out = near_out
+halted-flush-near (near_in most least) halted_stale = near_in most least
+halted-flush-near (near_in most least) (halted_live cut_before) = near_in (λ i z. most i (shows-any z)) (λ e i z. least refl i (shows-any z))
+halted-flush-near (near_in most least) (halted_live (cut_taken flush_taken)) = near_in (λ i z. most i (shows-any (flushed-shows i z))) (λ e i z. least refl i (shows-any (flushed-shows i z)))
+halted-flush-near (near_in most least) (halted_live (cut_refused h)) = near_in (λ i z. most i (shows-any (unflushed-shows h i z))) (λ e i z. least refl i (shows-any (unflushed-shows h i z)))
+
+halted-write-near : {v : Medium} {g p : ℕ} {u : List ℕ} {x y : Seat} → Near v g x → Halted (Write p u) x y → Near v g y
+halted-write-near near_out halted_out = near_out
+halted-write-near (near_in most least) halted_stale = near_in most least
+halted-write-near (near_in most least) (halted_live cut_before) = near_in (λ i z. most i (shows-any z)) (λ e i z. least refl i (shows-any z))
+halted-write-near (near_in most least) (halted_live (cut_taken (write_taken {p = p} {x = x} {c = c}))) = near_in (λ i z. let r = written-shows p x c i z in let k = most r.0 (shows-any r.1) in omega (arith, r.2)) (λ e i z. let r = written-shows p x c i z in let k = least refl r.0 (shows-any r.1) in omega (arith, r.2))
+halted-write-near (near_in most least) (halted_live (cut_refused h)) = near_in (λ i z. most i (shows-any (unwritten-shows h i z))) (λ e i z. least refl i (shows-any (unwritten-shows h i z)))
+
+pub write-stops-near : {v : Medium} {g p : ℕ} {x : List ℕ} {xs ys : List Seat} → Pairs (Halted (Write p x)) xs ys → Every (Near v g) xs → Every (Near v g) ys
+write-stops-near h n = pairs-every (λ x y k m. halted-write-near m k) h n
+
+pub raise-stops-bound : {g h : ℕ} {xs ys : List Seat} → RaiseStops g xs h ys → g ≤ limit → (g ≤ h) × (h ≤ limit)
+raise-stops-bound (stops_here h) l = (omega arith, l)
+raise-stops-bound (stops_later h i) l = let a = raise-stops-bound i (omega arith) in (omega (arith, a.0), a.1)
+
+pub raise-stops-near : {v : Medium} {g h : ℕ} {xs ys : List Seat} → RaiseStops g xs h ys → g ≤ limit → Every (Near v g) xs → Every (Near v h) ys
+raise-stops-near (stops_here h) l n = pairs-every (λ x y k m. halted-near l m k) h n
+raise-stops-near (stops_later h i) l n = raise-stops-near i (omega arith) (levels-near (omega arith) (round-level h n))
+
+pub flush-stops-bound : {o : Bool} {g h : ℕ} {xs ys : List Seat} → FlushStops o g xs h ys → g ≤ limit → (g ≤ h) × (h ≤ limit)
+flush-stops-bound (stops_owed h) l = raise-stops-bound h l
+flush-stops-bound (stops_even h) l = (omega arith, l)
+flush-stops-bound (stops_lost h i) l = raise-stops-bound i l
+
+pub flush-stops-near : {v : Medium} {o : Bool} {g h : ℕ} {xs ys : List Seat} → FlushStops o g xs h ys → g ≤ limit → Every (Near v g) xs → Every (Near v h) ys
+flush-stops-near (stops_owed h) l n = raise-stops-near h l n
+flush-stops-near (stops_even h) l n = pairs-every (λ x y k m. halted-flush-near m k) h n
+flush-stops-near (stops_lost h i) l n = raise-stops-near i l (flush-round-near h n)

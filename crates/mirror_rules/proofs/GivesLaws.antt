@@ -1,20 +1,20 @@
 -- The ground that was opened is what its disks give.
-use Rattle.std.proofs.Common.{◌≡◌, ◌≢◌, ℕ, suc, ◌+◌, ◌<◌, ◌≤◌, ◌⊎◌, inl, inr, Bool, true, false, not, List, [], ◌∷◌, ◌++◌, length, Some, refl, sym, ◌∙◌, ap, subst, arith}
+use Rattle.std.proofs.Common.{◌≡◌, ℕ, ◌<◌, ◌≤◌, ◌⊎◌, inl, inr, Bool, true, false, List, [], ◌∷◌, ◌++◌, Some, refl, sym, ◌∙◌, ap, subst, arith}
 use Rattle.std.proofs.lemmas.Bool.{cases_lt}
-use Rattle.std.proofs.lemmas.Bool.Decides.{eqb_tells}
-use Rattle.mirror_rules.specs.Tree.{Image, Cell, Store, Seat, In, Out, Tree, Leaf, Coherent, Mirror, seats, top, generation}
-use Rattle.mirror_rules.specs.Claims.{Pairs, pairs_none, pairs_more, Every, every_none, every_more, Has, has_here, has_later, Nth, nth_here, nth_later, IsLive, HasPages, HasLevel, level_live, Kind, kind_in, kind_out}
-use Rattle.mirror_rules.specs.Steps.{Act, Says, Done, Fault, is_done, Asked, asked_out, asked_stale, asked_took, asked_lost, asked_none, Looked, looked_out, looked_stale, looked_same, looked_refused}
-use Rattle.mirror_rules.specs.Opening.{Meets, meets_good, meets_down, AtMost, most_in, most_out, Wins, wins_here, wins_later, wins_out, Only, only_here, only_later, Copies, copy_same, copy_differs, copy_left, copy_gone, copy_even, copy_settled, copy_unflushed, copy_unraised, Enters, enter_end, enter_next, enter_joins, enter_gone, Readies, ready_higher, ready_raised, NotBad, good_in, good_down, Renews, renew_end, renew_next, renew_unraised, renew_refused, renew_joins, renew_gone, all_live, Outcome, Good, Bad, Lost, NotGood, not_good, IsBad, is_bad, Opens, open_down, open_bad, open_good, open_gone, open_unrenewed, open_again, IsGoodAt, good_at, GivesWay, way_none, way_out, way_waits, way_left, Yields, Downed, downed_not, downed, DownedTree, downed_leaf, downed_below, downed_mirror, Gives, gives_image, gives_below, gives_left, gives_right, gives_left_alone, gives_right_alone, Opened}
-use Rattle.mirror_rules.specs.Fates.{State, state_bad, state_down, state_made, state_left, state_live, Final, Grown, Sized}
-use Rattle.mirror_rules.proofs.PageLaws.{pairs-then, pairs-every}
+use Rattle.mirror_rules.specs.Tree.{Image, Cell, Store, Why, Blank, Bad, Down, Seat, In, Out, Tree, Leaf, Coherent, Mirror, seats, owes}
+use Rattle.mirror_rules.specs.Claims.{Pairs, pairs_none, pairs_more, Every, every_none, every_more, Has, has_here, has_later, Nth, nth_here, nth_later, IsLive, HasPages, Kind, kind_in, kind_out}
+use Rattle.mirror_rules.specs.Steps.{Act, Says, Asked, asked_out, asked_stale, asked_took, asked_lost, asked_none, Looked, looked_out, looked_stale, looked_same, looked_refused}
+use Rattle.mirror_rules.specs.Opening.{Meets, meets_good, meets_down, AtMost, most_in, most_out, Wins, wins_here, wins_later, wins_out, Only, only_here, only_later, Copies, copy_same, copy_differs, copy_left, copy_gone, copy_even, copy_settled, copy_unflushed, copy_unraised, Enters, enter_end, enter_next, enter_joins, enter_gone, Fills, fill_end, fill_next, fill_gone, Renews, renew_end, renew_next, renew_made, renew_left, renew_gone, Outcome, Good, BadImage, Lost, NotGood, not_good, IsBad, is_blank, is_bad, Opens, open_down, open_blank, open_bad, open_good, open_gone, open_unrenewed, open_again, IsGoodAt, good_at, GivesWay, way_none, way_out, way_waits, way_left, Yields, Downed, downed_not, downed, DownedTree, downed_leaf, downed_below, downed_mirror, Gives, gives_image, gives_below, gives_left, gives_right, gives_left_alone, gives_right_alone}
+use Rattle.mirror_rules.specs.Guards.{Medium, Direct, Settled}
+use Rattle.mirror_rules.specs.Fates.{State, Sized, Stays, stays_good, stays_blank, stays_bad, stays_down}
+use Rattle.mirror_rules.proofs.PageLaws.{pairs-then}
 use Rattle.mirror_rules.proofs.RoundLaws.{pairs-map}
-use Rattle.mirror_rules.proofs.OpenLaws.{nth-same, Ready, Renewed, copies-state, only-pairs, blank-live, bad-down, bad-fresh, fresh-joins, fresh-only, state-pages, state-generation, enters-state, renews-state, ready-state, grown-most, wins-size, start-state, final-all}
+use Rattle.mirror_rules.proofs.OpenLaws.{state-pages, enters-state, renews-state, wins-size, start-state, start-waits}
 
 -- of the disks of two sides the winner is in the left one, or in the right one and above all of the left
 data Below (g : ℕ) : Seat → Type 0 where
   below_in : {b : Bool} {c : Cell} → c.now.generation < g → Below g (In b c)
-  below_out : {b : Bool} {s : Store} → Below g (Out b s)
+  below_out : {b : Why} {s : Store} → Below g (Out b s)
 
 every-left : {A : Type 0} {P : A → Type 0} (xs ys : List A) → Every P (xs ++ ys) → Every P xs
 every-left [] ys h = every_none
@@ -73,7 +73,7 @@ wins-gives w (Mirror l r) us h = elim (wins-split w (seats l) (seats r) us h) [
   ]
 ]
 
--- which disks are bad stays, until they are formatted
+-- in a call what is opened stays opened, and what is not stays as it is
 pub kind-same : (xs : List Seat) → Pairs Kind xs xs
 kind-same [] = pairs_none
 kind-same (In b c ∷ xs) = pairs_more kind_in (kind-same xs)
@@ -103,116 +103,85 @@ asked-kind h = pairs-map (λ x y. one) h where
   one (asked_lost h) = kind_in
   one (asked_none h) = kind_in
 
-only-kind : {a b : Bool} {c d : Cell} {n : ℕ} {xs ys : List Seat} → Only (In a c) (In b d) n xs ys → Pairs Kind xs ys
-only-kind (only_here {xs = xs}) = pairs_more kind_in (kind-same xs)
-only-kind (only_later {z = In b c} h) = pairs_more kind_in (only-kind h)
-only-kind (only_later {z = Out b s} h) = pairs_more kind_out (only-kind h)
+-- in an opening what was found bad, or refused, stays as it was
+stays-same : (x : Seat) → Stays x x
+stays-same (In b c) = stays_good
+stays-same (Out Blank s) = stays_blank
+stays-same (Out Bad s) = stays_bad
+stays-same (Out Down s) = stays_down
 
-copies-kind : {told : Bool} {i n p : ℕ} {e : Bool} {s : Says} {xs ys : List Seat} {wrote : Bool} → Copies told i e n p xs s wrote ys → Pairs Kind xs ys
-copies-kind (copy_same h k q r) = kinds-then (look-kind h.each) (copies-kind r)
-copies-kind (copy_differs h ne z k r) = kinds-then (look-kind h.each) (kinds-then (only-kind k) (copies-kind r))
-copies-kind (copy_left h l k) = kinds-then (look-kind h.each) (only-kind k)
-copies-kind (copy_gone h) = look-kind h.each
-copies-kind (copy_even k) = only-kind k
-copies-kind (copy_settled k) = only-kind k
-copies-kind (copy_unflushed h k) = only-kind k
-copies-kind (copy_unraised h q k) = only-kind k
+pub stay-same : (xs : List Seat) → Pairs Stays xs xs
+stay-same [] = pairs_none
+stay-same (x ∷ xs) = pairs_more (stays-same x) (stay-same xs)
 
-pub enters-kind : {told : Bool} {n i m : ℕ} {s : Says} {xs ys : List Seat} {wrote : Bool} → Enters told n i m xs s wrote ys → Pairs Kind xs ys
-enters-kind (enter_end {xs = xs}) = kind-same xs
-enters-kind (enter_next h p r) = enters-kind r
-enters-kind (enter_joins h q k r) = kinds-then (copies-kind k) (enters-kind r)
-enters-kind (enter_gone h q k) = copies-kind k
+stays-then : {x y z : Seat} → Stays x y → Stays y z → Stays x z
+stays-then stays_good k = stays_good
+stays-then stays_blank k = stays_blank
+stays-then stays_bad stays_bad = stays_bad
+stays-then stays_down stays_down = stays_down
 
-pub wins-kind : {w : Image} {xs ys : List Seat} → Wins w xs ys → Pairs Kind xs ys
-wins-kind (wins_here {xs = xs} q a) = pairs_more kind_in (kind-same xs)
-wins-kind (wins_later l h) = pairs_more kind_in (wins-kind h)
-wins-kind (wins_out h) = pairs_more kind_out (wins-kind h)
+pub stay-then : {xs ys zs : List Seat} → Pairs Stays xs ys → Pairs Stays ys zs → Pairs Stays xs zs
+stay-then h i = pairs-then (λ x y z. stays-then) h i
 
-pub kind-bad : {xs ys : List Seat} → Pairs Kind xs ys → Has IsBad xs → Has IsBad ys
-kind-bad pairs_none h = elim h [ ]
-kind-bad (pairs_more kind_in i) (has_here h) = elim h [ ]
-kind-bad (pairs_more kind_out i) (has_here h) = has_here h
-kind-bad (pairs_more h i) (has_later k) = has_later (kind-bad i k)
+look-stays : {s : Says} {xs ys : List Seat} → Pairs (Looked s) xs ys → Pairs Stays xs ys
+look-stays h = pairs-map (λ x y. one) h where
+  one : {s : Says} {x y : Seat} → Looked s x y → Stays x y
+  one (looked_out {b = b} {t = t}) = stays-same (Out b t)
+  one looked_stale = stays_good
+  one (looked_same e) = stays_good
+  one (looked_refused l) = stays_good
 
-pub bad-kind : {xs ys : List Seat} → Pairs Kind xs ys → Has IsBad ys → Has IsBad xs
-bad-kind pairs_none h = elim h [ ]
-bad-kind (pairs_more kind_in i) (has_here h) = elim h [ ]
-bad-kind (pairs_more kind_out i) (has_here h) = has_here h
-bad-kind (pairs_more h i) (has_later k) = has_later (bad-kind i k)
+only-stays : {x y : Seat} {n : ℕ} {xs ys : List Seat} → Stays x y → Only x y n xs ys → Pairs Stays xs ys
+only-stays h (only_here {xs = xs}) = pairs_more h (stay-same xs)
+only-stays h (only_later {z = z} k) = pairs_more (stays-same z) (only-stays h k)
 
--- where a round before a format ran, a disk was bad
-nth-bad : {n : ℕ} {b : Store} {xs : List Seat} → Nth n xs (Out true b) → Has IsBad xs
-nth-bad nth_here = has_here is_bad
-nth-bad (nth_later h) = has_later (nth-bad h)
+copies-stay : {told : Bool} {g i n p : ℕ} {e : Bool} {s : Says} {xs ys : List Seat} {wrote : Bool} → Copies told g i e n p xs s wrote ys → Pairs Stays xs ys
+copies-stay (copy_same h k q r) = stay-then (look-stays h.each) (copies-stay r)
+copies-stay (copy_differs h ne z k r) = stay-then (look-stays h.each) (stay-then (only-stays stays_good k) (copies-stay r))
+copies-stay (copy_left h l k) = stay-then (look-stays h.each) (only-stays stays_good k)
+copies-stay (copy_gone h) = look-stays h.each
+copies-stay (copy_even k) = only-stays stays_good k
+copies-stay (copy_settled k) = only-stays stays_good k
+copies-stay (copy_unflushed h k) = only-stays stays_good k
+copies-stay (copy_unraised h q k) = only-stays stays_good k
 
-only-bad : {b : Store} {y : Seat} {n : ℕ} {xs ys : List Seat} → Only (Out true b) y n xs ys → Has IsBad xs
-only-bad only_here = has_here is_bad
-only-bad (only_later h) = has_later (only-bad h)
+enters-stay : {told : Bool} {g n i m : ℕ} {s : Says} {xs ys : List Seat} {wrote : Bool} → Enters told g n i m xs s wrote ys → Pairs Stays xs ys
+enters-stay (enter_end {xs = xs}) = stay-same xs
+enters-stay (enter_next h p r) = enters-stay r
+enters-stay (enter_joins h q k r) = stay-then (copies-stay k) (enters-stay r)
+enters-stay (enter_gone h q k) = copies-stay k
 
-pub bad-or : (xs : List Seat) → Has IsBad xs ⊎ Every NotBad xs
-bad-or [] = inr every_none
-bad-or (In b c ∷ xs) = elim (bad-or xs) [ inl h ↦ inl (has_later h) | inr h ↦ inr (every_more good_in h) ]
-bad-or (Out true s ∷ xs) = inl (has_here is_bad)
-bad-or (Out false s ∷ xs) = elim (bad-or xs) [ inl h ↦ inl (has_later h) | inr h ↦ inr (every_more good_down h) ]
+fills-stay : {n p : ℕ} {s : Says} {F : List (List ℕ)} {xs ys : List Seat} → Fills n p xs s F ys → Pairs Stays xs ys
+fills-stay (fill_end {xs = xs}) = stay-same xs
+fills-stay (fill_next h r) = stay-then (look-stays h.each) (fills-stay r)
+fills-stay (fill_gone h) = look-stays h.each
 
-pub bad-not : {xs : List Seat} → Has IsBad xs → Every NotBad xs → ⊥
-bad-not (has_here is_bad) (every_more h i) = elim h [ ]
-bad-not (has_later k) (every_more h i) = bad-not k i
+renews-stay : {told : Bool} {g n i m : ℕ} {s : Says} {xs ys : List Seat} → Renews told g n i m xs s ys → Pairs Stays xs ys
+renews-stay (renew_end {xs = xs}) = stay-same xs
+renews-stay (renew_next h p r) = renews-stay r
+renews-stay (renew_made f m k r) = stay-then (fills-stay f) (stay-then (only-stays stays_blank k) (renews-stay r))
+renews-stay (renew_left q f u k r) = stay-then (fills-stay f) (stay-then (only-stays stays_blank k) (renews-stay r))
+renews-stay (renew_gone f b k) = stay-then (fills-stay f) (only-stays stays_blank k)
 
-ready-kind : {s : Says} {xs ys : List Seat} → Readies xs s ys → Pairs Kind xs ys
-ready-kind (ready_higher {xs = xs} l) = kind-same xs
-ready-kind (ready_raised q r) = asked-kind r.each
+wins-stay : {w : Image} {xs ys : List Seat} → Wins w xs ys → Pairs Stays xs ys
+wins-stay (wins_here {xs = xs} q a) = pairs_more stays_good (stay-same xs)
+wins-stay (wins_later l h) = pairs_more stays_good (wins-stay h)
+wins-stay (wins_out {b = b} {s = s} h) = pairs_more (stays-same (Out b s)) (wins-stay h)
 
--- where none is bad nothing is done
-pub renews-none : {told : Bool} {size n i m : ℕ} {s : Says} {xs ys : List Seat} → Renews told size n i m xs s ys → Every NotBad xs → xs ≡ ys
-renews-none renew_end h = refl
-renews-none (renew_next k p r) h = renews-none r h
-renews-none (renew_unraised k q) h = absurd (bad-not (nth-bad k) h)
-renews-none (renew_refused q u k r) h = absurd (bad-not (bad-kind (ready-kind q) (only-bad k)) h)
-renews-none (renew_joins q f k c r) h = absurd (bad-not (bad-kind (ready-kind q) (only-bad k)) h)
-renews-none (renew_gone q f k c) h = absurd (bad-not (bad-kind (ready-kind q) (only-bad k)) h)
+way-stay : {xs ys zs : List Seat} → GivesWay xs ys zs → Pairs Stays xs zs
+way-stay way_none = pairs_none
+way-stay (way_out {b = b} {s = s} h) = pairs_more (stays-same (Out b s)) (way-stay h)
+way-stay (way_waits h) = pairs_more stays_good (way-stay h)
+way-stay (way_left e f l h) = pairs_more stays_good (way-stay h)
 
--- a bad disk at one of the places that are visited
-pub data BadFrom : ℕ → ℕ → List Seat → Type 0 where
-  bad_from : {i m j : ℕ} {b : Store} {xs : List Seat} → i ≤ j → j < i + m → Nth j xs (Out true b) → BadFrom i m xs
-
-not-here : {x : Seat} {b : Store} → NotBad x → x ≡ Out true b → ⊥
-not-here p e = elim (subst NotBad e p) [ ]
-
-from-next : {i j m : ℕ} {x : Seat} {b : Store} {xs : List Seat} → Nth i xs x → NotBad x → i ≤ j → j < i + suc m → Nth j xs (Out true b) → BadFrom (i + 1) m xs
-from-next {i} {j} {m} {x} {b} {xs} k p l u h = elim (eqb_tells i j) as (λ _. BadFrom (i + 1) m xs) [
-  | inl t ↦ absurd (not-here p (nth-same (subst (λ v. Nth v xs x) t.1 k) h))
-  | inr t ↦ let ne : i ≢ j = t.1 in bad_from {j = j} (omega arith) (omega arith) h
-]
-
-after : (F : List (List ℕ)) (w : ℕ) (ss : List Store) (ys : List Seat) (s : Says) → is_done s ≡ true → (h : ℕ) → 1 < h → Renewed F w h s ss ys → 1 < generation ys
-after F w ss ys (Done v) e h l r = omega (arith, state-generation r.1.states r.1.live, grown-most h r.0 r.1.grown)
-after F w ss ys (Fault d n) e h l r = cc
-
--- where a disk was bad the ground ends above 1
-pub renews-bad : {F : List (List ℕ)} {w size n i m : ℕ} {xs ys : List Seat} {ss : List Store} {s : Says} → Renews true size n i m xs s ys → is_done s ≡ true → BadFrom i m xs → (g : ℕ) → Pairs (State F w g) ss xs → Has IsLive xs → length F ≡ n → w ≤ g → 1 < generation ys
-renews-bad renew_end e (bad_from a b h) g st lv le wg = absurd (omega arith)
-renews-bad (renew_next k p r) e (bad_from a b h) g st lv le wg = renews-bad r e (from-next k p a b h) g st lv le wg
-renews-bad (renew_unraised k q) e o g st lv le wg = cc
-renews-bad {F} {w} {size} {n} {ss = ss} (renew_refused {s = s} {us = us} q u k r) e o g st lv le wg =
-    let a = ready-state q refl st lv in
-    let wh : w ≤ a.0 = omega (arith, grown-most g a.0 a.1.grown) in
-    after F w ss us s e a.0 a.2 (renews-state r a.0 (only-pairs k (λ t. bad-down size n a.2 le u) a.1.states) (blank-live k a.1.live) le wh)
-renews-bad {F} {w} {size} {n} {i} {ss = ss} (renew_joins {b = b} {s = s} {vs = vs} q f k c r) e o g st lv le wg =
-    let a = ready-state q refl st lv in
-    let wh : w ≤ a.0 = omega (arith, grown-most g a.0 a.1.grown) in
-    let k = fresh-only f k in
-    let o = copies-state c (only-pairs k (λ t. bad-fresh size n a.2 le) a.1.states) (blank-live k a.1.live) (omega arith) wh (fresh-joins F a.0 i b size n le k) in
-    after F w ss vs s e a.0 a.2 (renews-state r a.0 o.0 o.1 le wh)
-renews-bad (renew_gone q f k c) e o g st lv le wg = cc
-
-bad-place : {xs : List Seat} → Has IsBad xs → (j : ℕ) × (b : Store) × Nth j xs (Out true b) × (j < length xs)
-bad-place (has_here (is_bad {s = s})) = (0, s, nth_here, omega arith)
-bad-place (has_later h) = let r = bad-place h in (suc r.0, r.1, nth_later r.2, omega (arith, r.3))
-
-pub bad-all : {xs : List Seat} → Has IsBad xs → BadFrom 0 (length xs) xs
-bad-all h = let r = bad-place h in bad_from (omega arith) (omega (arith, r.3)) r.2
+pub opens-stay : {told : Bool} {n : ℕ} {o : Outcome} {xs us : List Seat} → Opens told n xs o us → Pairs Stays xs us
+opens-stay (open_down {xs = xs} a b) = stay-same xs
+opens-stay (open_blank {s = s} {xs = xs} a) = stay-same (Out Blank s ∷ xs)
+opens-stay (open_bad {s = s} {xs = xs} a) = stay-same (Out Bad s ∷ xs)
+opens-stay (open_good w e r) = stay-then (wins-stay w) (stay-then (enters-stay e) (renews-stay r))
+opens-stay (open_gone w e y) = stay-then (wins-stay w) (enters-stay e)
+opens-stay (open_again w e y r) = stay-then (way-stay y.way) (opens-stay r)
+opens-stay (open_unrenewed w e r) = stay-then (wins-stay w) (stay-then (enters-stay e) (renews-stay r))
 
 -- no good disk is above the winner
 pub wins-most : {w : Image} {xs ys : List Seat} → Wins w xs ys → Every (AtMost w.generation) xs
@@ -238,6 +207,11 @@ good-reaches : {g : ℕ} {xs : List Seat} → Has (IsGoodAt g) xs → Has (Reach
 good-reaches (has_here (good_at e)) = has_here (reaches (omega (arith, e)))
 good-reaches (has_later h) = has_later (good-reaches h)
 
+-- nothing is pending in a medium that keeps at once
+pub always : {P : Store → Type 0} {ss : List Store} → Every P ss → Every (Settled Direct) ss
+always every_none = every_none
+always (every_more p h) = every_more tt (always h)
+
 -- the disks that gave way, counted as down
 pub downed-row : (xs : List Seat) → Pairs Downed xs xs
 downed-row [] = pairs_none
@@ -249,23 +223,6 @@ downed-one (downed e f l) downed_not = downed e f l
 
 pub downed-then : {xs ys zs : List Seat} → Pairs Downed xs ys → Pairs Downed ys zs → Pairs Downed xs zs
 downed-then h i = pairs-then (λ x y z. downed-one) h i
-
-pub downed-good : {xs ys : List Seat} → Pairs Downed xs ys → Every NotBad xs → Every NotBad ys
-downed-good h i = pairs-every (λ x y. one) h i where
-  one : {x y : Seat} → Downed x y → NotBad x → NotBad y
-  one downed_not p = p
-  one (downed e f l) p = good_down
-
-pub downed-in : {d : ℕ} {b : Bool} {c : Cell} {xs ys : List Seat} → Pairs Downed xs ys → Nth d ys (In b c) → Nth d xs (In b c)
-downed-in pairs_none n = elim n [ ]
-downed-in (pairs_more downed_not h) nth_here = nth_here
-downed-in (pairs_more k h) (nth_later n) = nth_later (downed-in h n)
-
-pub downed-bad : {xs ys : List Seat} → Pairs Downed xs ys → Has IsBad xs → Has IsBad ys
-downed-bad pairs_none h = elim h [ ]
-downed-bad (pairs_more downed_not i) (has_here h) = has_here h
-downed-bad (pairs_more (downed e f l) i) (has_here h) = elim h [ ]
-downed-bad (pairs_more k i) (has_later h) = has_later (downed-bad i h)
 
 pub way-downed : {xs ys zs : List Seat} → GivesWay xs ys zs → Pairs Downed xs zs
 way-downed way_none = pairs_none
@@ -280,11 +237,10 @@ downed-met (meets_good e) (downed p q l) = meets_down p (q ∙ sym e) l
 pub way-meets : {ss : List Store} {xs ys zs : List Seat} → Pairs Meets ss xs → GivesWay xs ys zs → Pairs Meets ss zs
 way-meets m h = pairs-then (λ s x y. downed-met) m (way-downed h)
 
-pub bad-not-good : {s : Store} {xs : List Seat} → Every IsBad xs → Every NotGood (Out true s ∷ xs)
-bad-not-good h = every_more not_good (all h) where
-  all : {xs : List Seat} → Every IsBad xs → Every NotGood xs
-  all every_none = every_none
-  all (every_more is_bad h) = every_more not_good (all h)
+pub bad-not-good : {xs : List Seat} → Every IsBad xs → Every NotGood xs
+bad-not-good every_none = every_none
+bad-not-good (every_more is_blank h) = every_more not_good (bad-not-good h)
+bad-not-good (every_more is_bad h) = every_more not_good (bad-not-good h)
 
 pub good-not : {g : ℕ} {xs : List Seat} → Every NotGood xs → Has (IsGoodAt g) xs → ⊥
 good-not (every_more not_good a) (has_here h) = elim h [ ]
@@ -315,91 +271,37 @@ won-again {w} h y r = record {
   reach = λ g k. let a = most-reach (wins-most h) g k in let b = r.reach w.generation (good-reaches y.other) in omega arith;
 }
 
--- what an opening that answers Ok leaves: one disk won, and every live disk has its pages and one generation
-pub record WellOpened (n : ℕ) (ss : List Store) (xs us : List Seat) : Type 0 where
-  pub won : Won ss xs
-  pub size : length won.w.pages ≡ n
-  pub g : ℕ
-  pub ready : Ready won.w.pages won.w.generation won.w.generation g ss us
+-- what an opening leaves, also one that is refused: of the winner's pages and generation
+abbrev pub Answered : Medium → Outcome → List Store → List Seat → List Seat → Type 0
+Answered v (Good owed g) ss xs us = (a : Won ss xs) × (a.w.generation ≡ g) × Pairs (State v a.w.pages a.w.generation) ss us × Has IsLive us × (owed ≡ owes us g)
+Answered v (BadImage d) ss xs us = Every NotGood xs × (us ≡ xs)
+Answered v (Lost d k) ss xs us = (Every NotGood xs × (us ≡ xs)) ⊎ ((a : Won ss xs) × Pairs (State v a.w.pages a.w.generation) ss us)
 
--- and one that is refused
-pub record IllOpened (ss : List Store) (xs us : List Seat) : Type 0 where
-  pub won : Won ss xs
-  pub g : ℕ
-  pub grown : Grown won.w.generation g
-  pub finals : Pairs (Final won.w.pages won.w.generation g) ss us
+answer-again : {wrote : Bool} {w : Image} (v : Medium) (o : Outcome) (ss : List Store) (xs vs us : List Seat) {ys zs : List Seat} → Wins w xs ys → Yields w.generation wrote xs zs vs → Answered v o ss vs us → Answered v o ss xs us
+answer-again v (Good owed g) ss xs vs us h y a = (won-again h y a.0, a.1, a.2, a.3, a.4)
+answer-again v (BadImage d) ss xs vs us h y a = absurd (good-not a.0 y.other)
+answer-again v (Lost d k) ss xs vs us h y a = elim a [ inl q ↦ absurd (good-not q.0 y.other) | inr q ↦ inr (won-again h y q.0, q.1) ]
 
-abbrev pub Answered : ℕ → Outcome → List Store → List Seat → List Seat → Type 0
-Answered n (Good owed) ss xs us = WellOpened n ss xs us × (owed ≡ not (all_live us))
-Answered n (Bad d) ss xs us = Every NotGood xs × (us ≡ xs)
-Answered n (Lost d k) ss xs us = (Every NotGood xs × (us ≡ xs)) ⊎ IllOpened ss xs us
-
-answer-again : {wrote : Bool} {w : Image} (n : ℕ) (o : Outcome) (ss : List Store) (xs vs us : List Seat) {ys zs : List Seat} → Wins w xs ys → Yields w.generation wrote xs zs vs → Answered n o ss vs us → Answered n o ss xs us
-answer-again n (Good owed) ss xs vs us h y a = (record { won = won-again h y a.0.won; size = a.0.size; g = a.0.g; ready = a.0.ready }, a.1)
-answer-again n (Bad d) ss xs vs us h y a = absurd (good-not a.0 y.other)
-answer-again n (Lost d k) ss xs vs us h y a = elim a [ inl q ↦ absurd (good-not q.0 y.other) | inr q ↦ inr (record { won = won-again h y q.won; g = q.g; grown = q.grown; finals = q.finals }) ]
-
-pub opens-answer : {size n : ℕ} {o : Outcome} {ss : List Store} {xs us : List Seat} → Opens true size n xs o us → Pairs Meets ss xs → Every (Sized n) ss → Answered n o ss xs us
-opens-answer (open_down h l) m z = inl (h, refl)
-opens-answer (open_bad h) m z = (bad-not-good h, refl)
-opens-answer (open_good {w = w} {ys = ys} h e r) m z =
+pub opens-answer : (v : Medium) {n : ℕ} {o : Outcome} {ss : List Store} {xs us : List Seat} → Opens true n xs o us → Pairs Meets ss xs → Every (Sized n) ss → Every (Settled v) ss → Answered v o ss xs us
+opens-answer v (open_down h l) m z t = inl (h, refl)
+opens-answer v (open_blank h) m z t = (every_more not_good (bad-not-good h), refl)
+opens-answer v (open_bad h) m z t = (every_more not_good (bad-not-good h), refl)
+opens-answer v (open_good h e r) m z t =
     let le = wins-size m h z in
-    let a = start-state le m h z in
-    let b = enters-state e a.0 a.1 le (omega arith) in
-    let c = renews-state r w.generation b.0 b.1 le (omega arith) in
-    (record { won = won m h; size = le; g = c.0; ready = c.1 }, refl)
-opens-answer (open_gone {w = w} {ys = ys} h e y) m z =
+    let a = start-state le m h z t in
+    let b = enters-state e a.0 a.1 (start-waits m h t) le in
+    let c = renews-state r b.0 b.1 le in
+    (won m h, refl, c.0, c.1, refl)
+opens-answer v (open_gone h e y) m z t =
     let le = wins-size m h z in
-    let a = start-state le m h z in
-    let b = enters-state e a.0 a.1 le (omega arith) in
-    inr (record { won = won m h; g = w.generation; grown = inl refl; finals = final-all b.0 })
-opens-answer (open_unrenewed {w = w} {ys = ys} h e r) m z =
+    let a = start-state le m h z t in
+    inr (won m h, (enters-state e a.0 a.1 (start-waits m h t) le).0)
+opens-answer v (open_unrenewed h e r) m z t =
     let le = wins-size m h z in
-    let a = start-state le m h z in
-    let b = enters-state e a.0 a.1 le (omega arith) in
-    let c = renews-state r w.generation b.0 b.1 le (omega arith) in
-    inr (record { won = won m h; g = c.0; grown = c.1; finals = c.2 })
-opens-answer {n = n} {o = o} {ss = ss} {xs = xs} {us = us} (open_again {vs = vs} h e y r) m z = answer-again n o ss xs vs us h y (opens-answer r (way-meets m y.way) z)
-
--- the generation that is reached
-abbrev pub Reached : ℕ → List Seat → ℕ → Type 0
-Reached g xs k = ((k ≡ g) × (Has IsBad xs → 1 < g)) ⊎ ((g ≡ 1) × (k ≡ 2) × Has IsBad xs)
-
--- the winner among the disks, once those that gave way are counted as down
-pub record Winner (xs us : List Seat) : Type 0 where
-  pub w : Image
-  pub vs : List Seat
-  pub ys : List Seat
-  pub down : Pairs Downed xs vs
-  pub wins : Wins w vs ys
-  pub pages : Every (HasPages w.pages) us
-  pub reached : Reached w.generation vs (generation us)
-
-pub opens-winner : {size n : ℕ} {owed : Bool} {ss : List Store} {xs us : List Seat} → Opens true size n xs (Good owed) us → Pairs Meets ss xs → Every (Sized n) ss → Winner xs us
-opens-winner {xs = xs} (open_good {w = w} {ys = ys} {zs = zs} {us = us} h e r) m z =
-    let le = wins-size m h z in
-    let a = start-state le m h z in
-    let b = enters-state e a.0 a.1 le (omega arith) in
-    let c = renews-state r w.generation b.0 b.1 le (omega arith) in
-    let k = state-generation c.1.states c.1.live in
-    let q = kinds-then (wins-kind h) (enters-kind e) in record {
-      w = w;
-      vs = xs;
-      ys = ys;
-      down = downed-row xs;
-      wins = h;
-      pages = state-pages c.1.states;
-      reached = elim (bad-or zs) as (λ _. Reached w.generation xs (generation us)) [
-        | inl bad ↦ elim c.1.grown [
-          | inl f ↦ inl (k ∙ f, λ _. omega (arith, f, k, renews-bad r refl (bad-all bad) w.generation b.0 b.1 le (omega arith)))
-          | inr f ↦ inr (f.0, k ∙ f.1, bad-kind q bad)
-        ]
-        | inr none ↦ inl (ap generation (sym (renews-none r none)) ∙ state-generation b.0 b.1, λ bad. absurd (bad-not (kind-bad q bad) none))
-      ];
-    }
-opens-winner (open_again h e y r) m z =
-    let a = opens-winner r (way-meets m y.way) z in
-    record { w = a.w; vs = a.vs; ys = a.ys; down = downed-then (way-downed y.way) a.down; wins = a.wins; pages = a.pages; reached = a.reached }
+    let a = start-state le m h z t in
+    let b = enters-state e a.0 a.1 (start-waits m h t) le in
+    inr (won m h, (renews-state r b.0 b.1 le).0)
+opens-answer v {o = o} {ss = ss} {xs = xs} {us = us} (open_again {vs = vs} h e y r) m z t = answer-again v o ss xs vs us h y (opens-answer v r (way-meets m y.way) z t)
 
 -- the tree with those that gave way as down
 pairs-split : {A B : Type 0} {R : A → B → Type 0} (xs zs : List A) (us : List B) → Pairs R (xs ++ zs) us → (ys : List B) × (vs : List B) × (ys ++ vs ≡ us) × Pairs R xs ys × Pairs R zs vs
@@ -416,26 +318,14 @@ downed-tree (Mirror l m) us h =
     (Mirror a.0 b.0, ap (λ v. v ++ seats b.0) a.1 ∙ ap (λ v. s.0 ++ v) b.1 ∙ s.2, downed_mirror a.2 b.2)
 
 -- the opened ground is what its disks give, once those that gave way are counted as down
-pub opens-gives : {size n : ℕ} {owed : Bool} {ss : List Store} {us : List Seat} (t : Tree) → Opens true size n (seats t) (Good owed) us → Pairs Meets ss (seats t) → Every (Sized n) ss
-    → (F : List (List ℕ)) × (u : Tree) × DownedTree t u × Every (HasPages F) us × Opened u (generation us) F
-opens-gives {us = us} t h m z =
-    let a = opens-winner h m z in
-    let d = downed-tree t a.vs a.down in
-    (a.w.pages, d.0, d.2, a.pages, (a.w.generation, wins-gives a.w d.0 a.ys (subst (λ v. Wins a.w v a.ys) (sym d.1) a.wins), subst (λ v. Reached a.w.generation v (generation us)) (sym d.1) a.reached))
+pub opens-gives : {n : ℕ} {owed : Bool} {g : ℕ} {ss : List Store} {us : List Seat} (t : Tree) → Opens true n (seats t) (Good owed g) us → Pairs Meets ss (seats t) → Every (Sized n) ss
+    → (F : List (List ℕ)) × (u : Tree) × DownedTree t u × Every (HasPages F) us × Gives u g F
+opens-gives {g = g} t h m z =
+    let a = opens-answer Direct h m z (always z) in
+    let d = downed-tree t a.0.vs a.0.down in
+    (a.0.w.pages, d.0, d.2, state-pages a.2, subst (λ k. Gives d.0 k a.0.w.pages) a.1 (wins-gives a.0.w d.0 a.0.ys (subst (λ v. Wins a.0.w v a.0.ys) (sym d.1) a.0.wins)))
 
--- where every disk is live none is owed, and all are at the top
-pub all-live-top : {F : List (List ℕ)} {w g : ℕ} {ss : List Store} {us : List Seat} → Pairs (State F w g) ss us → all_live us ≡ true → Every (HasLevel g) us × (top us ≡ generation us)
-all-live-top pairs_none e = (every_none, refl)
-all-live-top (pairs_more (state_bad a b) i) e = cc
-all-live-top (pairs_more (state_down a) i) e = cc
-all-live-top (pairs_more (state_made a b f) i) e = cc
-all-live-top (pairs_more (state_left a f) i) e = cc
-all-live-top (pairs_more (state_live a f q k) i) e = let r = all-live-top i e in (every_more (level_live k) r.0, omega (arith, r.1))
-
-pub not-false : (b : Bool) → not b ≡ false → b ≡ true
-not-false true e = refl
-not-false false e = cc
-
-pub opens-bad : {told : Bool} {size n d : ℕ} {xs us : List Seat} → Opens told size n xs (Bad d) us → Every NotGood xs × (us ≡ xs)
-opens-bad (open_bad h) = (bad-not-good h, refl)
+pub opens-bad : {told : Bool} {n d : ℕ} {xs us : List Seat} → Opens told n xs (BadImage d) us → Every NotGood xs × (us ≡ xs)
+opens-bad (open_blank h) = (every_more not_good (bad-not-good h), refl)
+opens-bad (open_bad h) = (every_more not_good (bad-not-good h), refl)
 opens-bad (open_again h e y r) = absurd (good-not (opens-bad r).0 y.other)

@@ -1,20 +1,21 @@
--- Which disks an opening leaves out: those alone that refused a call in it.
-use Rattle.std.proofs.Common.{◌≡◌, ℕ, zero, suc, ◌+◌, ◌<◌, ◌≤◌, Bool, true, false, List, ◌∷◌, length, refl, sym, ◌∙◌, subst, arith}
-use Rattle.mirror_rules.specs.Tree.{Image, Cell, Store, Seat, In, Out, generation}
+-- Which disks an opening leaves out: those that refused a call in it, and those that were found bad.
+use Rattle.std.proofs.Common.{◌≡◌, ℕ, zero, suc, ◌+◌, ◌<◌, ◌≤◌, Bool, true, false, List, ◌∷◌, length, None, refl, sym, ◌∙◌, subst, arith}
+use Rattle.mirror_rules.specs.Tree.{Image, Cell, Store, Blank, Bad, Down, Seat, In, Out}
 use Rattle.mirror_rules.specs.Claims.{Pairs, pairs_none, pairs_more, Nth, nth_here, nth_later}
-use Rattle.mirror_rules.specs.Steps.{Raise, Says, is_done, faulted, written, raise_taken, Asked, asked_out, asked_stale, asked_took, asked_lost, asked_none, Looked, looked_out, looked_stale, looked_same, looked_refused}
-use Rattle.mirror_rules.specs.Opening.{Meets, meets_good, meets_bad, meets_down, Wins, wins_here, wins_later, wins_out, Only, only_here, only_later, settled, Copies, copy_same, copy_differs, copy_left, copy_gone, copy_even, copy_settled, copy_unflushed, copy_unraised, Passed, passed_live, passed_out, Enters, enter_end, enter_next, enter_joins, enter_gone, Readies, ready_higher, ready_raised, Unformatted, unformatted, NotBad, good_in, good_down, Renews, renew_end, renew_next, renew_unraised, renew_refused, renew_joins, renew_gone, Good, Opens, open_good, open_again}
-use Rattle.mirror_rules.specs.Fates.{Excused, excused_live, excused_left}
+use Rattle.mirror_rules.specs.Steps.{Says, is_done, faulted, written, Looked, looked_out, looked_stale, looked_same, looked_refused}
+use Rattle.mirror_rules.specs.Opening.{Meets, meets_good, meets_blank, meets_bad, meets_down, Wins, wins_here, wins_later, wins_out, Only, only_here, only_later, settled, Copies, copy_same, copy_differs, copy_left, copy_gone, copy_even, copy_settled, copy_unflushed, copy_unraised, Passed, passed_live, passed_out, Enters, enter_end, enter_next, enter_joins, enter_gone, Fills, fill_end, fill_next, fill_gone, Makes, Unmade, unmade_blank, unmade_whole, NotBlank, filled_in, filled_bad, filled_down, Renews, renew_end, renew_next, renew_made, renew_left, renew_gone, Good, Opens, open_good, open_again}
+use Rattle.mirror_rules.specs.Fates.{Excused, excused_live, excused_left, excused_bad}
 use Rattle.mirror_rules.proofs.PageLaws.{pairs-then}
 use Rattle.mirror_rules.proofs.RoundLaws.{pairs-map, refuses-fault}
 use Rattle.mirror_rules.proofs.GivesLaws.{way-meets}
 
--- counts rise; v: a disk that is left out refused a call; w: none is bad
+-- counts rise; v: a disk that is left out refused a call; w: none is blank
 data Fine (v w : Bool) (s : Store) : Seat → Type 0 where
   fine_live : {c : Cell} → s.faults ≤ c.faults → Fine v w s (In true c)
   fine_left : {c : Cell} → s.faults ≤ c.faults → (v ≡ true → s.faults < c.faults) → Fine v w s (In false c)
-  fine_bad : {t : Store} → s.faults ≤ t.faults → w ≡ false → Fine v w s (Out true t)
-  fine_down : {t : Store} → s.faults < t.faults → Fine v w s (Out false t)
+  fine_blank : {t : Store} → s.faults ≤ t.faults → w ≡ false → Fine v w s (Out Blank t)
+  fine_bad : s.image ≡ None → s.blank ≡ false → Fine v w s (Out Bad s)
+  fine_down : {t : Store} → s.faults < t.faults → Fine v w s (Out Down t)
 
 -- P of the first i, Q of the others
 pub data Fines (P Q : Store → Seat → Type 0) : ℕ → List Store → List Seat → Type 0 where
@@ -30,16 +31,9 @@ look-fine : {v w : Bool} {a : Says} {s : Store} {x y : Seat} → Fine v w s x �
 look-fine (fine_live l) (looked_same e) = fine_live l
 look-fine (fine_live l) (looked_refused b) = fine_live (omega arith)
 look-fine (fine_left l f) looked_stale = fine_left l f
-look-fine (fine_bad l e) looked_out = fine_bad l e
+look-fine (fine_blank l e) looked_out = fine_blank l e
+look-fine (fine_bad e b) looked_out = fine_bad e b
 look-fine (fine_down l) looked_out = fine_down l
-
-raise-fine : {g : ℕ} {v w : Bool} {a : Says} {s : Store} {x y : Seat} → Fine v w s x → Asked (Raise g) a x y → Fine v w s y
-raise-fine (fine_live l) (asked_took raise_taken) = fine_live l
-raise-fine (fine_live l) (asked_lost h) = let r = (refuses-fault h).1 in fine_left (omega arith) (λ e. omega arith)
-raise-fine (fine_live l) (asked_none h) = let r = (refuses-fault h).1 in fine_live (omega arith)
-raise-fine (fine_left l f) asked_stale = fine_left l f
-raise-fine (fine_bad l e) asked_out = fine_bad l e
-raise-fine (fine_down l) asked_out = fine_down l
 
 pub fines-step : {T : Seat → Seat → Type 0} {P Q : Store → Seat → Type 0} {i : ℕ} {ss : List Store} {xs ys : List Seat} → ((s : Store) (x y : Seat) → P s x → T x y → P s y) → ((s : Store) (x y : Seat) → Q s x → T x y → Q s y) → Fines P Q i ss xs → Pairs T xs ys → Fines P Q i ss ys
 fines-step f g (fines_rest h) m = fines_rest (pairs-then g h m)
@@ -83,28 +77,30 @@ mid-met d l s (fine_left k f) = fine_left (omega arith) (λ e. omega arith)
 mid-live : {c : Cell} (d : Cell) → c.faults ≤ d.faults → (s : Store) → Mid s (In false c) → Met s (In true d)
 mid-live d l s (fine_left k f) = fine_live (omega arith)
 
-copies-met : {told : Bool} {v w a b : Bool} {i n p : ℕ} {e : Bool} {s : Says} {ss : List Store} {xs ys : List Seat} {wrote : Bool} → Copies told i e n p xs s wrote ys → is_done s ≡ true → Around (Fine v w) Mid (Fine a b) i ss xs → Around (Fine v w) Met (Fine a b) i ss ys
+copies-met : {told : Bool} {v w a b : Bool} {g i n p : ℕ} {e : Bool} {s : Says} {ss : List Store} {xs ys : List Seat} {wrote : Bool} → Copies told g i e n p xs s wrote ys → is_done s ≡ true → Around (Fine v w) Mid (Fine a b) i ss xs → Around (Fine v w) Met (Fine a b) i ss ys
 copies-met (copy_same h k q r) e f = copies-met r e (around-step (λ s x y. look-fine) (λ s x y. look-fine) (λ s x y. look-fine) f h.each)
 copies-met (copy_differs {p = p} {z = x} {c = c} h ne q k r) e f = copies-met r e (around-only k (mid-left (written p x c) (omega arith)) (around-step (λ s x y. look-fine) (λ s x y. look-fine) (λ s x y. look-fine) f h.each))
 copies-met (copy_left {m = m} {c = c} h l k) e f = around-only k (mid-met (faulted m c) l) (around-step (λ s x y. look-fine) (λ s x y. look-fine) (λ s x y. look-fine) f h.each)
 copies-met (copy_gone h) e f = cc
 copies-met (copy_even {c = c} k) e f = around-only k (mid-live c (omega arith)) f
-copies-met (copy_settled {c = c} {xs = xs} k) e f = around-only k (mid-live (settled (generation xs) c) (omega arith)) f
+copies-met {g = g} (copy_settled {c = c} k) e f = around-only k (mid-live (settled g c) (omega arith)) f
 copies-met (copy_unflushed {d = d} h k) e f = let r = (refuses-fault h).1 in around-only k (mid-met d (omega arith)) f
 copies-met (copy_unraised {d = d} h q k) e f = let r = (refuses-fault h).1 in around-only k (mid-met d (omega arith)) f
 
 met-any : {w : Bool} (s : Store) (x : Seat) → Met s x → Fine true w s x
 met-any s (In true c) (fine_live l) = fine_live l
 met-any s (In false c) (fine_left l f) = fine_left l f
-met-any s (Out true t) (fine_bad l e) = cc
-met-any s (Out false t) (fine_down l) = fine_down l
+met-any s (Out Blank t) (fine_blank l e) = cc
+met-any s (Out Bad t) (fine_bad e b) = fine_bad e b
+met-any s (Out Down t) (fine_down l) = fine_down l
 
 left-mid : {v w : Bool} {c : Cell} (s : Store) → Fine v w s (In false c) → Mid s (In false c)
 left-mid s (fine_left l f) = fine_left l (λ e. cc)
 
 passed-met : {x : Seat} → Passed x → (s : Store) → Fine false false s x → Fine true false s x
 passed-met passed_live s (fine_live l) = fine_live l
-passed-met passed_out s (fine_bad l e) = fine_bad l e
+passed-met passed_out s (fine_blank l e) = fine_blank l e
+passed-met passed_out s (fine_bad e b) = fine_bad e b
 passed-met passed_out s (fine_down l) = fine_down l
 
 -- the place after i
@@ -114,7 +110,7 @@ Entering i ss xs = Fines (Fine true false) (Fine false false) i ss xs
 abbrev Renewing : ℕ → List Store → List Seat → Type 0
 Renewing i ss xs = Fines Met (Fine true false) i ss xs
 
-enters-met : {told : Bool} {n i m : ℕ} {s : Says} {ss : List Store} {xs ys : List Seat} {wrote : Bool} → Enters told n i m xs s wrote ys → is_done s ≡ true → Entering i ss xs → Entering (i + m) ss ys
+enters-met : {told : Bool} {g n i m : ℕ} {s : Says} {ss : List Store} {xs ys : List Seat} {wrote : Bool} → Enters told g n i m xs s wrote ys → is_done s ≡ true → Entering i ss xs → Entering (i + m) ss ys
 enters-met {i = i} {ss = ss} (enter_end {xs = xs}) e f = let q : i ≡ i + 0 = omega arith in subst (λ v. Entering v ss xs) q f
 enters-met {ss = ss} (enter_next {i = i} {m = m} {xs = xs} {ys = ys} h p r) e f =
     let q : (i + 1) + m ≡ i + suc m = omega arith in let t : suc i ≡ i + 1 = omega arith in
@@ -124,35 +120,37 @@ enters-met {ss = ss} (enter_joins {i = i} {m = m} {ys = ys} {zs = zs} h q k r) e
     subst (λ v. Entering v ss zs) o (enters-met r e (subst (λ v. Entering v ss ys) t (end met-any (copies-met k refl (begin h left-mid f)))))
 enters-met (enter_gone h q k) e f = cc
 
--- a round before a format, and the format
-ready-met : {s : Says} {i : ℕ} {ss : List Store} {xs ys : List Seat} → Readies xs s ys → Renewing i ss xs → Renewing i ss ys
-ready-met (ready_higher l) f = f
-ready-met (ready_raised q r) f = fines-step (λ s x y. raise-fine) (λ s x y. raise-fine) f r.each
+-- the blank disks
+fills-met : {i n p : ℕ} {s : Says} {G : List (List ℕ)} {ss : List Store} {xs ys : List Seat} → Fills n p xs s G ys → Renewing i ss xs → Renewing i ss ys
+fills-met fill_end f = f
+fills-met (fill_next h r) f = fills-met r (fines-step (λ s x y. look-fine) (λ s x y. look-fine) f h.each)
+fills-met (fill_gone h) f = fines-step (λ s x y. look-fine) (λ s x y. look-fine) f h.each
 
-not-bad-met : {x : Seat} → NotBad x → (s : Store) → Fine true false s x → Met s x
-not-bad-met good_in s (fine_live l) = fine_live l
-not-bad-met good_in s (fine_left l f) = fine_left l f
-not-bad-met good_down s (fine_down l) = fine_down l
+not-blank-met : {x : Seat} → NotBlank x → (s : Store) → Fine true false s x → Met s x
+not-blank-met filled_in s (fine_live l) = fine_live l
+not-blank-met filled_in s (fine_left l f) = fine_left l f
+not-blank-met filled_bad s (fine_bad e b) = fine_bad e b
+not-blank-met filled_down s (fine_down l) = fine_down l
 
-bad-met : {size n : ℕ} {b t : Store} → Unformatted size n b t → (s : Store) → Fine true false s (Out true b) → Met s (Out false t)
-bad-met (unformatted d e f) s (fine_bad l q) = fine_down (omega arith)
+unmade-met : {told : Bool} {n g : ℕ} {G : List (List ℕ)} {b t : Store} → Unmade told n g G b t → (s : Store) → Fine true false s (Out Blank b) → Met s (Out Down t)
+unmade-met (unmade_blank d e i z) s (fine_blank l q) = fine_down (omega arith)
+unmade-met (unmade_whole d e i z) s (fine_blank l q) = fine_down (omega arith)
 
-bad-mid : {b : Store} (d : Cell) → b.faults ≤ d.faults → (s : Store) → Fine true false s (Out true b) → Mid s (In false d)
-bad-mid d m s (fine_bad l q) = fine_left (omega arith) (λ e. cc)
+made-met : {told : Bool} {g : ℕ} {G : List (List ℕ)} {b : Store} {c : Cell} → Makes told g G b c → (s : Store) → Fine true false s (Out Blank b) → Met s (In true c)
+made-met m s (fine_blank l q) = fine_live (omega (arith, m.faults))
 
-renews-met : {told : Bool} {size n i m : ℕ} {s : Says} {ss : List Store} {xs ys : List Seat} → Renews told size n i m xs s ys → is_done s ≡ true → Renewing i ss xs → Renewing (i + m) ss ys
+renews-met : {told : Bool} {g n i m : ℕ} {s : Says} {ss : List Store} {xs ys : List Seat} → Renews told g n i m xs s ys → is_done s ≡ true → Renewing i ss xs → Renewing (i + m) ss ys
 renews-met {i = i} {ss = ss} (renew_end {xs = xs}) e f = let q : i ≡ i + 0 = omega arith in subst (λ v. Renewing v ss xs) q f
 renews-met {ss = ss} (renew_next {i = i} {m = m} {xs = xs} {ys = ys} h p r) e f =
     let q : (i + 1) + m ≡ i + suc m = omega arith in let t : suc i ≡ i + 1 = omega arith in
-    subst (λ v. Renewing v ss ys) q (renews-met r e (subst (λ v. Renewing v ss xs) t (end {R = Met} (λ s x k. k) (begin h (not-bad-met p) f))))
-renews-met (renew_unraised h q) e f = cc
-renews-met {ss = ss} (renew_refused {i = i} {m = m} {zs = zs} {us = us} q u k r) e f =
+    subst (λ v. Renewing v ss ys) q (renews-met r e (subst (λ v. Renewing v ss xs) t (end {R = Met} (λ s x k. k) (begin h (not-blank-met p) f))))
+renews-met {ss = ss} (renew_made {i = i} {m = m} {zs = zs} {us = us} h c k r) e f =
     let o : (i + 1) + m ≡ i + suc m = omega arith in let t : suc i ≡ i + 1 = omega arith in
-    subst (λ v. Renewing v ss us) o (renews-met r e (subst (λ v. Renewing v ss zs) t (end {R = Met} (λ s x k. k) (only-begin k (bad-met u) (ready-met q f)))))
-renews-met {size} {n} {ss = ss} (renew_joins {i = i} {m = m} {b = b} {c = d} {us = us} {vs = vs} q z k c r) e f =
+    subst (λ v. Renewing v ss us) o (renews-met r e (subst (λ v. Renewing v ss zs) t (end {R = Met} (λ s x k. k) (only-begin k (made-met c) (fills-met h f)))))
+renews-met {ss = ss} (renew_left {i = i} {m = m} {zs = zs} {us = us} q h u k r) e f =
     let o : (i + 1) + m ≡ i + suc m = omega arith in let t : suc i ≡ i + 1 = omega arith in
-    subst (λ v. Renewing v ss vs) o (renews-met r e (subst (λ v. Renewing v ss us) t (end met-any (copies-met c refl (only-begin k (bad-mid d (omega (arith, z.faults))) (ready-met q f))))))
-renews-met (renew_gone q z k c) e f = cc
+    subst (λ v. Renewing v ss us) o (renews-met r e (subst (λ v. Renewing v ss zs) t (end {R = Met} (λ s x k. k) (only-begin k (unmade-met u) (fills-met h f)))))
+renews-met (renew_gone h b k) e f = cc
 
 -- at the start, and at the end
 started : {w : Image} {ss : List Store} {xs ys : List Seat} → Pairs Meets ss xs → Wins w xs ys → Pairs (Fine false false) ss ys
@@ -161,10 +159,12 @@ started (pairs_more (meets_good e) m) (wins_here q a) = pairs_more (fine_live (o
   all : {ss : List Store} {xs : List Seat} → Pairs Meets ss xs → Pairs (Fine false false) ss xs
   all pairs_none = pairs_none
   all (pairs_more (meets_good e) m) = pairs_more (fine_left (omega arith) (λ q. cc)) (all m)
-  all (pairs_more (meets_bad e) m) = pairs_more (fine_bad (omega arith) refl) (all m)
+  all (pairs_more (meets_blank e b) m) = pairs_more (fine_blank (omega arith) refl) (all m)
+  all (pairs_more (meets_bad e b) m) = pairs_more (fine_bad e b) (all m)
   all (pairs_more (meets_down a b f) m) = pairs_more (fine_down (omega arith)) (all m)
 started (pairs_more (meets_good e) m) (wins_later l h) = pairs_more (fine_left (omega arith) (λ q. cc)) (started m h)
-started (pairs_more (meets_bad e) m) (wins_out h) = pairs_more (fine_bad (omega arith) refl) (started m h)
+started (pairs_more (meets_blank e b) m) (wins_out h) = pairs_more (fine_blank (omega arith) refl) (started m h)
+started (pairs_more (meets_bad e b) m) (wins_out h) = pairs_more (fine_bad e b) (started m h)
 started (pairs_more (meets_down a b f) m) (wins_out h) = pairs_more (fine_down (omega arith)) (started m h)
 
 pub fines-length : {P Q : Store → Seat → Type 0} {ss : List Store} {xs : List Seat} (i : ℕ) → Fines P Q i ss xs → i ≡ length xs → Pairs P ss xs
@@ -183,11 +183,12 @@ fines-size (fines_more p h) = omega (arith, fines-size h)
 met-excused : (s : Store) (x : Seat) → Met s x → Excused s x
 met-excused s (In true c) h = excused_live
 met-excused s (In false c) (fine_left l f) = excused_left (f refl)
-met-excused s (Out true t) (fine_bad l e) = cc
-met-excused s (Out false t) (fine_down l) = excused_left l
+met-excused s (Out Blank t) (fine_blank l e) = cc
+met-excused s (Out Bad t) (fine_bad e b) = excused_bad e b
+met-excused s (Out Down t) (fine_down l) = excused_left l
 
--- after an opening that answers Ok each disk is live, or refused a call in it
-pub opens-excused : {told : Bool} {size n : ℕ} {owed : Bool} {ss : List Store} {xs us : List Seat} → Opens told size n xs (Good owed) us → Pairs Meets ss xs → Pairs Excused ss us
+-- after an opening that answers Ok each disk is live, or refused a call in it, or was found bad and is as it was
+pub opens-excused : {told : Bool} {n g : ℕ} {owed : Bool} {ss : List Store} {xs us : List Seat} → Opens told n xs (Good owed g) us → Pairs Meets ss xs → Pairs Excused ss us
 opens-excused {ss = ss} (open_good {ys = ys} {zs = zs} {us = us} h e r) m =
     let a = enters-met e refl (fines_rest (started m h)) in
     let la : length zs ≡ length ys = fines-size a ∙ sym (pairs-length (started m h)) in

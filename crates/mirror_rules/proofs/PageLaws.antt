@@ -1,8 +1,8 @@
 -- What a write, a raise and a flush do to pages, and whose fault a refusal is.
-use Rattle.std.proofs.Common.{◌≡◌, ℕ, ◌<◌, inl, inr, Bool, true, false, List, [], ◌∷◌, set, get_or, Some, refl, sym, ◌∙◌, ap, arith}
-use Rattle.mirror_rules.specs.Tree.{Image, Cell, Seat, In, Out}
+use Rattle.std.proofs.Common.{◌≡◌, ℕ, ◌<◌, inl, inr, Bool, true, false, List, [], set, get_or, Some, refl, sym, ◌∙◌, ap, arith}
+use Rattle.mirror_rules.specs.Tree.{Image, Cell, Seat}
 use Rattle.mirror_rules.specs.Claims.{Pairs, pairs_none, pairs_more, Every, every_none, every_more, Has, has_here, has_later, HasPages, pages_live, pages_left, pages_out, pages_in, Same, Keeps, keeps_out, keeps_left, keeps_live, keeps_lost, Writes, writes_out, writes_left, writes_taken, writes_lost, writes_none, KeptOf, kept_live, kept_left, kept_out, Rose, rose_live, rose_left, rose_out, KeepsPages, keeping_live, keeping_left, keeping_out}
-use Rattle.mirror_rules.specs.Steps.{Write, Raise, Flush, Says, Done, Fault, is_done, is_fault, write_taken, raise_taken, flush_taken, Refuses, refused, raise_unkept, raise_kept, flush_kept, Asked, asked_out, asked_stale, asked_took, asked_lost, asked_none, Looked, looked_out, looked_stale, looked_same, looked_refused, Named, named_here, named_later, Round, HasPage, page_live, Raised, raised_whole, raised_again, raised_none, Pays, pays_none, pays_raise, Flushes, flush_whole, flush_lost, flush_none, flush_unraised, Puts, put_whole, put_lost, put_refused}
+use Rattle.mirror_rules.specs.Steps.{Write, Raise, Flush, Says, Done, Fault, is_done, is_fault, write_taken, raise_taken, flush_taken, Refuses, refused, raise_unkept, raise_kept, flush_kept, Asked, asked_out, asked_stale, asked_took, asked_lost, asked_none, Looked, looked_out, looked_stale, looked_same, looked_refused, Named, named_here, named_later, Round, HasPage, page_live, Raised, raised_whole, raised_again, raised_none, Pays, pays_twice, pays_unraised, Flushes, flush_owed, flush_even, flush_lost, flush_none, Puts, put_whole, put_lost, put_refused}
 use Rattle.mirror_rules.proofs.RoundLaws.{pairs-map}
 
 -- one call after another, disk by disk
@@ -18,9 +18,6 @@ pub pairs-both : {A B : Type 0} {R S : A → B → Type 0} {P : A → Type 0} {x
 pairs-both f pairs_none every_none = pairs_none
 pairs-both f (pairs_more {x = x} {y = y} h i) (every_more p q) = pairs_more (f x y h p) (pairs-both f i q)
 
-same-refl : (c : Cell) → Same c c
-same-refl c = record { disk = refl; pages = refl; kept = inl refl; later = omega arith }
-
 same-then : {c d e : Cell} → Same c d → Same d e → Same c e
 same-then h i = record {
   disk = i.disk ∙ h.disk;
@@ -28,12 +25,6 @@ same-then h i = record {
   kept = elim i.kept [ inl q ↦ elim h.kept [ inl z ↦ inl (q ∙ z) | inr z ↦ inr (q ∙ z) ] | inr q ↦ inr (q ∙ ap (λ (v : List (List ℕ)). Some v) h.pages) ];
   later = omega (arith, h.later, i.later);
 }
-
-keeps-same : (xs : List Seat) → Pairs (Keeps false false) xs xs
-keeps-same [] = pairs_none
-keeps-same (In true c ∷ xs) = pairs_more (keeps_live (same-refl c) (λ e. cc) (λ e. cc)) (keeps-same xs)
-keeps-same (In false c ∷ xs) = pairs_more keeps_left (keeps-same xs)
-keeps-same (Out b s ∷ xs) = pairs_more keeps_out (keeps-same xs)
 
 keeps-then : {f g r : Bool} {x y z : Seat} → Keeps f false x y → Keeps g r y z → Keeps g r x z
 keeps-then keeps_out keeps_out = keeps_out
@@ -74,21 +65,20 @@ raise_round h = pairs-map (λ x y. raise-keeps) h.each
 pub flush_round : {s : Says} {xs ys : List Seat} → Round Flush xs s ys → Pairs (Keeps (is_done s) (is_fault s)) xs ys
 flush_round h = pairs-map (λ x y. flush-keeps) h.each
 
-pub raised_keeps : {s : Says} {xs ys : List Seat} → Raised xs s ys → Pairs (Keeps (is_done s) (is_fault s)) xs ys
+pub raised_keeps : {g h : ℕ} {s : Says} {xs ys : List Seat} → Raised g xs s h ys → Pairs (Keeps (is_done s) (is_fault s)) xs ys
 raised_keeps (raised_whole h) = raise_round h
 raised_keeps (raised_again h i) = onward (raise_round h) (raised_keeps i)
 raised_keeps (raised_none h) = raise_round h
 
--- before the round of flushes nothing or a raise was done
-pays-keeps : {o w : Bool} {xs ys : List Seat} → Pays o xs (Done w) ys → (f : Bool) × Pairs (Keeps f false) xs ys
-pays-keeps (pays_none {xs = xs}) = (false, keeps-same xs)
-pays-keeps (pays_raise h) = (true, raised_keeps h)
+pub pays_keeps : {g h : ℕ} {s : Says} {xs ys : List Seat} → Pays g xs s h ys → Pairs (Keeps (is_done s) (is_fault s)) xs ys
+pays_keeps (pays_twice h i) = onward (raised_keeps h) (raised_keeps i)
+pays_keeps (pays_unraised h) = raised_keeps h
 
-pub flush_keeps : {o q : Bool} {s : Says} {xs ys : List Seat} → Flushes o xs s q ys → Pairs (Keeps (is_done s) (is_fault s)) xs ys
-flush_keeps (flush_whole h i) = onward (pays-keeps h).1 (flush_round i)
-flush_keeps (flush_lost h i k) = onward (onward (pays-keeps h).1 (flush_round i)) (flush_keeps k)
-flush_keeps (flush_none h i) = onward (pays-keeps h).1 (flush_round i)
-flush_keeps (flush_unraised (pays_raise h)) = raised_keeps h
+pub flush_keeps : {o q : Bool} {g h : ℕ} {s : Says} {xs ys : List Seat} → Flushes o g xs s q h ys → Pairs (Keeps (is_done s) (is_fault s)) xs ys
+flush_keeps (flush_owed h) = pays_keeps h
+flush_keeps (flush_even h) = flush_round h
+flush_keeps (flush_lost h i) = onward (flush_round h) (pays_keeps i)
+flush_keeps (flush_none h) = flush_round h
 
 -- a raise and a flush keep the pages
 pub keeps-holds : {F : List (List ℕ)} {f r : Bool} {xs ys : List Seat} → Pairs (Keeps f r) xs ys → Every (HasPages F) xs → Every (HasPages F) ys
@@ -100,7 +90,7 @@ keeps-holds h i = pairs-every (λ x y. one) h i where
   one (keeps_lost h a) p = pages_left
 
 -- the kept pages of each disk that is live then are those before, or the ground's at the start
-pub flush-kept : {F : List (List ℕ)} {o q : Bool} {s : Says} {xs ys : List Seat} → Flushes o xs s q ys → Every (HasPages F) xs → Pairs (KeptOf F) xs ys
+pub flush-kept : {F : List (List ℕ)} {o q : Bool} {g h : ℕ} {s : Says} {xs ys : List Seat} → Flushes o g xs s q h ys → Every (HasPages F) xs → Pairs (KeptOf F) xs ys
 flush-kept h i = pairs-both (λ x y. one) (flush_keeps h) i where
   one : {F : List (List ℕ)} {f r : Bool} {x y : Seat} → Keeps f r x y → HasPages F x → KeptOf F x y
   one keeps_out p = kept_out
@@ -109,7 +99,7 @@ flush-kept h i = pairs-both (λ x y. one) (flush_keeps h) i where
   one (keeps_lost h a) p = kept_left
 
 -- a flush that answers Ok leaves the kept pages of each live disk at the ground's
-pub flush-done : {F : List (List ℕ)} {o q w : Bool} {xs ys : List Seat} → Flushes o xs (Done w) q ys → Every (HasPages F) xs → Every (KeepsPages F) ys
+pub flush-done : {F : List (List ℕ)} {o q w : Bool} {g h : ℕ} {xs ys : List Seat} → Flushes o g xs (Done w) q h ys → Every (HasPages F) xs → Every (KeepsPages F) ys
 flush-done h i = pairs-every (λ x y. one) (flush_keeps h) i where
   one : {F : List (List ℕ)} {r : Bool} {x y : Seat} → Keeps true r x y → HasPages F x → KeepsPages F y
   one keeps_out p = keeping_out
@@ -170,19 +160,23 @@ named-before pairs_none k = elim k [ ]
 named-before (pairs_more (keeps_live h a b) i) (named_here p q r) = named_here (sym h.disk ∙ p) (omega (arith, h.later)) r
 named-before (pairs_more h i) (named_later k) = named_later (named-before i k)
 
-pub raised-names : {s : Says} {d n : ℕ} {xs ys : List Seat} → Raised xs s ys → s ≡ Fault d n → Named d n xs ys
+pub raised-names : {g h : ℕ} {s : Says} {d n : ℕ} {xs ys : List Seat} → Raised g xs s h ys → s ≡ Fault d n → Named d n xs ys
 raised-names (raised_whole h) e = cc
 raised-names (raised_again h i) e = named-before (raise_round h) (raised-names i e)
-raised-names {d = d} {n = n} (raised_none {xs = xs} {ys = ys} {d = e} {n = m} h) k = let a : e ≡ d = cc in let b : m ≡ n = cc in rw (← a, ← b) h.answer
+raised-names {d = d} {n = n} (raised_none {d = e} {n = m} h) k = let a : e ≡ d = cc in let b : m ≡ n = cc in rw (← a, ← b) h.answer
 
-pub flush-names : {o q : Bool} {s : Says} {d n : ℕ} {xs ys : List Seat} → Flushes o xs s q ys → s ≡ Fault d n → Named d n xs ys
-flush-names (flush_whole h i) e = cc
-flush-names (flush_lost h i k) e = named-before (onward (pays-keeps h).1 (flush_round i)) (flush-names k e)
-flush-names {d = d} {n = n} (flush_none {d = e} {n = m} h i) k = let a : e ≡ d = cc in let b : m ≡ n = cc in rw (← a, ← b) (named-before (pays-keeps h).1 i.answer)
-flush-names (flush_unraised (pays_raise h)) e = raised-names h e
+pub pays-names : {g h : ℕ} {s : Says} {d n : ℕ} {xs ys : List Seat} → Pays g xs s h ys → s ≡ Fault d n → Named d n xs ys
+pays-names (pays_twice h i) e = named-before (raised_keeps h) (raised-names i e)
+pays-names (pays_unraised h) e = raised-names h e
+
+pub flush-names : {o q : Bool} {g h : ℕ} {s : Says} {d n : ℕ} {xs ys : List Seat} → Flushes o g xs s q h ys → s ≡ Fault d n → Named d n xs ys
+flush-names (flush_owed h) e = pays-names h e
+flush-names (flush_even h) e = cc
+flush-names (flush_lost h i) e = named-before (flush_round h) (pays-names i e)
+flush-names {d = d} {n = n} (flush_none {d = e} {n = m} h) k = let a : e ≡ d = cc in let b : m ≡ n = cc in rw (← a, ← b) h.answer
 
 -- a refused call names a live disk, and each live disk's count rose
-pub flush-rose : {o q : Bool} {d n : ℕ} {xs ys : List Seat} → Flushes o xs (Fault d n) q ys → Pairs Rose xs ys
+pub flush-rose : {o q : Bool} {g h d n : ℕ} {xs ys : List Seat} → Flushes o g xs (Fault d n) q h ys → Pairs Rose xs ys
 flush-rose h = pairs-map (λ x y. one) (flush_keeps h) where
   one : {x y : Seat} → Keeps false true x y → Rose x y
   one keeps_out = rose_out

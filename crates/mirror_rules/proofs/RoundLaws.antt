@@ -1,10 +1,10 @@
 -- The one induction over the tree: what a round and a read do to the disks in a row.
-use Rattle.std.proofs.Common.{◌≡◌, ℕ, ◌+◌, ◌<◌, ◌≤◌, Bool, true, false, ◌&&◌, ◌||◌, List, [], ◌∷◌, ◌++◌, map, refl, sym, ◌∙◌, ap, subst, arith, max, ◌⊎◌, inl, inr}
+use Rattle.std.proofs.Common.{◌≡◌, ℕ, ◌+◌, ◌<◌, ◌≤◌, Bool, true, false, ◌&&◌, ◌||◌, List, [], ◌∷◌, ◌++◌, map, refl, sym, ◌∙◌, ap, subst, arith, ◌⊎◌, inl, inr}
 use Rattle.std.proofs.lemmas.List.{map-append}
 use Rattle.std.proofs.lemmas.Bool.{or_left, or_right}
-use Rattle.mirror_rules.specs.Tree.{Cell, Seat, In, Out, Tree, Leaf, Coherent, Mirror, seats, is_live, stale, left_out, lives, top}
+use Rattle.mirror_rules.specs.Tree.{Cell, Seat, In, Out, Tree, Leaf, Coherent, Mirror, seats, is_live, stale, left_out, lives}
 use Rattle.mirror_rules.specs.Claims.{Pairs, pairs_none, pairs_more, Has, has_here, has_later, live_in, IsLive}
-use Rattle.mirror_rules.specs.Steps.{Act, Says, Done, Fault, Refuses, refused, raise_unkept, raise_kept, flush_kept, Passes, pass_taken, pass_refused, pass_below, pass_both, pass_left, pass_right, pass_none, pass_left_only, pass_right_only, Reads, read_taken, read_refused, read_below, read_left, read_right, read_left_only, read_right_only, Asked, asked_out, asked_stale, asked_took, asked_lost, asked_none, Looked, looked_out, looked_stale, looked_same, looked_refused, Named, named_here, named_later, Answer, Round, page_live, Found, Look, is_done, Raised, raised_whole, raised_again, raised_none, Pays, pays_none, pays_raise}
+use Rattle.mirror_rules.specs.Steps.{Act, Says, Done, Fault, Refuses, refused, raise_unkept, raise_kept, flush_kept, Passes, pass_taken, pass_refused, pass_below, pass_both, pass_left, pass_right, pass_none, pass_left_only, pass_right_only, Reads, read_taken, read_refused, read_below, read_left, read_right, read_left_only, read_right_only, Asked, asked_out, asked_stale, asked_took, asked_lost, asked_none, Looked, looked_out, looked_stale, looked_same, looked_refused, Named, named_here, named_later, Answer, Round, page_live, Found, Look, is_done, Raised, raised_whole, raised_again, raised_none}
 
 pub pairs-append : {A B : Type 0} {R : A → B → Type 0} {xs zs : List A} {ys us : List B} → Pairs R xs ys → Pairs R zs us → Pairs R (xs ++ zs) (ys ++ us)
 pairs-append pairs_none k = k
@@ -211,12 +211,6 @@ reads-found {p} {x} (read_right_only {l = l} {r = r} {n = n} {s = s} e h) = foun
 pub reads-look : {p : ℕ} {x : List ℕ} {t u : Tree} {s : Says} → Reads p x t s u → Look p x (seats t) s (seats u)
 reads-look h = record { each = reads-each h; found = reads-found h }
 
--- the top of two rows
-pub top_append : (xs ys : List Seat) → top (xs ++ ys) ≡ max (top xs) (top ys)
-top_append [] ys = omega arith
-top_append (In b c ∷ xs) ys = omega (arith, top_append xs ys)
-top_append (Out b s ∷ xs) ys = top_append xs ys
-
 -- a side is live where a disk of it is
 pub has-split : {A : Type 0} {P : A → Type 0} (xs ys : List A) → Has P (xs ++ ys) → Has P xs ⊎ Has P ys
 has-split [] ys h = inr h
@@ -232,7 +226,7 @@ live-tree (Leaf (Out b s)) (has_later k) = elim k [ ]
 live-tree (Coherent t) h = live-tree t h
 live-tree (Mirror l r) h = elim (has-split (seats l) (seats r) h) [ inl k ↦ or_left (is_live l) (is_live r) (live-tree l k) | inr k ↦ or_right (is_live l) (is_live r) (live-tree r k) ]
 
-or-cases : (a b : Bool) → (a || b) ≡ true → (a ≡ true) ⊎ (b ≡ true)
+pub or-cases : (a b : Bool) → (a || b) ≡ true → (a ≡ true) ⊎ (b ≡ true)
 or-cases true b e = inl refl
 or-cases false b e = inr e
 
@@ -244,21 +238,13 @@ live-seats (Coherent t) h = live-seats t h
 live-seats (Mirror l r) h = elim (or-cases (is_live l) (is_live r) h) [ inl e ↦ has-left (seats r) (live-seats l e) | inr e ↦ has-right (seats l) (live-seats r e) ]
 
 -- a raise that was taken leaves a live disk
-pub raised-live : {s : Says} {xs ys : List Seat} → Raised xs s ys → is_done s ≡ true → Has IsLive ys
+pub raised-live : {g h : ℕ} {s : Says} {xs ys : List Seat} → Raised g xs s h ys → is_done s ≡ true → Has IsLive ys
 raised-live (raised_whole h) e = h.answer.0
 raised-live (raised_again h i) e = raised-live i e
 raised-live (raised_none h) e = cc
 
-pub pays-live : {o : Bool} {s : Says} {xs ys : List Seat} → Pays o xs s ys → is_done s ≡ true → Has IsLive xs → Has IsLive ys
-pays-live pays_none e h = h
-pays-live (pays_raise r) e h = raised-live r e
-
--- the measure of the loops: the live disks never get more
-pub raised-lives : {s : Says} {xs ys : List Seat} → Raised xs s ys → lives ys ≤ lives xs
+-- the measure of the loop: the live disks never get more
+pub raised-lives : {g h : ℕ} {s : Says} {xs ys : List Seat} → Raised g xs s h ys → lives ys ≤ lives xs
 raised-lives (raised_whole h) = asked-lives h.each
 raised-lives (raised_again h i) = omega (arith, asked-lives h.each, raised-lives i)
 raised-lives (raised_none h) = asked-lives h.each
-
-pub pays-lives : {o : Bool} {s : Says} {xs ys : List Seat} → Pays o xs s ys → lives ys ≤ lives xs
-pays-lives pays_none = omega arith
-pays-lives (pays_raise r) = raised-lives r

@@ -1,6 +1,6 @@
 -- What is said of the disks of a row.
-use Rattle.std.specs.Prelude.{◌≡◌, ℕ, zero, suc, min, ◌+◌, ◌<◌, ◌≤◌, ◌⊎◌, Bool, true, false, List, [], ◌∷◌, set, Option, Some, None}
-use Rattle.mirror_rules.specs.Tree.{Image, Cell, Store, Seat, In, Out, top, limit}
+use Rattle.std.specs.Prelude.{◌≡◌, ℕ, zero, suc, ◌<◌, ◌≤◌, ◌⊎◌, Bool, true, false, List, [], ◌∷◌, set, Option, Some, None}
+use Rattle.mirror_rules.specs.Tree.{Image, Cell, Store, Why, Seat, In, Out}
 
 -- R of each element of a row and the one at its place in another
 pub data Pairs {A B : Type 0} (R : A → B → Type 0) : List A → List B → Type 0 where
@@ -29,17 +29,7 @@ pub data IsLive : Seat → Type 0 where
 pub data HasPages (F : List (List ℕ)) : Seat → Type 0 where
   pages_live : {c : Cell} → c.now.pages ≡ F → HasPages F (In true c)
   pages_left : {c : Cell} → HasPages F (In false c)
-  pages_out : {b : Bool} {s : Store} → HasPages F (Out b s)
-
--- each live disk has the generation g, and each opened other is below it, or g is the limit
-pub data HasLevel (g : ℕ) : Seat → Type 0 where
-  level_live : {c : Cell} → c.now.generation ≡ g → HasLevel g (In true c)
-  level_left : {c : Cell} → min (c.now.generation + 1) limit ≤ g → HasLevel g (In false c)
-  level_out : {b : Bool} {s : Store} → HasLevel g (Out b s)
-
--- where nothing is owed, each live disk is at the top, and each opened other is below it
-abbrev pub Even : Bool → List Seat → Type 0
-Even owed xs = owed ≡ false → Every (HasLevel (top xs)) xs
+  pages_out : {b : Why} {s : Store} → HasPages F (Out b s)
 
 -- the pages of an image that may be
 abbrev pub pages_in : Option Image → Option (List (List ℕ))
@@ -55,14 +45,14 @@ pub record Same (c d : Cell) : Type 0 where
 
 -- a disk in a raise or a flush, from its start to its end; `flushed` where that was taken, `failed` where it was refused
 pub data Keeps (flushed failed : Bool) : Seat → Seat → Type 0 where
-  keeps_out : {b : Bool} {s : Store} → Keeps flushed failed (Out b s) (Out b s)
+  keeps_out : {b : Why} {s : Store} → Keeps flushed failed (Out b s) (Out b s)
   keeps_left : {c : Cell} → Keeps flushed failed (In false c) (In false c)
   keeps_live : {c d : Cell} → Same c d → (flushed ≡ true → d.kept ≡ Some d.now) → (failed ≡ true → c.faults < d.faults) → Keeps flushed failed (In true c) (In true d)
   keeps_lost : {c d : Cell} → Same c d → c.faults < d.faults → Keeps flushed failed (In true c) (In false d)
 
 -- a disk in a write
 pub data Writes (p : ℕ) (x : List ℕ) (taken : Bool) : Seat → Seat → Type 0 where
-  writes_out : {b : Bool} {s : Store} → Writes p x taken (Out b s) (Out b s)
+  writes_out : {b : Why} {s : Store} → Writes p x taken (Out b s) (Out b s)
   writes_left : {c : Cell} → Writes p x taken (In false c) (In false c)
   writes_taken : {c d : Cell} → d.now.generation ≡ c.now.generation → d.now.pages ≡ set c.now.pages p x → d.kept ≡ c.kept → taken ≡ true → d.faults ≡ c.faults → Writes p x taken (In true c) (In true d)
   writes_lost : {c d : Cell} → d.now ≡ c.now → d.kept ≡ c.kept → taken ≡ true → c.faults < d.faults → Writes p x taken (In true c) (In false d)
@@ -72,27 +62,21 @@ pub data Writes (p : ℕ) (x : List ℕ) (taken : Bool) : Seat → Seat → Type
 pub data KeptOf (F : List (List ℕ)) : Seat → Seat → Type 0 where
   kept_live : {c d : Cell} → (pages_in d.kept ≡ pages_in c.kept) ⊎ (pages_in d.kept ≡ Some F) → KeptOf F (In true c) (In true d)
   kept_left : {x : Seat} {d : Cell} → KeptOf F x (In false d)
-  kept_out : {x : Seat} {b : Bool} {s : Store} → KeptOf F x (Out b s)
+  kept_out : {x : Seat} {b : Why} {s : Store} → KeptOf F x (Out b s)
 
 -- each live disk keeps these pages
 pub data KeepsPages (F : List (List ℕ)) : Seat → Type 0 where
   keeping_live : {c : Cell} → pages_in c.kept ≡ Some F → KeepsPages F (In true c)
   keeping_left : {c : Cell} → KeepsPages F (In false c)
-  keeping_out : {b : Bool} {s : Store} → KeepsPages F (Out b s)
-
--- a disk that keeps its generation, and stays live where it is
-pub data Calm : Seat → Seat → Type 0 where
-  calm_out : {b : Bool} {s : Store} → Calm (Out b s) (Out b s)
-  calm_left : {c : Cell} → Calm (In false c) (In false c)
-  calm_live : {c d : Cell} → d.now.generation ≡ c.now.generation → Calm (In true c) (In true d)
+  keeping_out : {b : Why} {s : Store} → KeepsPages F (Out b s)
 
 -- opened stays opened, and what is not stays as it is
 pub data Kind : Seat → Seat → Type 0 where
   kind_in : {a b : Bool} {c d : Cell} → Kind (In a c) (In b d)
-  kind_out : {b : Bool} {s : Store} → Kind (Out b s) (Out b s)
+  kind_out : {b : Why} {s : Store} → Kind (Out b s) (Out b s)
 
 -- each live disk's count rose
 pub data Rose : Seat → Seat → Type 0 where
   rose_live : {b : Bool} {c d : Cell} → c.faults < d.faults → Rose (In true c) (In b d)
   rose_left : {c : Cell} → Rose (In false c) (In false c)
-  rose_out : {b : Bool} {s : Store} → Rose (Out b s) (Out b s)
+  rose_out : {b : Why} {s : Store} → Rose (Out b s) (Out b s)

@@ -1,6 +1,6 @@
 -- The calls of a ground as rules: each rule is one outcome of the stores.
 use Rattle.std.specs.Prelude.{◌≡◌, ℕ, ◌<◌, ◌≤◌, Bool, true, false, ◌&&◌, List, [], ◌∷◌, set, get_or, Some}
-use Rattle.mirror_rules.specs.Tree.{Cell, Store, Seat, In, Out, Tree, Leaf, Coherent, Mirror, is_live, stale, next, lives}
+use Rattle.mirror_rules.specs.Tree.{Cell, Store, Why, Seat, In, Out, Tree, Leaf, Coherent, Mirror, is_live, stale, next, lives}
 use Rattle.mirror_rules.specs.Claims.{Pairs, Has, IsLive}
 
 pub data Act : Type 0 where
@@ -72,7 +72,7 @@ pub data Reads (p : ℕ) (x : List ℕ) : Tree → Says → Tree → Type 0 wher
 
 -- the same of disks in a row: a disk in a round, before and after
 pub data Asked (a : Act) : Says → Seat → Seat → Type 0 where
-  asked_out : {s : Says} {b : Bool} {t : Store} → Asked a s (Out b t) (Out b t)
+  asked_out : {s : Says} {b : Why} {t : Store} → Asked a s (Out b t) (Out b t)
   asked_stale : {s : Says} {c : Cell} → Asked a s (In false c) (In false c)
   asked_took : {w : Bool} {c d : Cell} → Takes a c d → Asked a (Done w) (In true c) (In true d)
   asked_lost : {c d : Cell} → Refuses a c d → Asked a (Done false) (In true c) (In false d)
@@ -80,7 +80,7 @@ pub data Asked (a : Act) : Says → Seat → Seat → Type 0 where
 
 -- a disk in a read
 pub data Looked (s : Says) : Seat → Seat → Type 0 where
-  looked_out : {b : Bool} {t : Store} → Looked s (Out b t) (Out b t)
+  looked_out : {b : Why} {t : Store} → Looked s (Out b t) (Out b t)
   looked_stale : {c : Cell} → Looked s (In false c) (In false c)
   looked_same : {c : Cell} → (s ≡ Done true) → Looked s (In true c) (In true c)
   looked_refused : {c : Cell} {n : ℕ} → c.faults < n → Looked s (In true c) (In true (faulted n c))
@@ -110,26 +110,52 @@ pub record Look (p : ℕ) (x : List ℕ) (xs : List Seat) (s : Says) (ys : List 
   pub each : Pairs (Looked s) xs ys
   pub found : Found p x s xs ys
 
--- a raise: rounds of the next generation until one makes no side stale
-pub data Raised : List Seat → Says → List Seat → Type 0 where
-  raised_whole : {xs ys : List Seat} → Round (Raise (next xs)) xs (Done true) ys → Raised xs (Done true) ys
-  raised_again : {xs ys zs : List Seat} {s : Says} → Round (Raise (next xs)) xs (Done false) ys → Raised ys s zs → Raised xs s zs
-  raised_none : {xs ys : List Seat} {d n : ℕ} → Round (Raise (next xs)) xs (Fault d n) ys → Raised xs (Fault d n) ys
+-- rounds of raises until one makes no side stale. Each round writes one more than the ground's generation, which is that of the
+-- last round that was taken: a refused round leaves it, whatever stands on the disks
+pub data Raised : ℕ → List Seat → Says → ℕ → List Seat → Type 0 where
+  raised_whole : {g : ℕ} {xs ys : List Seat} → Round (Raise (next g)) xs (Done true) ys → Raised g xs (Done true) (next g) ys
+  raised_again : {g h : ℕ} {xs ys zs : List Seat} {s : Says} → Round (Raise (next g)) xs (Done false) ys → Raised (next g) ys s h zs → Raised g xs s h zs
+  raised_none : {g : ℕ} {xs ys : List Seat} {d n : ℕ} → Round (Raise (next g)) xs (Fault d n) ys → Raised g xs (Fault d n) g ys
 
--- a raise that is owed comes first
-pub data Pays : Bool → List Seat → Says → List Seat → Type 0 where
-  pays_none : {xs : List Seat} → Pays false xs (Done true) xs
-  pays_raise : {xs ys : List Seat} {s : Says} → Raised xs s ys → Pays true xs s ys
+-- what is owed is paid: rounds of raises until two of them made no side stale. After one a disk that refused it, or was not asked
+-- before the program was stopped, may have the number of the live disks; after two it is below them
+pub data Pays : ℕ → List Seat → Says → ℕ → List Seat → Type 0 where
+  pays_twice : {g h k : ℕ} {xs ys zs : List Seat} {s : Says} → Raised g xs (Done true) h ys → Raised h ys s k zs → Pays g xs s k zs
+  pays_unraised : {g h : ℕ} {xs ys : List Seat} {d n : ℕ} → Raised g xs (Fault d n) h ys → Pays g xs (Fault d n) h ys
 
--- a flush, from disks with a raise owed or not to such
-pub data Flushes : Bool → List Seat → Says → Bool → List Seat → Type 0 where
-  flush_whole : {o : Bool} {xs ys zs : List Seat} → Pays o xs (Done true) ys → Round Flush ys (Done true) zs → Flushes o xs (Done true) false zs
-  flush_lost : {o q : Bool} {xs ys zs us : List Seat} {s : Says} → Pays o xs (Done true) ys → Round Flush ys (Done false) zs → Flushes true zs s q us → Flushes o xs s q us
-  flush_none : {o : Bool} {xs ys zs : List Seat} {d n : ℕ} → Pays o xs (Done true) ys → Round Flush ys (Fault d n) zs → Flushes o xs (Fault d n) o zs
-  flush_unraised : {o : Bool} {xs ys : List Seat} {d n : ℕ} → Pays o xs (Fault d n) ys → Flushes o xs (Fault d n) o ys
+-- a flush, from disks with a raise owed or not to such, and from a generation to one. A raise flushes, so a flush that pays has
+-- no round of flushes of its own behind it
+pub data Flushes : Bool → ℕ → List Seat → Says → Bool → ℕ → List Seat → Type 0 where
+  flush_owed : {g h : ℕ} {xs ys : List Seat} {s : Says} → Pays g xs s h ys → Flushes true g xs s (is_fault s) h ys
+  flush_even : {g : ℕ} {xs ys : List Seat} → Round Flush xs (Done true) ys → Flushes false g xs (Done true) false g ys
+  flush_lost : {g h : ℕ} {xs ys zs : List Seat} {s : Says} → Round Flush xs (Done false) ys → Pays g ys s h zs → Flushes false g xs s (is_fault s) h zs
+  flush_none : {g : ℕ} {xs ys : List Seat} {d n : ℕ} → Round Flush xs (Fault d n) ys → Flushes false g xs (Fault d n) false g ys
 
--- a write is one round; where it made a side stale, a raise is owed
+-- a write is one round; if it made a side stale, a raise is owed
 pub data Puts (p : ℕ) (x : List ℕ) : Bool → List Seat → Says → Bool → List Seat → Type 0 where
   put_whole : {o : Bool} {xs ys : List Seat} → Round (Write p x) xs (Done true) ys → Puts p x o xs (Done true) o ys
   put_lost : {o : Bool} {xs ys : List Seat} → Round (Write p x) xs (Done false) ys → Puts p x o xs (Done false) true ys
   put_refused : {o : Bool} {xs ys : List Seat} {d n : ℕ} → Round (Write p x) xs (Fault d n) ys → Puts p x o xs (Fault d n) o ys
+
+-- a live disk in a call that was stopped: it was not asked yet, or is as the call leaves it, taken or refused
+pub data Cut (a : Act) : Cell → Cell → Type 0 where
+  cut_before : {c : Cell} → Cut a c c
+  cut_taken : {c d : Cell} → Takes a c d → Cut a c d
+  cut_refused : {c d : Cell} → Refuses a c d → Cut a c d
+
+-- a disk in a round that was stopped; a live one may be left out by then
+pub data Halted (a : Act) : Seat → Seat → Type 0 where
+  halted_out : {b : Why} {t : Store} → Halted a (Out b t) (Out b t)
+  halted_stale : {c : Cell} → Halted a (In false c) (In false c)
+  halted_live : {b : Bool} {c d : Cell} → Cut a c d → Halted a (In true c) (In b d)
+
+-- rounds of raises, the last of which was stopped
+pub data RaiseStops : ℕ → List Seat → ℕ → List Seat → Type 0 where
+  stops_here : {g : ℕ} {xs ys : List Seat} → Pairs (Halted (Raise (next g))) xs ys → RaiseStops g xs g ys
+  stops_later : {g h : ℕ} {w : Bool} {xs ys zs : List Seat} → Round (Raise (next g)) xs (Done w) ys → RaiseStops (next g) ys h zs → RaiseStops g xs h zs
+
+-- a flush that was stopped
+pub data FlushStops : Bool → ℕ → List Seat → ℕ → List Seat → Type 0 where
+  stops_owed : {g h : ℕ} {xs ys : List Seat} → RaiseStops g xs h ys → FlushStops true g xs h ys
+  stops_even : {g : ℕ} {xs ys : List Seat} → Pairs (Halted Flush) xs ys → FlushStops false g xs g ys
+  stops_lost : {g h : ℕ} {xs ys zs : List Seat} → Round Flush xs (Done false) ys → RaiseStops g ys h zs → FlushStops false g xs h zs

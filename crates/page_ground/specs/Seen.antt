@@ -19,13 +19,16 @@ pub record DiskSeen : Type 0 where
   pub faults : ℕ
   pub opened : ℕ
 
--- the pages of a file, and the disks that hold them
+-- the pages of a file, their generation, and the disks that hold them
 pub record Seen : Type 0 where
   -- the bytes of a page, and how many pages there are
   pub page_size : ℕ
   pub number : ℕ
   -- the pages, if they are told
   pub pages : Option (List (List ℕ))
+  -- the ground's generation, and the one that it has at least once all that it owes is paid
+  pub generation : ℕ
+  pub due : ℕ
   pub disks : List DiskSeen
 
 -- what disk `n` kept, if that is told
@@ -86,10 +89,11 @@ abbrev pub AreBehind : (List (List ℕ) → Type 0) → Seen → Type 0
 AreBehind P seen = (disk other : ℕ) (i j : Imaged) → Contains (live_in seen.disks) disk → is_up_in seen.disks other ≡ true → held_in seen.disks disk ≡ Some i → held_in seen.disks other ≡ Some j
     → P j.pages ⊎ (j.generation < i.generation) ⊎ (2 ^ 63 ≤ i.generation + 1)
 
--- each live disk kept these pages, and what has others is behind
+-- each live disk kept these pages, what has others is behind, and what was due is paid
 pub record AllKept (seen : Seen) (pages : Option (List (List ℕ))) : Type 0 where
   pub kept : (d : ℕ) → Contains (live_in seen.disks) d → KeptAt (kept_in seen.disks d) pages
   pub behind : AreBehind (Are pages) seen
+  pub paid : seen.due ≤ seen.generation
 
 -- an image becomes one of no lower generation, with the ground's pages as they are at the call's start or at its end
 pub record Turns (before after : Option (List (List ℕ))) (held holds : Option Imaged) : Type 0 where
@@ -121,6 +125,11 @@ pub record Keeps (before after : Seen) : Type 0 where
   pub later : (d : ℕ) → faults_in before.disks d ≤ faults_in after.disks d
   pub same_opened : (d : ℕ) → opened_in after.disks d ≡ opened_in before.disks d
   pub since : (d : ℕ) → opened_in before.disks d ≤ faults_in before.disks d
+  -- what was not opened holds what it held
+  pub aside : (d : ℕ) → is_up_in before.disks d ≡ false → held_in after.disks d ≡ held_in before.disks d
+  -- neither the generation falls, nor the one that is due
+  pub level : before.generation ≤ after.generation
+  pub due : before.due ≤ after.due
 
 -- A call that did what it was asked: on a disk that is still live no fault happened in it.
 pub record IsCalm (before after : Seen) : Type 0 where

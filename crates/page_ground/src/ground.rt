@@ -8,8 +8,9 @@ use crate::fault::StoreFault;
 /// The pages of a file on one or more disks.
 ///
 /// It tells contracts its page size and its number of pages, the pages, what each disk kept at its last flush, which
-/// disks are live, and each disk's counts of faults. A call fails only if every live disk failed in it, and does what it
-/// is asked only if some live disk did not. No call takes memory.
+/// disks are live, and each disk's counts of faults; and its generation, and the one that it has at least once all that it
+/// owes is paid. No call lowers these two. A call fails only if every live disk failed in it, and does what it is asked only
+/// if some live disk did not. No call takes memory.
 pub trait Ground: Send {
     /// The pages, and the disks that hold them.
     ghost seen: { Self → Seen };
@@ -34,7 +35,7 @@ pub trait Ground: Send {
         ensures calm { OnOk result (IsCalm (seen self.old) (seen self.new)) }
         ensures fault { IfErr result (IsFault (seen self.old) (seen self.new)) };
 
-    /// Keeps every page on each live disk.
+    /// Keeps every page on each live disk, and pays what is due.
     fn flush(&mut self) -> Result<(), StoreFault>
         ensures same { (seen self.new).pages ≡ (seen self.old).pages }
         ensures ok { OnOk result (AllKept (seen self.new) (seen self.new).pages) }

@@ -85,6 +85,12 @@ module _ (mount : Mount) (file : ℕ) (before after : Seen) (e0 e1 : EngineSeen)
   disks-later = subst (λ (l : List Logged). AreLater l before after) log-is
       (subst (λ (g : Seen). AreLater run.later.more g after) run.opens.ground_is (subst (λ (g : Seen). AreLater run.later.more e0.ground g) (sym run.ground) run.later.disks))
 
+  -- if a sync was completed, what was due at the opening is paid
+  pub lifts-of : (from : ℕ) → last_from (events_in e1) ≡ Some from → before.due ≤ after.generation
+  lifts-of from last =
+      subst (λ (g : Seen). g.due ≤ after.generation) run.opens.ground_is
+      (subst (λ (g : Seen). e0.ground.due ≤ g.generation) (sym run.ground) (run.later.lifts from (ap (λ (l : List Logged). last_from (trail_of l)) run.opens.no_log) last))
+
   -- the notes count each disk's faults since it was opened
   pub rises-of : (disk : ℕ) → Rises (opened_in before.disks disk) (faults_in after.disks disk) (counts_of disk (log_in e1))
   rises-of disk = subst (λ n. Rises n (faults_in after.disks disk) (counts_of disk (log_in e1))) (disks-later.opened disk)

@@ -1,6 +1,6 @@
 -- The pages of disks in mirrors that were opened are those of an image on one of their stores, so they have the file's size.
-use Rattle.std.proofs.Common.{◌≡◌, ℕ, Bool, true, List, [], ◌∷◌, ◌++◌, Option, Some, None, IfSome, refl, sym, ap, subst, ◌∙◌}
-use Rattle.std.specs.Prelude.{is_some, slice_get, IsSome}
+use Rattle.std.proofs.Common.{◌≡◌, ℕ, Bool, true, false, List, [], ◌∷◌, ◌++◌, Option, Some, None, IfSome, refl, sym, ap, subst, ◌∙◌}
+use Rattle.std.specs.Prelude.{IsSome}
 use Rattle.std.specs.Option.{option_map}
 use Rattle.stack_accept.specs.Mount.{Mount}
 use Rattle.spr_io.specs.Content.{Content, IsShaped}
@@ -12,9 +12,11 @@ use Rattle.disk_format.proofs.MapLaws.{sizes-all}
 use Rattle.mirror_rules.specs.Tree.{Image, Seat, In, Out, Tree, Leaf, Coherent, Mirror, seats}
 use Rattle.mirror_rules.specs.Tree as machine
 use Rattle.mirror_rules.specs.Claims.{Pairs, pairs_none, pairs_more, Every, every_none, every_more, Has}
-use Rattle.mirror_rules.specs.Opening.{DownedTree, Gives, Meets, downed, downed_below, downed_leaf, downed_mirror, downed_not, gives_below, gives_image, gives_left, gives_left_alone, gives_right, gives_right_alone, meets_bad, meets_down, meets_good}
+use Rattle.mirror_rules.specs.Opening.{DownedTree, Gives, Meets, downed, downed_below, downed_leaf, downed_mirror, downed_not, gives_below, gives_image, gives_left, gives_left_alone, gives_right, gives_right_alone, meets_bad, meets_blank, meets_down, meets_good}
 use Rattle.mirror_layer.specs.View.{Beside, as_image}
-use Rattle.mirror_layer.specs.Stores.{Finds}
+use Rattle.mirror_layer.specs.Calls.{all_told}
+use Rattle.mirror_layer.specs.Ground.{pages_told}
+use Rattle.mirror_layer.specs.Stores.{Stored, stored}
 use Rattle.mirror_layer.specs.Bringing.{Brought, Lies, brought, lies}
 use Rattle.file_stores.specs.Keys.{EachAt}
 use Rattle.file_stores.specs.Held.{StoreSeen}
@@ -25,7 +27,7 @@ use Rattle.run_files.proofs.PageLaws.{ArePaged, image-paged}
 -- a good disk has such pages
 data Paged (Q : List (List ℕ) → Type 0) : Seat → Type 0 where
   paged_in : {b : Bool} {c : machine.Cell} → Q c.now.pages → Paged Q (In b c)
-  paged_out : {b : Bool} {s : machine.Store} → Paged Q (Out b s)
+  paged_out : {b : machine.Why} {s : machine.Store} → Paged Q (Out b s)
 
 every-first : {P : Seat → Type 0} (xs ys : List Seat) → Every P (xs ++ ys) → Every P xs
 every-first [] ys h = every_none
@@ -72,7 +74,8 @@ row-paged : (mount : Mount) (shape : ImageShape) {stores : List StoreSeen} {ns :
 row-paged mount shape shaped told pairs_none pairs_none = every_none
 row-paged mount shape shaped told (pairs_more {x = n} (brought {t} p f) h) (pairs_more (meets_good {s = s} {i = i} e) m) =
     every_more (paged_in (image-of mount shape t.state.content i s.image (shaped n t (nth-get p)) (told n t (nth-get p)) e f.now)) (row-paged mount shape shaped told h m)
-row-paged mount shape shaped told (pairs_more b h) (pairs_more (meets_bad e) m) = every_more paged_out (row-paged mount shape shaped told h m)
+row-paged mount shape shaped told (pairs_more b h) (pairs_more (meets_blank e z) m) = every_more paged_out (row-paged mount shape shaped told h m)
+row-paged mount shape shaped told (pairs_more b h) (pairs_more (meets_bad e z) m) = every_more paged_out (row-paged mount shape shaped told h m)
 row-paged mount shape shaped told (pairs_more b h) (pairs_more (meets_down d i f) m) = every_more paged_out (row-paged mount shape shaped told h m)
 
 -- a tree of these disks
@@ -101,3 +104,17 @@ given-paged mount shape shaped told b m is d gives = gives-paged gives (downed-p
 pub lies-told : {stores : List StoreSeen} {shape : ImageShape} {ns : List ℕ} {bs : List Beside} → EachAt (λ at s. IsSome s.state.content) stores → Pairs (Lies content_of faults_of shape stores) ns bs → Every (λ b. b.told ≡ true) bs
 lies-told told pairs_none = every_none
 lies-told told (pairs_more {x = n} (lies {t} p e) h) = every_more (ap (λ (b : Beside). b.told) e ∙ told n t (nth-get p)) (lies-told told h)
+
+-- all disks tell what they kept, so the ground tells its pages
+pub told-all : (bs : List Beside) → Every (λ b. b.told ≡ true) bs → all_told bs ≡ true
+told-all [] h = refl
+told-all (b ∷ bs) (every_more p h) = rw p (told-all bs h)
+
+pub pages-shown : (told : Bool) (pages F : List (List ℕ)) → told ≡ true → pages ≡ F → pages_told told pages ≡ Some F
+pages-shown true pages F e is = ap (λ (ps : List (List ℕ)). Some ps) is
+pages-shown false pages F e is = absurd cc
+
+-- and so do the stores at its end
+pub stored-told : {stores : List StoreSeen} {bs : List Beside} {ss : List machine.Store} → EachAt (λ at s. IsSome s.state.content) stores → Pairs (Stored content_of faults_of stores) bs ss → Every (λ b. b.told ≡ true) bs
+stored-told told pairs_none = every_none
+stored-told told (pairs_more {x = b} (stored {t} p f is later) h) = every_more (sym is ∙ told b.disk t (nth-get p)) (stored-told told h)

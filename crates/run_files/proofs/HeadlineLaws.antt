@@ -1,7 +1,6 @@
 -- What a run promises of a file, from what it leaves.
-use Rattle.std.proofs.Common.{◌≡◌, ℕ, zero, suc, ◌<◌, ◌≤◌, List, [], ◌∷◌, length, Option, Some, None, IfSome, IsSome, refl, sym, ap, subst, ◌∙◌, arith}
+use Rattle.std.proofs.Common.{◌≡◌, ℕ, zero, suc, ◌≤◌, List, [], ◌∷◌, Option, Some, None, IfSome, IsSome, sym, ap, subst, ◌∙◌, arith}
 use Rattle.std.specs.Prelude.{Contains, slice_get, unwrap_or}
-use Rattle.hist_plain.specs.declared.event.Event.{Event}
 use Rattle.hist_plain.specs.declared.event.Event.TheVariants.{Synced}
 use Rattle.hist_plain.specs.declared.event.Keep.{Keep}
 use Rattle.script_text.specs.declared.script.Reply.{Reply}
@@ -22,7 +21,7 @@ use Rattle.file_stores.specs.Files.{FileSeen, IsFile}
 use Rattle.file_stores.proofs.Lists.{some-is}
 use Rattle.run_files.specs.Headline.{Headline, IsHeadline, KeepsFrom, live_after}
 use Rattle.run_files.specs.Promise.{TellsAll}
-use Rattle.run_files.specs.Run.{AreTold, IsFrom, IsKept, IsTold, Leaves, LeavesFile, LeavesMirrors, Store, leaves_many, leaves_one, live_of, pages_in}
+use Rattle.run_files.specs.Run.{AreTold, IsFrom, IsKept, IsTold, Leaves, LeavesFile, LeavesMirrors, leaves_many, leaves_one, live_of, pages_in}
 use Rattle.run_files.proofs.PromiseLaws.{each-sync}
 use Rattle.run_files.proofs.TurnLaws.{file-key}
 

@@ -1,9 +1,9 @@
 -- What became of the stores of a file on disks in mirrors.
-use Rattle.std.proofs.Common.{◌≡◌, ◌⊎◌, inl, inr, ℕ, zero, suc, ◌+◌, ◌*◌, ◌<◌, ◌≤◌, Bool, true, false, ◌&&◌, List, [], ◌∷◌, length, map, Option, Some, None, IfSome, refl, sym, ap, subst, ◌∙◌, arith}
-use Rattle.std.specs.Prelude.{Contains, is_some, slice_get, unwrap_or, IsSome}
+use Rattle.std.proofs.Common.{◌≡◌, ◌⊎◌, inl, inr, ℕ, zero, suc, ◌+◌, ◌<◌, ◌≤◌, Bool, true, false, ◌&&◌, List, [], ◌∷◌, length, map, Option, Some, None, IfSome, refl, sym, ap, subst, ◌∙◌, arith}
+use Rattle.std.specs.Prelude.{Contains, is_some, ltb, slice_get, unwrap_or, IsSome}
+use Rattle.std.proofs.lemmas.Bool.{lt-ltb, or_left}
 use Rattle.std.specs.List.Sorted.{IsPermutation}
 use Rattle.std.specs.List.{concat}
-use Rattle.std.specs.Option.{option_map}
 use Rattle.script_text.specs.declared.script.Reply.{Reply}
 use Rattle.script_text.specs.declared.script.Reply.TheVariants.{Done}
 use Rattle.stack_accept.specs.Mount.{Mount}
@@ -13,21 +13,29 @@ use Rattle.disk_format.specs.Shape.{blocks_of}
 use Rattle.disk_format.specs.declared.shape.ImageShape.{ImageShape}
 use Rattle.page_ground.specs.Seen.{Imaged}
 use Rattle.disk_format.specs.Image.{image}
-use Rattle.page_ground.specs.Seen.{faults_in, live_in, numbers_in, opened_in, pages_in as told_in}
+use Rattle.page_ground.specs.Seen.{faults_in, held_in, is_up_in, opened_in, pages_in as told_in}
 use Rattle.page_ground.specs.Seen.{kept_in as kept_by}
-use Rattle.mirror_rules.specs.Claims.{Every, every_none, every_more, Has, HasPages, IsLive}
+use Rattle.mirror_rules.specs.Tree.{Image, Cell, Seat, In, limit}
+use Rattle.mirror_rules.specs.Claims.{Every, every_none, every_more, Has, HasPages, pages_live, Nth}
+use Rattle.mirror_rules.specs.Guards.{Direct, Within, Among, Shows, shows_now, shows_kept, at_place, Placed, placed, live_at}
+use Rattle.mirror_rules.specs.History.{Went, Kept}
+use Rattle.mirror_rules.proofs.OpenLaws.{nth-back, nth-same}
+use Rattle.mirror_rules.proofs.GuardLaws.{every-nth, live-nth}
+use Rattle.mirror_rules.proofs.LevelLaws.{opens-level}
+use Rattle.mirror_rules.proofs.ChainLaws.{direct-not-caching}
 use Rattle.mirror_layer.specs.View.{Beside}
 use Rattle.mirror_layer.specs.Calls.{all_told}
-use Rattle.mirror_layer.specs.Ground.{Ground, IsGround, live_pages, pages_told, seen_of}
+use Rattle.mirror_layer.specs.Ground.{Counted, Ground, IsGround, as_imaged, due_of, image_told, live_pages, seen_of}
 use Rattle.mirror_layer.specs.Stores.{GivesBack, Numbered}
 use Rattle.mirror_layer.specs.Bringing.{OpenedOver}
 use Rattle.mirror_layer.proofs.NumberSteps.{numbers-each}
 use Rattle.mirror_layer.proofs.BringSteps.{lies-ordered}
 use Rattle.mirror_layer.proofs.ChangeLaws.{pages-are}
 use Rattle.tower_log.specs.declared.logged.Logged.{Logged}
+use Rattle.tower_log.specs.Log.{trail_of}
 use Rattle.tower_log.specs.Notes.{Rises, counts_of}
 use Rattle.stack_engine.specs.Engine.{EngineSeen, log_in}
-use Rattle.stack_engine.specs.Opened.{IsOf}
+use Rattle.stack_engine.specs.Opened.{IsOf, last_from}
 use Rattle.spr_volume.specs.Later.{AreLater, notes_in}
 use Rattle.run_defs.specs.declared.store.StoreKey.{StoreKey}
 use Rattle.run_defs.specs.Stack.{pages_of}
@@ -37,19 +45,17 @@ use Rattle.file_stores.specs.Files.{FileSeen, IsFile}
 use Rattle.file_stores.proofs.Lists.{to-map}
 use Rattle.file_stores.proofs.FileLaws.{file-number, in-disks}
 use Rattle.file_stores.specs.Under.{Many}
-use Rattle.file_stores.specs.Guards.{AreAmong, AreGuarded, HoldImages, IsUp}
-use Rattle.file_stores.specs.Opening.{content_of, faults_of, shape_of_file}
-use Rattle.file_stores.proofs.GuardLaws.{guarded-pages}
-use Rattle.file_stores.proofs.GroundHeldLaws.{AreHeld, held-guards}
+use Rattle.file_stores.specs.Opening.{IsFoundBad, content_of, faults_of, shape_of_file}
+use Rattle.file_stores.proofs.RowLaws.{image-at, live-told, pairs-many, row-goes, seat-image, up-at}
 use Rattle.file_stores.proofs.GroundLists.{get-within}
 use Rattle.file_stores.proofs.StoreLaws.{AllLast}
 use Rattle.file_stores.proofs.SpotLaws.{After, Before, after-at, before-at, live-few, live-some, numbers-seen}
 use Rattle.file_stores.proofs.UnderLaws.{counts-under}
 use Rattle.run_files.specs.Play.{IsWhole}
-use Rattle.run_files.specs.Run.{AreTold, LeavesMirrors, Store, live_of, versions}
-use Rattle.run_files.proofs.EngineLaws.{EngineRun, along-of, behind-of, kept-of, reached-of, rises-of, same-number, same-size, shows-all, shows-of, turned-of}
-use Rattle.run_files.proofs.PromiseLaws.{TellsAt, guards-closed, guards-held, held-on}
-use Rattle.run_files.proofs.GivenLaws.{given-paged, lies-told, row-tree}
+use Rattle.run_files.specs.Run.{AreTold, Holds, LeavesMirrors, Store, live_of, versions}
+use Rattle.run_files.proofs.EngineLaws.{EngineRun, along-of, behind-of, kept-of, reached-of, rises-of, same-number, same-size, shows-all, shows-of, turned-of, lifts-of, IsTurnedIn}
+use Rattle.run_files.proofs.PromiseLaws.{within-of}
+use Rattle.run_files.proofs.GivenLaws.{given-paged, lies-told, pages-shown, row-tree, stored-told, told-all}
 use Rattle.run_files.proofs.PageLaws.{ArePaged, joined-are, length-of}
 
 length-same : (xs ys : List Beside) → map (λ b. b.disk) xs ≡ map (λ b. b.disk) ys → length xs ≡ length ys
@@ -80,7 +86,7 @@ module _ (mount : Mount) (more : List Logged) (f g : FileSeen) (a z : Ground) (t
   plan : IsPermutation (disks_in mount.ground) (numbers_below (length f.stores))
   plan = subst (λ n. IsPermutation (disks_in mount.ground) (numbers_below n)) (sym (file-number mount f turn.is)) turn.is.sound.disks
 
-  first-many : length a.beside ≡ length f.stores
+  pub first-many : length a.beside ≡ length f.stores
   first-many = (lies-ordered turn.over.seen.lies plan).many
 
   last-many : length z.beside ≡ length f.stores
@@ -90,7 +96,7 @@ module _ (mount : Mount) (more : List Logged) (f g : FileSeen) (a z : Ground) (t
   pub many : length g.stores ≡ length f.stores
   many = turn.back.many ∙ last-many
 
-  pub before : (k : ℕ) (old : StoreSeen) → slice_get f.stores k ≡ Some old → Before k old (seen_of a).disks
+  pub before : (k : ℕ) (old : StoreSeen) → slice_get f.stores k ≡ Some old → Before k old (seen_of a).disks a.row
   before k old was =
       before-at k old turn.over.seen.lies turn.over.seen.brought turn.over.fair.excused turn.sound.0.counts turn.sound.0.differ
       (numbers-each (disks_in mount.ground) (length f.stores) plan k (get-within f.stores k old was)) was
@@ -122,8 +128,8 @@ module _ (mount : Mount) (more : List Logged) (f g : FileSeen) (a z : Ground) (t
       still None y e = tt
       still (Some c) y e = e
 
-  -- each disk is live, or its store failed since it was taken
-  pub fell : (k : ℕ) (old new : StoreSeen) → Store f g k old new → Contains (live_of z) k ⊎ (old.state.faults < new.state.faults)
+  -- each disk is live, or its store failed since it was taken, or it was found bad
+  pub fell : (k : ℕ) (old new : StoreSeen) → Store f g k old new → Contains (live_of z) k ⊎ (old.state.faults < new.state.faults) ⊎ IsFoundBad a k
   fell k old new at =
       let b = before k old at.0 in
       let first = since k old at.0 in
@@ -132,9 +138,12 @@ module _ (mount : Mount) (more : List Logged) (f g : FileSeen) (a z : Ground) (t
       elim b.rose [
         | inl live ↦ elim (turn.later.lost k live) [
           | inl still ↦ inl still
-          | inr up ↦ inr (omega (arith, first, up, last))
+          | inr up ↦ inr (inl (omega (arith, first, up, last)))
         ]
-        | inr up ↦ inr (omega (arith, up, next, last))
+        | inr rest ↦ elim rest [
+          | inl up ↦ inr (inl (omega (arith, up, next, last)))
+          | inr bad ↦ inr (inr bad)
+        ]
       ]
 
   -- each disk that is live failed once at least for each note
@@ -153,22 +162,21 @@ module _ (mount : Mount) (more : List Logged) (f g : FileSeen) (a z : Ground) (t
   pub few : (k : ℕ) → Contains (live_of a) k → k < length f.stores
   few k live = let inside = live-few a.beside a.row (length a.beside) turn.sound.0.counts turn.sound.1.below k live in let all = first-many in omega (arith, inside, all)
 
--- all disks tell what they kept, so the ground tells its pages
-pub told-all : (bs : List Beside) → Every (λ b. b.told ≡ true) bs → all_told bs ≡ true
-told-all [] h = refl
-told-all (b ∷ bs) (every_more p h) = rw p (told-all bs h)
-
-pages-shown : (told : Bool) (pages F : List (List ℕ)) → told ≡ true → pages ≡ F → pages_told told pages ≡ Some F
-pages-shown true pages F e is = ap (λ (ps : List (List ℕ)). Some ps) is
-pages-shown false pages F e is = absurd cc
-
 -- WHAT BECAME OF THE STORES
 module _ (mount : Mount) (f g : FileSeen) (a z : Ground) (e0 e1 : EngineSeen) (closing : List Reply) (run : EngineRun mount f.file (seen_of a) (seen_of z) e0 e1) (turn : Turn mount (log_in e1) f g a z)
-    (whole : slice_get closing f.file ≡ Some Done → IsWhole e1) where
+    (whole : slice_get closing f.file ≡ Some Done → IsWhole e1) (some-stores : 1 < length f.stores) where
   rises : (k : ℕ) (old new : StoreSeen) → Store f g k old new → Rises old.state.faults new.state.faults (counts_of k (log_in e1))
   rises k old new at =
       subst (λ n. Rises n new.state.faults (counts_of k (log_in e1))) (before mount (log_in e1) f g a z turn k old at.0).opened
       (subst (λ n. Rises (opened_in (seen_of a).disks k) n (counts_of k (log_in e1))) (after mount (log_in e1) f g a z turn k new at.1).faults (rises-of mount f.file (seen_of a) (seen_of z) e0 e1 run k))
+
+  -- a raise is owed at the opening
+  owes-of : 1 < length f.stores → a.owed ≡ true
+  owes-of many =
+      let level = opens-level turn.over.opens turn.over.seen.meets in
+      let row : length a.row ≡ length f.stores = pairs-many turn.sound.0.counts ∙ first-many mount (log_in e1) f g a z turn in
+      let long : 1 < length a.row = omega (arith, many, row) in
+      level.2 ∙ or_left (ltb 1 (length a.row)) (ltb 1 a.generation) (lt-ltb 1 (length a.row) long)
 
   -- where all tell what they hold
   module _ (tells : EachAt (λ at s. IsSome s.state.content) f.stores) where
@@ -201,7 +209,7 @@ module _ (mount : Mount) (f g : FileSeen) (a z : Ground) (e0 e1 : EngineSeen) (c
         let given = (turn.over.given all).gives tree.0 tree.1 in
         let F : List (List ℕ) = given.0 in
         let shown : (seen_of a).pages ≡ Some F = pages-shown (all_told a.beside) (live_pages a.row) F all (pages-are given.3 turn.sound.0.live) in
-        (F, shown, given-paged mount shape shaped tells seen.brought seen.meets tree.1 given.2 given.4.1)
+        (F, shown, given-paged mount shape shaped tells seen.brought seen.meets tree.1 given.2 given.4)
 
     content-some : (o : Option Content) → IsSome o → (c : Content) × (o ≡ Some c)
     content-some None h = absurd cc
@@ -220,14 +228,85 @@ module _ (mount : Mount) (f g : FileSeen) (a z : Ground) (e0 e1 : EngineSeen) (c
         let number : z.shape.pages ≡ pages_of mount f.file = same-number mount f.file (seen_of a) (seen_of z) e0 e1 run in
         λ i. record { page_size = size i; pages = number i }
 
-    -- the store of each disk tells what it holds
-    told-store : (k : ℕ) → k < length f.stores → TellsAt g.stores k
-    told-store k inside =
-        let old = there-within f.stores k inside in
-        let len = many mount (log_in e1) f g a z turn in
-        let new = there-within g.stores k (omega (arith, inside, len)) in
-        let c = content-some new.0.state.content (lasts-told k old.0 new.0 (old.1, new.1)) in
-        record { store = new.0; content = c.0; there = new.1; tells = c.1 }
+    all-last : all_told z.beside ≡ true
+    all-last = told-all z.beside (stored-told (λ k new is. let within = get-within g.stores k new is in let old = there-within f.stores k (let len = many mount (log_in e1) f g a z turn in omega (arith, within, len)) in lasts-told k old.0 new (old.1, is)) turn.back.stored)
+
+    numbers-same : map (λ b. b.disk) z.beside ≡ map (λ b. b.disk) a.beside
+    numbers-same = sym (numbers-seen turn.still.0.counts) ∙ (turn.later.disks ∙ numbers-seen turn.sound.0.counts)
+
+    told-each : (bs : List Beside) → all_told bs ≡ true → Every (λ b. b.told ≡ true) bs
+    told-each [] e = every_none
+    told-each (b ∷ bs) e = let p = both b.told (all_told bs) e in every_more p.0 (told-each bs p.1)
+      where
+        both : (s t : Bool) → s && t ≡ true → (s ≡ true) × (t ≡ true)
+        both true t e = (refl, e)
+        both false t e = absurd cc
+
+    -- each disk went as in a run
+    went-of : (opening : List ℕ) → IsOf opening e0 → Went (versions mount opening (log_in e1) 0) a.generation a.row z.generation z.row
+    went-of opening of = record {
+      goes = row-goes (versions mount opening (log_in e1) 0) turn.sound.0.counts turn.still.0.counts turn.sound.0.differ turn.still.0.differ (told-each a.beside all) (told-each z.beside all-last) numbers-same
+          (λ n. record { up = turn.later.up n; live = turn.later.live n; aside = turn.later.aside n; turned = turned n (turned-of mount f.file (seen_of a) (seen_of z) e0 e1 run opening n of) });
+      rises = turn.later.level;
+      near = turn.still.0.near;
+    }
+      where
+        turned : (n : ℕ) → (held_in (seen_of z).disks n ≡ held_in (seen_of a).disks n) ⊎ IsTurnedIn mount opening (log_in e1) (held_in (seen_of a).disks n) (held_in (seen_of z).disks n)
+            → (held_in (seen_of z).disks n ≡ held_in (seen_of a).disks n) ⊎ ((i j : Imaged) × (held_in (seen_of a).disks n ≡ Some i) × (held_in (seen_of z).disks n ≡ Some j) × (i.generation ≤ j.generation) × Within (Among (versions mount opening (log_in e1) 0 ∷ [])) j.pages)
+        turned n (inl same) = inl same
+        turned n (inr t) = inr (t.old, t.new, t.was, t.is, t.later, within-of mount opening (log_in e1) 0 t.new.pages t.since)
+
+    -- the disk at a place, as it is told
+    told-at : (p : ℕ) (x : Seat) → Nth p z.row x → (b : Beside) × Nth p z.beside b × (held_in (seen_of z).disks b.disk ≡ image_told true (seat-image x))
+    told-at p x at = by (nth-back turn.still.0.counts at)
+      where
+        by : ((b : Beside) × Nth p z.beside b × Counted b x) → (b : Beside) × Nth p z.beside b × (held_in (seen_of z).disks b.disk ≡ image_told true (seat-image x))
+        by (b, here, counts) = (b, here, image-at turn.still.0.counts turn.still.0.differ (every-nth (told-each z.beside all-last) here) here at)
+
+    -- behind a completed sync
+    synced-of : (opening : List ℕ) → IsOf opening e0 → (from : ℕ) → last_from (trail_of (log_in e1)) ≡ Some from → Kept (versions mount opening (log_in e1) from) a.generation z.generation z.row
+    synced-of opening of from last = record {
+      paid = let due = lifts-of mount f.file (seen_of a) (seen_of z) e0 e1 run from last in subst (λ o. due_of o a.generation ≤ z.generation) (owes-of some-stores) due;
+      since = λ c held. since-at c held;
+      behind = λ c held d v e at. behind-at c held d v e at;
+    }
+      where
+        live-cell : (c : Image) → Placed (Shows Direct) (live_at z.row) z.row c → (p : ℕ) × (e : Cell) × Nth p z.row (In true e) × (e.now ≡ c)
+        live-cell c (placed {d = p} on (at_place at shows)) = let r = live-nth z.row p on in (p, r.0, r.1, shown r.0 c (subst (λ x. Shows Direct x c) (nth-same at r.1) shows))
+          where
+            shown : (e : Cell) (c : Image) → Shows Direct (In true e) c → e.now ≡ c
+            shown e _ shows_now = refl
+            shown e c (shows_kept q k) = absurd (direct-not-caching q)
+
+        pages-live : (F : List (List ℕ)) × Every (HasPages F) z.row × (length F ≡ z.shape.pages)
+        pages-live = turn.still.0.pages all-last
+
+        shown-pages : (seen_of z).pages ≡ Some pages-live.0
+        shown-pages = pages-shown (all_told z.beside) (live_pages z.row) pages-live.0 all-last (pages-are pages-live.1 turn.still.0.live)
+
+        now-within : Within (Among (versions mount opening (log_in e1) from ∷ [])) pages-live.0
+        now-within = within-of mount opening (log_in e1) from pages-live.0 (subst (λ (o : Option (List (List ℕ))). IfSome o (Holds mount opening (log_in e1) from)) shown-pages (shows-of mount f.file (seen_of a) (seen_of z) e0 e1 run opening from of last))
+
+        has-pages : (e : Cell) → HasPages pages-live.0 (In true e) → e.now.pages ≡ pages-live.0
+        has-pages e (pages_live q) = q
+
+        since-at : (c : Image) → Placed (Shows Direct) (live_at z.row) z.row c → Within (Among (versions mount opening (log_in e1) from ∷ [])) c.pages
+        since-at c held =
+            let r = live-cell c held in
+            subst (λ (F : List (List ℕ)). Within (Among (versions mount opening (log_in e1) from ∷ [])) F) (sym (has-pages r.1 (every-nth pages-live.1 r.2)) ∙ ap (λ (i : Image). i.pages) r.3) now-within
+
+        behind-at : (c : Image) → Placed (Shows Direct) (live_at z.row) z.row c → (d : ℕ) (v : Bool) (e : Cell) → Nth d z.row (In v e) → Within (Among (versions mount opening (log_in e1) from ∷ [])) e.now.pages ⊎ (e.now.generation < c.generation) ⊎ (limit ≤ c.generation)
+        behind-at c held d v e at =
+            let r = live-cell c held in
+            let mine = told-at r.0 (In true r.1) r.2 in
+            let other = told-at d (In v e) at in
+            let live : Contains (live_of z) mine.0.disk = live-told turn.still.0.counts mine.1 r.2 refl in
+            let up : is_up_in (seen_of z).disks other.0.disk ≡ true = up-at turn.still.0.counts turn.still.0.differ other.1 at in
+            let low : r.1.now.generation ≡ c.generation = ap (λ (i : Image). i.generation) r.3 in
+            elim (behind-of mount f.file (seen_of a) (seen_of z) e0 e1 run opening from of last mine.0.disk other.0.disk (as_imaged r.1.now) (as_imaged e.now) live up mine.2 other.2) [
+              | inl since ↦ inl (within-of mount opening (log_in e1) from e.now.pages since)
+              | inr rest ↦ inr (elim rest [ inl lt ↦ inl (omega (arith, lt, low)) | inr top ↦ inr (omega (arith, top, low)) ])
+            ]
 
     pub told-of : AreTold mount closing (log_in e1) f g a z
     told-of =
@@ -244,9 +323,8 @@ module _ (mount : Mount) (f g : FileSeen) (a z : Ground) (e0 e1 : EngineSeen) (c
           shows = λ from last. shows-of mount f.file (seen_of a) (seen_of z) e0 e1 run opening from of last;
           shows_all = λ done. shows-all mount f.file (seen_of a) (seen_of z) e0 e1 run (whole done) opening of;
           reached = λ from last. reached-of mount f.file (seen_of a) (seen_of z) e0 e1 run opening from of last;
-          guards = λ from last low.
-              guards-closed mount opening (log_in e1) from shape g.stores z turn.back turn.still last-shape-is low (behind-of mount f.file (seen_of a) (seen_of z) e0 e1 run opening from of last)
-              (λ k live. told-store k (few mount (log_in e1) f g a z turn k (turn.later.live k live)));
+          went = went-of opening of;
+          synced = λ from last. synced-of opening of from last;
           kept = λ k old new at live.
               let own : old.key.file ≡ f.file = ap (λ (x : StoreKey). x.file) (key-at k old at.0) in
               let c = content-some new.state.content (lasts-told k old new at) in
@@ -268,29 +346,11 @@ module _ (mount : Mount) (f g : FileSeen) (a z : Ground) (e0 e1 : EngineSeen) (c
             let number : z.shape.pages ≡ pages_of mount old.key.file = same-number mount f.file (seen_of a) (seen_of z) e0 e1 run ∙ ap (λ n. pages_of mount n) (sym own) in
             λ i. record { page_size = size i; pages = number i }
 
-  -- pages that are guarded are those of the ground
-  given-among : (tells : EachAt (λ at s. IsSome s.state.content) f.stores) (Vs : List (ℕ → ℕ → List ℕ)) → ((G : List (List ℕ)) × Every (HasPages G) a.row × AreAmong Vs G) → IfSome (seen_of a).pages (AreAmong Vs)
-  given-among tells Vs given = subst (λ (o : Option (List (List ℕ))). IfSome o (AreAmong Vs)) (sym (pages-shown (all_told a.beside) (live_pages a.row) given.0 (all tells) (pages-are given.1 turn.sound.0.live))) given.2
-
-  -- what the disks guarded they guard through the run
-  gone-on : (tells : EachAt (λ at s. IsSome s.state.content) f.stores) → HoldImages (shape_of_file mount f.file) f.stores → (Vs : List (ℕ → ℕ → List ℕ)) (disks : List ℕ) (disk : ℕ) → AreGuarded (shape_of_file mount f.file) Vs disks f.stores
-      → Contains disks disk → IsUp mount.ground turn.over.seen.row disk → AreGuarded (shape_of_file mount f.file) (versions mount (told-of tells).opening (log_in e1) 0 ∷ Vs) disks g.stores
-  unfolding told-of
-  gone-on tells images Vs disks disk guards found up =
-      let seen = turn.over.seen in
-      let opening : List ℕ = (told-of tells).opening in
-      let of : IsOf opening e0 = run.began opening (paged-pages tells).0 (paged-pages tells).1 (length-of (shape_of_file mount f.file) (paged-pages tells).0 (paged-pages tells).2) (joined-are (shape_of_file mount f.file) (paged-pages tells).0 (paged-pages tells).2) in
-      let held : AreHeld Vs disks (seen_of a).disks =
-      held-guards (shape_of_file mount f.file) f.stores mount.ground seen.stores_seen a.beside seen.row a.row Vs disks tells seen.brought seen.lies turn.sound.0.counts turn.sound.0.differ guards images
-      (λ n inside. numbers-each (disks_in mount.ground) (length f.stores) (plan mount (log_in e1) f g a z turn) n inside) (turn.over.lasting (all tells)) disk found up in
-      guards-held (shape_of_file mount f.file) g.stores z turn.back turn.still (last-shape-is tells) (versions mount opening (log_in e1) 0 ∷ Vs) disks
-      (held-on mount opening (log_in e1) Vs disks (seen_of a).disks (seen_of z).disks (λ n. turned-of mount f.file (seen_of a) (seen_of z) e0 e1 run opening n of) held)
-      (λ k on. let has = (guards.there k on).1 in told-store tells k (get-within f.stores k has.store has.there))
-
   pub mirrors-left : LeavesMirrors mount closing (log_in e1) f g
   mirrors-left = record {
     opened = a;
     over = turn.over;
+    owes = owes-of some-stores;
     closed = z;
     sound = turn.still.0;
     back = turn.back;
@@ -302,6 +362,4 @@ module _ (mount : Mount) (f g : FileSeen) (a z : Ground) (e0 e1 : EngineSeen) (c
     fell = fell mount (log_in e1) f g a z turn;
     rises = rises;
     told = λ tells. told-of tells;
-    goes_on = λ tells images Vs disks disk guards found up. gone-on tells images Vs disks disk guards found up;
-    gives = λ tells Vs disks disk guards found up. given-among tells Vs (guarded-pages (shape_of_file mount f.file) f.stores mount.ground turn.over.seen.stores_seen Vs disks tells turn.over.seen.brought guards turn.over.seen.row a.row disk (turn.over.given (all tells)) found up);
   }

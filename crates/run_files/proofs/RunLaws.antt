@@ -1,5 +1,5 @@
 -- From the towers of a run to what became of its files and their stores.
-use Rattle.std.proofs.Common.{◌≡◌, ⊎_elim, ℕ, zero, suc, ◌*◌, ◌+◌, ◌<◌, ◌≤◌, ◌^◌, List, [], ◌∷◌, length, map, Option, Some, refl, sym, ap, subst, ◌∙◌, arith}
+use Rattle.std.proofs.Common.{◌≡◌, ⊎_elim, ℕ, suc, ◌<◌, ◌^◌, List, [], ◌∷◌, length, map, Option, Some, refl, sym, ap, subst, ◌∙◌, arith}
 use Rattle.std.specs.Prelude.{slice_get}
 use Rattle.std.specs.List.{AllByRecursion}
 use Rattle.std.proofs.lemmas.Option.{slice_get_within}
@@ -13,7 +13,7 @@ use Rattle.stack_accept.specs.declared.entries.FileEntry.{FileEntry}
 use Rattle.run_defs.specs.declared.store.StoreKey.{StoreKey}
 use Rattle.run_defs.specs.Stack.{pages_of}
 use Rattle.name_context.specs.History.{NamesSeen}
-use Rattle.run_defs.specs.Log.{Histories, log_of, EndsSynced}
+use Rattle.run_defs.specs.Log.{log_of, EndsSynced}
 use Rattle.run_defs.specs.Fits.{FitsScript}
 use Rattle.spr_io.specs.Berth.{BaySeen}
 use Rattle.spr_io.specs.Texts.{SinkSeen}

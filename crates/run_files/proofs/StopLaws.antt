@@ -1,5 +1,5 @@
 -- What becomes of stores whose files could not all be opened.
-use Rattle.std.proofs.Common.{◌≡◌, ◌⊎◌, ⊎_elim, inl, inr, ℕ, zero, suc, ◌+◌, ◌<◌, ◌≤◌, List, [], ◌∷◌, ◌++◌, length, Option, Some, None, refl, sym, ap, subst, ◌∙◌, arith, length-append}
+use Rattle.std.proofs.Common.{◌≡◌, ◌⊎◌, ⊎_elim, inl, inr, ℕ, zero, suc, ◌+◌, ◌<◌, List, [], ◌∷◌, ◌++◌, length, Option, Some, None, refl, sym, ap, subst, ◌∙◌, arith, length-append}
 use Rattle.std.specs.Prelude.{◌-◌, ◌^◌, slice_get, IfSome, IsSome}
 use Rattle.std.proofs.lemmas.List.{append-nil}
 use Rattle.std.proofs.lemmas.Option.{slice_get_within}
@@ -27,7 +27,7 @@ use Rattle.file_stores.proofs.FileLaws.{at-joined, became-files, keys-in, pairs-
 use Rattle.file_stores.specs.Under.{seen_under}
 use Rattle.file_stores.proofs.ReturnLaws.{returned-of}
 use Rattle.run_files.specs.Held.{AreFiles, AreShut, Closes, Halts, IsShut, IsTaken, IsUnheld, Opens, OpensEach, OpensSome}
-use Rattle.run_files.specs.Run.{Halted, NotRun, SaysRun, stopped, unopened, untaken}
+use Rattle.run_files.specs.Run.{NotRun, SaysRun, stopped, unopened, untaken}
 use Rattle.run_files.specs.Told.{Stopped}
 use Rattle.run_files.proofs.HeldLaws.{opening-count, opens-at, opens-length, shut-at, shut-length}
 use Rattle.run_files.proofs.TurnLaws.{UnderTurn, later-same, turn-closes, turn-of, turn-pairs}

@@ -7,7 +7,7 @@ use Rattle.std.proofs.lemmas.Bool.Decides.{nat_tests}
 use Rattle.std.proofs.lemmas.Option.{slice_get-map}
 use Rattle.hist_plain.specs.Event.{caller_of}
 use Rattle.hist_plain.specs.History.{IsNumbered}
-use Rattle.hist_lock.specs.Ranges.{Added, Each, may_add}
+use Rattle.hist_lock.specs.Ranges.{Each, may_add}
 use Rattle.tower_core.specs.TreeShape.{TreeShape}
 use Rattle.page_messages.specs.declared.paged.PagedFile.{PagedFile}
 use Rattle.stack_accept.specs.Mount.{Mount}
@@ -17,7 +17,7 @@ use Rattle.tower_log.specs.declared.logged.Logged.TheVariants.{Entered, Noted}
 use Rattle.tower_log.specs.Log.{trail_of}
 use Rattle.name_context.specs.declared.entry.NameEntry.{NameEntry}
 use Rattle.name_context.specs.History.{NamesSeen, IsStory}
-use Rattle.run_defs.specs.Log.{Histories, items, items_from, log_of}
+use Rattle.run_defs.specs.Log.{items, items_from, log_of}
 use Rattle.run_defs.specs.Fits.{IsEntryUpTo, IsUpTo}
 use Rattle.stack_engine.specs.Engine.{log_in}
 use Rattle.stack_engine.specs.Tower.{TowerSeen}

@@ -1,7 +1,6 @@
 -- A file's image from its opening to its closing.
-use Rattle.std.proofs.Common.{◌≡◌, ◌≢◌, ℕ, suc, ◌<◌, ◌≤◌, List, [], ◌∷◌, length, map, Option, Some, None, IfSome, inl, refl, sym, ap, subst, ◌∙◌, arith}
+use Rattle.std.proofs.Common.{◌≡◌, ◌≢◌, ℕ, ◌<◌, List, [], ◌∷◌, length, map, Option, Some, None, IfSome, inl, refl, sym, ap, subst, ◌∙◌, arith}
 use Rattle.std.specs.Prelude.{Contains, is_some, slice_get, IsSome}
-use Rattle.std.proofs.lemmas.Option.{slice_get_within}
 use Rattle.script_text.specs.declared.script.Reply.{Reply}
 use Rattle.script_text.specs.declared.script.Reply.TheVariants.{Done}
 use Rattle.stack_engine.specs.Engine.{EngineSeen, log_in}
@@ -14,7 +13,7 @@ use Rattle.disk_layer.specs.Calls as disks
 use Rattle.page_ground.specs.Seen.{Seen, live_in}
 use Rattle.mirror_rules.specs.Claims.{Every, every_more}
 use Rattle.mirror_layer.specs.View.{Beside}
-use Rattle.mirror_layer.specs.Ground.{Ground, Differ, seen_of}
+use Rattle.mirror_layer.specs.Ground.{Ground, Differ}
 use Rattle.mirror_layer.proofs.CloseSteps.{told-kept}
 use Rattle.tower_log.specs.declared.logged.Logged.{Logged}
 use Rattle.spr_volume.specs.Later.{AreLater}
@@ -25,10 +24,10 @@ use Rattle.file_stores.specs.Held.{StoreSeen, keys_of}
 use Rattle.file_stores.specs.Files.{ArePairs, FileSeen, IsFile, Lasts}
 use Rattle.file_stores.specs.Stops.{HoldsImage}
 use Rattle.file_stores.proofs.Lists.{to-map}
-use Rattle.file_stores.proofs.FileLaws.{file-number, in-disks}
+use Rattle.file_stores.proofs.FileLaws.{in-disks}
 use Rattle.file_stores.specs.Under.{IsSound, Many, One, Under, seen_under}
 use Rattle.file_stores.specs.Opening.{IsLeft, IsOpened, under}
-use Rattle.file_stores.specs.WholeDisk.{seen_whole}
+use Rattle.file_stores.specs.WholeDisk.{Alone, IsAlone, IsFirst, seen_whole}
 use Rattle.file_stores.proofs.StoreLaws.{AllLast, in-pairs, lasts-one, same-keys}
 use Rattle.file_stores.proofs.WholeLaws.{kept-under, faults-under, whole-content, whole-count}
 use Rattle.file_stores.proofs.SpotLaws.{numbers-seen}
@@ -42,8 +41,8 @@ use Rattle.run_files.proofs.WholeLaws.{on-disk, same-number-under}
 
 -- the only store of a file, or its stores on disks in mirrors
 pub data UnderTurn (mount : Mount) (more : List Logged) (f g : FileSeen) : Under → Under → Type 0 where
-  turn_one : {d0 d1 : Disk} {old new : StoreSeen} → f.stores ≡ old ∷ [] → disks.Opened (under mount old) d0 → AreLater more (seen_whole d0) (seen_whole d1) → g.stores ≡ new ∷ [] → new.state ≡ record { content = d1.content; faults = d1.faults } → HasImage d1
-      → UnderTurn mount more f g (One d0) (One d1)
+  turn_one : {d0 d1 : Alone} {old new : StoreSeen} → f.stores ≡ old ∷ [] → disks.Opened (under mount old) d0.disk → AreLater more (seen_whole d0) (seen_whole d1) → g.stores ≡ new ∷ [] → new.state ≡ record { content = d1.disk.content; faults = d1.disk.faults }
+      → HasImage d1.disk → IsFirst d0 → IsAlone d1 → UnderTurn mount more f g (One d0) (One d1)
   turn_many : {a z : Ground} → 1 < length f.stores → Turn mount more f g a z → UnderTurn mount more f g (Many a) (Many z)
 
 -- no disks in mirrors have one number
@@ -64,10 +63,10 @@ apart (b ∷ c ∷ bs) d differ e = by differ.0 (ap first e) (ap second e)
     by (every_more p q) one two = p (two ∙ sym one)
 
 pub turn-of : (mount : Mount) (more : List Logged) (f g : FileSeen) (u0 u1 : Under) → IsFile mount f → IsOpened mount f u0 → IsSound u0 → AreLater more (seen_under u0) (seen_under u1) → IsLeft u1 g → IsSound u1 → UnderTurn mount more f g u0 u1
-turn-of mount more f g (One d0) (One d1) is over sound later left still = turn_one over.1 over.2 later left.1 left.2 still.0
+turn-of mount more f g (One d0) (One d1) is over sound later left still = turn_one over.1 over.2 later left.1 left.2 still.0 over.3 still.2
 turn-of mount more f g (Many a) (Many z) is over sound later back still = turn_many over.0 (record { is = is; over = over.1; sound = sound; later = later; back = back; still = still })
-turn-of mount more f g (One d0) (Many z) is over sound later back still = absurd (apart z.beside d0.disk still.0.differ (sym (numbers-seen still.0.counts) ∙ later.disks))
-turn-of mount more f g (Many a) (One d1) is over sound later left still = absurd (apart a.beside d1.disk sound.0.differ (sym (numbers-seen sound.0.counts) ∙ sym later.disks))
+turn-of mount more f g (One d0) (Many z) is over sound later back still = absurd (apart z.beside d0.disk.disk still.0.differ (sym (numbers-seen still.0.counts) ∙ later.disks))
+turn-of mount more f g (Many a) (One d1) is over sound later left still = absurd (apart a.beside d1.disk.disk sound.0.differ (sym (numbers-seen sound.0.counts) ∙ sym later.disks))
 
 still-told : (x y : Option Content) → is_some y ≡ is_some x → IfSome x (λ _. IsSome y)
 still-told None y e = tt
@@ -75,16 +74,16 @@ still-told (Some c) y e = e
 
 -- no count falls, and what tells goes on telling
 pub turn-lasts : (mount : Mount) (more : List Logged) (f g : FileSeen) (u0 u1 : Under) → UnderTurn mount more f g u0 u1 → AllLast f.stores g.stores
-turn-lasts mount more f g _ _ (turn_one {d0} {d1} {old} {new} was over later left state has) =
-    let same : d0.disk ≡ d1.disk = same-number-under d0 d1 later.disks in
-    let up = later.faults d0.disk in
-    let first = faults-under d0 d0.disk refl in
-    let last = faults-under d1 d0.disk same in
+turn-lasts mount more f g _ _ (turn_one {d0} {d1} {old} {new} was over later left state has first near) =
+    let same : d0.disk.disk ≡ d1.disk.disk = same-number-under d0 d1 later.disks in
+    let up = later.faults d0.disk.disk in
+    let first = faults-under d0 d0.disk.disk refl in
+    let last = faults-under d1 d0.disk.disk same in
     let calm = over.calm in
     let count = ap (λ (s : StoreState). s.faults) state in
     let told : is_some new.state.content ≡ is_some old.state.content =
     ap (λ (s : StoreState). is_some s.content) state
-    ∙ (sym (told-kept d1) ∙ (ap (λ o. is_some o) (sym (kept-under d1 d0.disk same)) ∙ (later.told d0.disk ∙ (ap (λ o. is_some o) (kept-under d0 d0.disk refl) ∙ (told-kept d0 ∙ ap (λ (o : Option Content). is_some o) over.content))))) in
+    ∙ (sym (told-kept d1.disk) ∙ (ap (λ o. is_some o) (sym (kept-under d1 d0.disk.disk same)) ∙ (later.told d0.disk.disk ∙ (ap (λ o. is_some o) (kept-under d0 d0.disk.disk refl) ∙ (told-kept d0.disk ∙ ap (λ (o : Option Content). is_some o) over.content))))) in
     lasts-one old new f.stores g.stores was left (omega (arith, up, first, last, calm, count), still-told old.state.content new.state.content told)
 turn-lasts mount more f g _ _ (turn_many {a} {z} some turn) = lasts mount more f g a z turn
 
@@ -99,6 +98,9 @@ later-same a b same = subst (AreLater [] a) (sym same) (record {
   lost = λ disk live. inl live;
   faults = λ disk. omega arith;
   opened = λ disk. refl;
+  aside = λ disk down. refl;
+  level = omega arith;
+  due = omega arith;
   notes = tt;
   paid = λ disk live. omega arith;
 })
@@ -116,8 +118,8 @@ same-state a b c f = λ i. record { content = c i; faults = f i }
 
 -- a file that was opened, and closed again as it was
 pub turn-closes : (mount : Mount) (more : List Logged) (f g : FileSeen) (u0 u1 : Under) → seen_under u1 ≡ seen_under u0 → UnderTurn mount more f g u0 u1 → Closes mount f g
-turn-closes mount more f g _ _ same (turn_one {d0} {d1} {old} {new} was over later left state has) =
-    closes_one was left (holds-image d0 (image_shape mount old.key) old.state.content over.shape over.content over.image)
+turn-closes mount more f g _ _ same (turn_one {d0} {d1} {old} {new} was over later left state has first near) =
+    closes_one was left (holds-image d0.disk (image_shape mount old.key) old.state.content over.shape over.content over.image)
     (same-state new.state old.state (ap (λ (s : StoreState). s.content) state ∙ (whole-content d1 d0 same ∙ over.content)) (ap (λ (s : StoreState). s.faults) state ∙ (whole-count d1 d0 same ∙ over.calm)))
 turn-closes mount more f g _ _ same (turn_many {a} {z} some turn) = closes_many a z some turn.over same turn.back
 
@@ -136,17 +138,17 @@ file-key mount f is old was =
 -- WHAT BECAME OF THE STORES
 pub leaves-of : (mount : Mount) (f g : FileSeen) (closing : List Reply) (u0 u1 : Under) (e0 e1 : EngineSeen) → IsFile mount f → EngineRun mount f.file (seen_under u0) (seen_under u1) e0 e1 → UnderTurn mount (log_in e1) f g u0 u1
     → (slice_get closing f.file ≡ Some Done → IsWhole e1) → LeavesFile mount closing (log_in e1) f g
-leaves-of mount f g closing _ _ e0 e1 is run (turn_one {d0} {d1} {old} {new} was over later left state has) whole =
+leaves-of mount f g closing _ _ e0 e1 is run (turn_one {d0} {d1} {old} {new} was over later left state has first near) whole =
     let at : slice_get f.stores 0 ≡ Some old = ap (λ (ss : List StoreSeen). slice_get ss 0) was in
     let key : old.key.file ≡ f.file = ap (λ (k : StoreKey). k.file) (file-key mount f is old was) in
     let own : EngineRun mount old.key.file (seen_whole d0) (seen_whole d1) e0 e1 = subst (λ n. EngineRun mount n (seen_whole d0) (seen_whole d1) e0 e1) (sym key) run in
     leaves_one was left
-    (disk-leaves mount old d0 d1 e0 e1 closing over own (λ done. whole (ap (λ n. slice_get closing n) (sym key) ∙ done)) has new.state (ap (λ (s : StoreState). s.content) state) (ap (λ (s : StoreState). s.faults) state) (is.fits 0 old at))
-leaves-of mount f g closing _ _ e0 e1 is run (turn_many {a} {z} some turn) whole = leaves_many some (mirrors-left mount f g a z e0 e1 closing run turn whole)
+    (disk-leaves mount old d0 d1 e0 e1 closing over own (λ done. whole (ap (λ n. slice_get closing n) (sym key) ∙ done)) has first near new.state (ap (λ (s : StoreState). s.content) state) (ap (λ (s : StoreState). s.faults) state) (is.fits 0 old at))
+leaves-of mount f g closing _ _ e0 e1 is run (turn_many {a} {z} some turn) whole = leaves_many some (mirrors-left mount f g a z e0 e1 closing run turn whole some)
 
 -- the live disks have numbers of the file's stores
 pub few-disks : (mount : Mount) (more : List Logged) (f g : FileSeen) (u0 u1 : Under) → IsFile mount f → UnderTurn mount more f g u0 u1 → (disk : ℕ) → Contains (live_in (seen_under u0).disks) disk → disk < length f.stores
-few-disks mount more f g _ _ is (turn_one {d0} {d1} {old} {new} was over later left state has) disk live =
+few-disks mount more f g _ _ is (turn_one {d0} {d1} {old} {new} was over later left state has first near) disk live =
     let one = (on-disk d0).alone disk live in
     let number = over.disk in
     let first = ap (λ (k : StoreKey). k.disk) (file-key mount f is old was) in

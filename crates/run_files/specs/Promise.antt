@@ -1,5 +1,5 @@
 -- What a sync made lasting, from one run to the next: of a file on one disk, and on disks in mirrors.
-use Rattle.std.specs.Prelude.{◌≡◌, ℕ, ◌≤◌, List, [], ◌∷◌, map, slice_get, Option, Some, IsSome, Contains}
+use Rattle.std.specs.Prelude.{◌≡◌, ℕ, ◌+◌, ◌<◌, ◌≤◌, Bool, true, false, List, [], ◌∷◌, ◌++◌, slice_get, Option, Some, IsSome}
 use Rattle.hist_plain.specs.declared.event.Event.{Event}
 use Rattle.hist_plain.specs.declared.event.Event.TheVariants.{Synced}
 use Rattle.hist_plain.specs.declared.event.Keep.{Keep}
@@ -14,11 +14,15 @@ use Rattle.tower_log.specs.declared.logged.Logged.{Logged}
 use Rattle.tower_log.specs.Log.{trail_of}
 use Rattle.stack_engine.specs.Opened.{last_from}
 use Rattle.file_stores.specs.Keys.{EachAt}
-use Rattle.file_stores.specs.Held.{StoreSeen}
 use Rattle.file_stores.specs.Files.{FileSeen}
-use Rattle.file_stores.specs.Guards.{AreAmong, HoldImages, IsUp}
-use Rattle.file_stores.specs.Opening.{shape_of_file}
-use Rattle.run_files.specs.Run.{AreLower, Holds, HoldsAll, IsTold, LeavesMirrors, live_of, synced_from, versions}
+use Rattle.page_ground.specs.Seen.{Imaged}
+use Rattle.mirror_rules.specs.Tree.{Image, Cell, Store as Found, Seat, In, limit}
+use Rattle.mirror_rules.specs.Opening.{opened}
+use Rattle.mirror_layer.specs.View.{as_image}
+use Rattle.mirror_rules.specs.Claims.{Every, Nth}
+use Rattle.mirror_rules.specs.Guards.{Direct, Within, Among, IsIn, live_at}
+use Rattle.mirror_rules.specs.History.{Chain, Comes, Lived, Marked, Rests, Sync, Up, either, everywhere, images_at, lived}
+use Rattle.run_files.specs.Run.{Holds, HoldsAll, IsTold, LeavesMirrors, synced_from, versions}
 
 -- the pages that a file on one disk began with, in a run
 abbrev pub BeganWith : Mount → StoreKey → List ℕ → (List (List ℕ) → Type 0) → Type 0
@@ -40,43 +44,69 @@ pub data SinceSyncOnDisk (mount : Mount) (key : StoreKey) : List (ℕ → ℕ �
 -- OVER ANY NUMBER OF RUNS: each begins the file with pages of those histories
 abbrev pub DiskLastsOn : Type 0
 DiskLastsOn = (mount : Mount) (key : StoreKey) (Vs : List (ℕ → ℕ → List ℕ)) (left : Content) (closing : List Reply) (log : List Logged) (after : Option Content) → SinceSyncOnDisk mount key Vs left → (next : IsTold mount closing log key left after)
-    → BeganWith mount key next.opening (AreAmong Vs)
+    → BeganWith mount key next.opening (Within (Among Vs))
 
 -- EACH SYNC COUNTS: the place that a completed sync is from is not behind the latest, from which on a disk keeps and shows the file
 abbrev pub EachSyncCounts : Type 0
 EachSyncCounts = (trail : List Event) (place caller number node from : ℕ) (keep : Keep) → slice_get trail place ≡ Some (Synced caller number node from keep) → (latest : ℕ) × (last_from trail ≡ Some latest) × (from ≤ latest)
 
--- what a file's stores hold, if it is told, one for each disk
-abbrev pub contents_of : FileSeen → List (Option Content)
-contents_of f = map (λ s. s.state.content) f.stores
-
 -- each store of the file tells what it holds
 abbrev pub TellsAll : FileSeen → Type 0
 TellsAll f = EachAt (λ at s. IsSome s.state.content) f.stores
 
--- a run finds in the stores of this file what was left there
-pub record Finds (file : ℕ) (left found : FileSeen) : Type 0 where
-  pub is : found.file ≡ file
-  pub contents : contents_of found ≡ contents_of left
+-- the disks of a run over mirrors that are live when it ends, by their places; and those that were when its ground was opened
+abbrev pub live_then : {mount : Mount} {closing : List Reply} {log : List Logged} {f g : FileSeen} → LeavesMirrors mount closing log f g → ℕ → Bool
+live_then run = live_at run.closed.row
 
--- THE PROMISE FROM ONE RUN TO THE NEXT: the next run finds in the file's stores what this one left there. Where this one completed a sync,
--- and the next one has a disk up that was live when this one ended, the file of the next run begins, page by page, as it was at that sync or
--- later. That holds unless a disk that this run could not open has no lower generation, or the last generation is reached.
-abbrev pub LastsToNext : Type 0
-LastsToNext = (mount : Mount) (closing closing' : List Reply) (log log' : List Logged) (f g f' g' : FileSeen) (run : LeavesMirrors mount closing log f g) (next : LeavesMirrors mount closing' log' f' g') (tells : TellsAll f) (tells' : TellsAll f')
-    → Finds f.file g f' → (from : ℕ) → last_from (trail_of log) ≡ Some from → AreLower (shape_of_file mount f.file) run.closed g.stores
-    → (disk : ℕ) → Contains (live_of run.closed) disk → IsUp mount.ground next.over.seen.row disk
-    → Holds mount (run.told tells).opening log from (next.told tells').pages
+abbrev pub live_first : {mount : Mount} {closing : List Reply} {log : List Logged} {f g : FileSeen} → LeavesMirrors mount closing log f g → ℕ → Bool
+live_first run = live_at run.opened.row
 
--- RUNS SINCE A SYNC of a file: its histories since then, the disks that guard them, and its stores as they were left
-pub data SinceSync (mount : Mount) (file : ℕ) : List (ℕ → ℕ → List ℕ) → List ℕ → FileSeen → Type 0 where
-  since_synced : {closing : List Reply} {log : List Logged} {f g : FileSeen} {from : ℕ} (run : LeavesMirrors mount closing log f g) (tells : TellsAll f) → f.file ≡ file → last_from (trail_of log) ≡ Some from → AreLower (shape_of_file mount f.file) run.closed g.stores
-      → SinceSync mount file (versions mount (run.told tells).opening log from ∷ []) (live_of run.closed) g
-  -- a run had one of the disks up, and no disk was blank
-  since_ran : {Vs : List (ℕ → ℕ → List ℕ)} {disks : List ℕ} {disk : ℕ} {closing : List Reply} {log : List Logged} {left f g : FileSeen} → SinceSync mount file Vs disks left → Finds file left f → (run : LeavesMirrors mount closing log f g) (tells : TellsAll f)
-      → HoldImages (shape_of_file mount f.file) f.stores → Contains disks disk → IsUp mount.ground run.over.seen.row disk → SinceSync mount file (versions mount (run.told tells).opening log 0 ∷ Vs) disks g
+-- THE STORES OF A FILE COME TO A RUN of a chain: each shows nothing, or an image that a store of the chain showed once; these places count for the
+-- run and for the sync that the chain is looked at for; and a disk that counts for the run is up
+pub record ComesTo {mount : Mount} {closing : List Reply} {log : List Logged} {f g : FileSeen} (run : LeavesMirrors mount closing log f g) (past next counts : List Image) (for_run for_sync : ℕ → Bool) : Type 0 where
+  pub comes : Every (Comes Direct (pages_of mount f.file) past) run.over.seen.stores_seen
+  pub marked : Marked next counts run.over.seen.stores_seen for_run for_sync
+  pub up : Up for_run run.over.seen.row
 
--- THE PROMISE OVER ANY NUMBER OF RUNS: a run that has one of the disks up begins the file with pages of those histories
-abbrev pub LastsOn : Type 0
-LastsOn = (mount : Mount) (file : ℕ) (Vs : List (ℕ → ℕ → List ℕ)) (disks : List ℕ) (disk : ℕ) (closing : List Reply) (log : List Logged) (left f g : FileSeen) → SinceSync mount file Vs disks left → Finds file left f → (next : LeavesMirrors mount closing log f g) (tells : TellsAll f)
-    → Contains disks disk → IsUp mount.ground next.over.seen.row disk → AreAmong Vs (next.told tells).pages
+-- what a run leaves: all images that its stores show; those of the disks that were live when it ended, which count for the next run; and these for a
+-- sync that was done before, or for its own
+abbrev pub left_by : {mount : Mount} {closing : List Reply} {log : List Logged} {f g : FileSeen} → LeavesMirrors mount closing log f g → (ℕ → Bool) → List Image
+left_by run places = images_at places run.back.seen
+
+-- A RUN OVER MIRRORS GOES ON WITH A CHAIN in the sense of the machine of mirrors, whatever the disks were before. If it completed no sync, the
+-- file's history in it joins those since the sync that the chain is looked at for. If it completed one, the chain may be looked at for the last
+-- that it completed. The last generation is never reached
+abbrev pub RunsGoOn : Type 0
+RunsGoOn = (mount : Mount) (closing : List Reply) (log : List Logged) (f g : FileSeen) (run : LeavesMirrors mount closing log f g) (tells : TellsAll f) (s : Sync) (past next counts : List Image) (for_run for_sync : ℕ → Bool)
+    → Chain Direct (pages_of mount f.file) s (Rests past next counts) → ComesTo run past next counts for_run for_sync → run.closed.generation + 1 < limit
+    → Chain Direct (pages_of mount f.file) (lived (versions mount (run.told tells).opening log 0) s) (Rests (left_by run everywhere ++ past) (left_by run (live_then run) ++ []) (left_by run (either for_sync (live_first run)) ++ counts))
+    × ((from : ℕ) → last_from (trail_of log) ≡ Some from
+    → Chain Direct (pages_of mount f.file) (Lived (versions mount (run.told tells).opening log from ∷ []) []) (Rests (left_by run everywhere ++ past) (left_by run (live_then run) ++ []) (left_by run (live_then run) ++ [])))
+
+-- THE PROMISE OF MIRRORS: in a chain each run that has a disk up that counts for a sync begins with a file whose pages are versions of them since that sync. So a
+-- sync that was done lasts, as long as each run begins with a disk up that was live when the run before it ended
+abbrev pub EachSyncLasts : Type 0
+EachSyncLasts = (mount : Mount) (closing : List Reply) (log : List Logged) (f g : FileSeen) (run : LeavesMirrors mount closing log f g) (tells : TellsAll f) (Vs : List (ℕ → ℕ → List ℕ)) (past next counts : List Image) (place : ℕ) (live : Bool) (c : Cell)
+    → Chain Direct (pages_of mount f.file) (Lived Vs []) (Rests past next counts) → Every (Comes Direct (pages_of mount f.file) past) run.over.seen.stores_seen → Nth place run.over.seen.row (In live c) → IsIn counts c.now
+    → Within (Among Vs) (run.told tells).pages
+
+-- A DISK ALONE in a chain: its store with this image, as a store of the machine, and what its opening finds
+abbrev pub alone : Imaged → Found
+alone i = record { disk = 0; image = Some (as_image i); kept = Some (as_image i); blank = false; faults = 0 }
+
+abbrev pub met_alone : Imaged → Seat
+met_alone i = In false (opened (alone i) (as_image i))
+
+-- A RUN OVER A DISK ALONE GOES ON WITH A CHAIN too, if its image has a generation above 1, as each has that counts since a sync of a mirror was done. So a
+-- disk of a mirror may be run alone
+abbrev pub AloneGoesOn : Type 0
+AloneGoesOn = (mount : Mount) (closing : List Reply) (log : List Logged) (key : StoreKey) (old : Content) (after : Option Content) (run : IsTold mount closing log key old after) (s : Sync) (past next counts : List Image) (for_run for_sync : ℕ → Bool)
+    → Chain Direct (pages_of mount key.file) s (Rests past next counts) → Every (Comes Direct (pages_of mount key.file) past) (alone (run.began).0 ∷ []) → Marked next counts (alone (run.began).0 ∷ []) for_run for_sync → for_run 0 ≡ true
+    → 1 < (run.began).0.generation → run.level + 1 < limit
+    → Chain Direct (pages_of mount key.file) (lived (versions mount run.opening log 0) s) (Rests (as_image (run.reads).0 ∷ past) (as_image (run.reads).0 ∷ []) (as_image (run.reads).0 ∷ counts))
+    × ((from : ℕ) → last_from (trail_of log) ≡ Some from → Chain Direct (pages_of mount key.file) (Lived (versions mount run.opening log from ∷ []) []) (Rests (as_image (run.reads).0 ∷ past) (as_image (run.reads).0 ∷ []) (as_image (run.reads).0 ∷ [])))
+
+-- and it begins with pages of a sync that its image counts for
+abbrev pub EachSyncLastsAlone : Type 0
+EachSyncLastsAlone = (mount : Mount) (closing : List Reply) (log : List Logged) (key : StoreKey) (old : Content) (after : Option Content) (run : IsTold mount closing log key old after) (Vs : List (ℕ → ℕ → List ℕ)) (past next counts : List Image)
+    → Chain Direct (pages_of mount key.file) (Lived Vs []) (Rests past next counts) → Every (Comes Direct (pages_of mount key.file) past) (alone (run.began).0 ∷ []) → IsIn counts (as_image (run.began).0) → Within (Among Vs) (run.began).0.pages

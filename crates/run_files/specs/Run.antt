@@ -1,5 +1,5 @@
 -- What a run does to the files of a stack and their stores, and what it writes.
-use Rattle.std.specs.Prelude.{◌≡◌, ◌⊎◌, ℕ, min, ◌+◌, ◌*◌, ◌^◌, ◌<◌, ◌≤◌, List, [], ◌∷◌, map, length, take, slice_get, unwrap_or, Option, Some, None, IfSome, IsSome, Contains, Bool, false, if◌then◌else◌}
+use Rattle.std.specs.Prelude.{◌≡◌, ◌⊎◌, ℕ, min, ◌+◌, ◌*◌, ◌<◌, ◌≤◌, List, [], ◌∷◌, map, length, take, slice_get, unwrap_or, Option, Some, None, IfSome, IsSome, Contains, Bool, true, if◌then◌else◌}
 use Rattle.std.specs.List.{AllByRecursion}
 use Rattle.std.specs.Option.{option_map}
 use Rattle.hist_plain.specs.declared.TheConstants.{MAX_EVENTS}
@@ -39,6 +39,8 @@ use Rattle.spr_report.specs.declared.status.Status.TheVariants as statuses
 use Rattle.spr_report.specs.Report.{report}
 use Rattle.page_ground.specs.Seen.{is_up_in, kept_in, live_in, numbers_in}
 use Rattle.page_ground.specs.Seen.{pages_in as told_in}
+use Rattle.mirror_rules.specs.Tree.{limit, next}
+use Rattle.mirror_rules.specs.History.{Went, Kept}
 use Rattle.mirror_layer.specs.Ground.{Ground, IsGround, seen_of}
 use Rattle.mirror_layer.specs.Bringing.{OpenedOver}
 use Rattle.mirror_layer.specs.Stores.{GivesBack}
@@ -46,8 +48,7 @@ use Rattle.file_stores.specs.Keys.{EachAt, stores_of, image_shape}
 use Rattle.file_stores.specs.State.{StoreState, Returned}
 use Rattle.file_stores.specs.Held.{StoreSeen}
 use Rattle.file_stores.specs.Files.{FileSeen, StandsAt, stores_in}
-use Rattle.file_stores.specs.Guards.{AreAmong, AreGuarded, HasImage, HoldImages, IsUp}
-use Rattle.file_stores.specs.Opening.{content_of, faults_of, shape_of_file}
+use Rattle.file_stores.specs.Opening.{IsFoundBad, content_of, faults_of, shape_of_file}
 use Rattle.run_files.specs.Held.{AreFiles, AreSameFiles, Closes, IsUnheld}
 use Rattle.file_stores.specs.declared.stop.Stop.{Stop}
 use Rattle.file_stores.specs.declared.stop.Stop.TheVariants as stops
@@ -145,6 +146,13 @@ pub record IsTold (mount : Mount) (closing : List Reply) (log : List Logged) (ke
   pub kept : IsKept mount closing log key opening (pages_in (image_shape mount key) old.kept) new.kept
   pub reads : IsFrom mount key opening log (synced_from log) new.blocks
   pub reads_all : slice_get closing key.file ≡ Some replies.Done → IsAll mount key opening log new.blocks
+  -- the ground's generation at the end: the image has it, or the next one; it never fell, and behind a completed sync it is higher by two, if a raise
+  -- was owed, as it is by a disk above generation 1
+  pub level : ℕ
+  pub rises : (began).0.generation ≤ level
+  pub low : level ≤ (reads).0.generation
+  pub high : (reads).0.generation ≤ next level
+  pub paid : (from : ℕ) → last_from (trail_of log) ≡ Some from → 1 < (began).0.generation → min ((began).0.generation + 2) limit ≤ level
 
 -- What became of a file's only store.
 pub record Leaves (mount : Mount) (closing : List Reply) (log : List Logged) (key : StoreKey) (old new : StoreState) : Type 0 where
@@ -165,11 +173,6 @@ live_of g = live_in (seen_of g).disks
 abbrev pub Store : FileSeen → FileSeen → ℕ → StoreSeen → StoreSeen → Type 0
 Store f g disk old new = (slice_get f.stores disk ≡ Some old) × (slice_get g.stores disk ≡ Some new)
 
--- no live disk has the last generation, and a disk that was not opened has a lower one than each live disk
-pub record AreLower (shape : ImageShape) (closed : Ground) (stores : List StoreSeen) : Type 0 where
-  pub limit : (disk : ℕ) (i : Imaged) → Contains (live_of closed) disk → HasImage shape stores disk i → i.generation + 1 < 2 ^ 63
-  pub lower : (disk other : ℕ) (i j : Imaged) → Contains (live_of closed) disk → is_up_in (seen_of closed).disks other ≡ false → HasImage shape stores disk i → HasImage shape stores other j → j.generation < i.generation
-
 -- the stores of disks in mirrors told their content: the pages of the ground as it was opened began the file, and each disk that is live at
 -- the end keeps what it is to keep
 pub record AreTold (mount : Mount) (closing : List Reply) (log : List Logged) (f g : FileSeen) (opened closed : Ground) : Type 0 where
@@ -182,25 +185,28 @@ pub record AreTold (mount : Mount) (closing : List Reply) (log : List Logged) (f
   pub shows : (from : ℕ) → last_from (trail_of log) ≡ Some from → IfSome (seen_of closed).pages (Holds mount opening log from)
   -- and if the closing sync is done, they are those of the whole file
   pub shows_all : slice_get closing f.file ≡ Some replies.Done → IfSome (seen_of closed).pages (HoldsAll mount f.file opening log)
-  -- and behind a completed sync the disks that are live at the end guard the pages as they were from that sync on
   pub reached : (from : ℕ) → last_from (trail_of log) ≡ Some from → from ≤ length (trail_of log)
-  pub guards : (from : ℕ) → last_from (trail_of log) ≡ Some from → AreLower (shape_of_file mount f.file) closed g.stores
-      → AreGuarded (shape_of_file mount f.file) (versions mount opening log from ∷ []) (live_of closed) g.stores
   pub kept : (disk : ℕ) (old new : StoreSeen) → Store f g disk old new → Contains (live_of closed) disk
       → (c : Content) × (new.state.content ≡ Some c) × IsKept mount closing log old.key opening (unwrap_or (told_in (kept_in (seen_of opened).disks disk)) None) c.kept
+  -- from its opening to its closing the ground went as in a run of the machine of mirrors, with the file's history; and behind a completed sync
+  -- what was owed is paid, and the live disks have the file as it was from that sync on, above each other disk that was opened and has it not
+  pub went : Went (versions mount opening log 0) opened.generation opened.row closed.generation closed.row
+  pub synced : (from : ℕ) → last_from (trail_of log) ≡ Some from → Kept (versions mount opening log from) opened.generation closed.generation closed.row
 
 -- What became of the stores of a file on disks in mirrors.
 pub record LeavesMirrors (mount : Mount) (closing : List Reply) (log : List Logged) (f g : FileSeen) : Type 0 where
   -- the ground that the stores gave when they were opened, and the one that gave them back
   pub opened : Ground
   pub over : OpenedOver content_of faults_of (shape_of_file mount f.file) f.stores mount.ground opened
+  -- a raise was owed then, as it is by each ground of more than one disk
+  pub owes : opened.owed ≡ true
   pub closed : Ground
   pub sound : IsGround closed
   pub back : GivesBack content_of faults_of closed.beside closed.row g.stores
-  -- at the end some disk is live, which was so at the opening; each other one's store failed since it was taken
+  -- at the end some disk is live, which was so at the opening; each other one's store failed since it was taken, or its blocks were found bad
   pub some : 0 < length (live_of closed)
   pub live : (disk : ℕ) → Contains (live_of closed) disk → Contains (live_of opened) disk
-  pub fell : (disk : ℕ) (old new : StoreSeen) → Store f g disk old new → Contains (live_of closed) disk ⊎ (old.state.faults < new.state.faults)
+  pub fell : (disk : ℕ) (old new : StoreSeen) → Store f g disk old new → Contains (live_of closed) disk ⊎ (old.state.faults < new.state.faults) ⊎ IsFoundBad opened disk
   -- they are the same disks, and those are told as opened that were
   pub same : numbers_in (seen_of closed).disks ≡ numbers_in (seen_of opened).disks
   pub up : (disk : ℕ) → is_up_in (seen_of closed).disks disk ≡ is_up_in (seen_of opened).disks disk
@@ -209,12 +215,6 @@ pub record LeavesMirrors (mount : Mount) (closing : List Reply) (log : List Logg
   -- the counts of a disk's notes are among those of its store's faults in this run
   pub rises : (disk : ℕ) (old new : StoreSeen) → Store f g disk old new → Rises old.state.faults new.state.faults (counts_of disk log)
   pub told : EachAt (λ at s. IsSome s.state.content) f.stores → AreTold mount closing log f g opened closed
-  -- if some disks guarded histories before, and one of them was up, the ground that was opened has pages of them
-  pub gives : EachAt (λ at s. IsSome s.state.content) f.stores → (Vs : List (ℕ → ℕ → List ℕ)) (disks : List ℕ) (disk : ℕ) → AreGuarded (shape_of_file mount f.file) Vs disks f.stores
-      → Contains disks disk → IsUp mount.ground over.seen.row disk → IfSome (seen_of opened).pages (AreAmong Vs)
-  -- and if each store held an image, those disks guard the same histories at the end, and that of this run
-  pub goes_on : (tells : EachAt (λ at s. IsSome s.state.content) f.stores) → HoldImages (shape_of_file mount f.file) f.stores → (Vs : List (ℕ → ℕ → List ℕ)) (disks : List ℕ) (disk : ℕ) → AreGuarded (shape_of_file mount f.file) Vs disks f.stores
-      → Contains disks disk → IsUp mount.ground over.seen.row disk → AreGuarded (shape_of_file mount f.file) (versions mount (told tells).opening log 0 ∷ Vs) disks g.stores
 
 -- WHAT BECAME OF A FILE'S STORES, by its log and the answer of its closing sync
 pub data LeavesFile (mount : Mount) (closing : List Reply) (log : List Logged) (f g : FileSeen) : Type 0 where

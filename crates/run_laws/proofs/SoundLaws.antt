@@ -73,7 +73,7 @@ use Rattle.mirror_rules.specs.Tree.{Seat}
 use Rattle.mirror_rules.specs.Tree as machine
 use Rattle.mirror_rules.specs.Claims.{Nth, Pairs, nth_here, nth_later, pairs_more, pairs_none}
 use Rattle.mirror_rules.specs.Fates.{Blamed, blamed_here, blamed_later}
-use Rattle.mirror_rules.specs.Opening.{Bad, Good, Lost}
+use Rattle.mirror_rules.specs.Opening.{BadImage as Damaged, Good, Lost}
 use Rattle.mirror_layer.specs.View.{Beside}
 use Rattle.mirror_layer.specs.Stores.{Left, Stored, stored}
 use Rattle.mirror_layer.specs.Stores as mirrors
@@ -84,7 +84,6 @@ use Rattle.file_stores.specs.State.{RoseBy}
 use Rattle.file_stores.specs.Held.{StoreSeen}
 use Rattle.file_stores.specs.Files.{FileSeen, IsFile}
 use Rattle.file_stores.proofs.Lists.{some-is, there}
-use Rattle.file_stores.specs.Guards.{HoldImages}
 use Rattle.file_stores.specs.Keys.{stores_of}
 use Rattle.file_stores.specs.Opening.{IsUnopened, IsUnopenedOne, content_of, faults_of, refused_by, shape_of_file, unopened_many, unopened_one}
 use Rattle.file_stores.specs.Stop.{stop_status}
@@ -95,7 +94,7 @@ use Rattle.file_stores.proofs.FileLaws.{file-number}
 use Rattle.run_files.specs.Ended.{any_lost, has_fault, is_done, is_fault, is_memory, lacks_memory, status_by, status_of}
 use Rattle.run_files.specs.Held.{IsUnheld}
 use Rattle.run_files.specs.Run.{IsOfDisks, IsOfFile, LeavesFile, NotRun, Played, Store, before_all, leaves_many, leaves_one, ran_out, reported, stopped, unopened, untaken}
-use Rattle.run_laws.specs.Sound.{AreNotFull, AreStoresSound, HadImages, IsBaySound, SoundRunEndsWell}
+use Rattle.run_laws.specs.Sound.{AreNotFull, AreStoresSound, HadImages, HoldImages, IsBaySound, SoundRunEndsWell}
 use Rattle.run_files.proofs.TurnLaws.{file-key}
 
 -- COUNTS THAT STAND STILL
@@ -577,8 +576,8 @@ module _ (mount : Mount) (f g : FileSeen) (is : IsFile mount f) (sound : (disk :
       let same = sound rose.0 rose.1 rose.2 (rose.3, rose.4) in
       let up = rose.5 in
       absurd (omega (arith, same, up))
-  many-well (refusals'.StoreFault fault) (refused {o = Good owed} seen opens says reasoned blames lasting back) = absurd says
-  many-well (refusals'.StoreFault fault) (refused {o = Bad d} seen opens says reasoned blames lasting back) = absurd says
+  many-well (refusals'.StoreFault fault) (refused {o = Good owed level} seen opens says reasoned blames lasting back) = absurd says
+  many-well (refusals'.StoreFault fault) (refused {o = Damaged d} seen opens says reasoned blames lasting back) = absurd says
   many-well refusals'.Memory over = refl
 
   unopened-well : (stop : Stop) → IsUnopened mount f g stop → stop ≡ stops.Memory

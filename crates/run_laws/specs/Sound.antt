@@ -1,5 +1,5 @@
 -- A run in which nothing failed, and how it ends.
-use Rattle.std.specs.Prelude.{◌≡◌, ◌⊎◌, ℕ, ◌-◌, ◌^◌, ◌<◌, List, slice_get, Option, Some}
+use Rattle.std.specs.Prelude.{◌≡◌, ◌⊎◌, ℕ, ◌-◌, ◌^◌, ◌<◌, List, length, slice_get, Option, Some}
 use Rattle.hist_plain.specs.declared.TheConstants.{MAX_EVENTS}
 use Rattle.script_text.specs.declared.script.Script.{Script}
 use Rattle.stack_accept.specs.Mount.{Mount}
@@ -7,11 +7,14 @@ use Rattle.pager_channel.specs.declared.numbers.Ops.{Ops}
 use Rattle.tower_log.specs.Log.{place_of}
 use Rattle.run_defs.specs.Log.{Histories, log_at}
 use Rattle.spr_io.specs.Berth.{BaySeen}
+use Rattle.spr_io.specs.Content.{Content}
+use Rattle.disk_format.specs.declared.shape.ImageShape.{ImageShape}
+use Rattle.disk_format.specs.Image.{image}
+use Rattle.page_ground.specs.Seen.{Imaged}
 use Rattle.spr_report.specs.declared.status.Status.{Status}
 use Rattle.spr_report.specs.declared.status.Status.TheVariants.{Good, Memory}
 use Rattle.file_stores.specs.Held.{StoreSeen}
 use Rattle.file_stores.specs.Files.{FileSeen}
-use Rattle.file_stores.specs.Guards.{HoldImages}
 use Rattle.file_stores.specs.Opening.{shape_of_file}
 use Rattle.run_files.specs.Run.{SaysRun, Store, ran_out, reported, stopped, unopened, untaken}
 
@@ -23,6 +26,18 @@ pub record IsBaySound (before after : BaySeen) : Type 0 where
 -- no store of these files had a fault while it was out
 abbrev pub AreStoresSound : List FileSeen → List FileSeen → Type 0
 AreStoresSound olds news = (file disk : ℕ) (f g : FileSeen) (old new : StoreSeen) → slice_get olds file ≡ Some f → slice_get news file ≡ Some g → Store f g disk old new → new.state.faults ≡ old.state.faults
+
+-- the store of this disk tells what it holds: this image of the shape
+pub record HasImage (shape : ImageShape) (stores : List StoreSeen) (disk : ℕ) (imaged : Imaged) : Type 0 where
+  pub store : StoreSeen
+  pub content : Content
+  pub there : slice_get stores disk ≡ Some store
+  pub tells : store.state.content ≡ Some content
+  pub is : image shape content.blocks ≡ Some imaged
+
+-- each store holds an image
+abbrev pub HoldImages : ImageShape → List StoreSeen → Type 0
+HoldImages shape stores = (disk : ℕ) → disk < length stores → (i : Imaged) × HasImage shape stores disk i
 
 -- each store of each file told an image when it was taken
 abbrev pub HadImages : Mount → List FileSeen → Type 0

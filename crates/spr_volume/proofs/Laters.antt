@@ -29,7 +29,7 @@ use Rattle.stack_engine.specs.Engine.{EngineSeen, IsSound, events_in, file_in, l
 use Rattle.stack_engine.specs.Moves.{Enters, Goes, IsRefused}
 use Rattle.stack_engine.specs.Opened.{IsOf, KeepsSince, from_after, last_from}
 use Rattle.stack_engine.proofs.Entering.{at_same, if_some_on, some_image, such_pages}
-use Rattle.stack_engine.proofs.Logs.{counts_of-append}
+use Rattle.stack_engine.proofs.Logs.{counts_of-append, last_from-entered}
 use Rattle.spr_volume.specs.Needed.{AreNeeded}
 use Rattle.spr_volume.proofs.Needing.{IsFor, needed_on}
 use Rattle.spr_volume.specs.Later.{AreAnswered, AreLater, IsLater, IsNoteOf, IsOnDisk, IsTurned, KeepsFirst, TurnsFirst, answer_by, notes_in}
@@ -115,6 +115,9 @@ later_once more before after (inl same) notes paid = subst (AreLater more before
   lost = λ disk live. inl live;
   faults = λ disk. omega arith;
   opened = λ disk. refl;
+  aside = λ disk down. refl;
+  level = omega arith;
+  due = omega arith;
   notes = notes;
   paid = subst (λ (s : Seen). IsPaid more before s) same paid;
 })
@@ -127,6 +130,9 @@ later_once more before after (inr keeps) notes paid = record {
   lost = keeps.lost;
   faults = keeps.later;
   opened = keeps.same_opened;
+  aside = keeps.aside;
+  level = keeps.level;
+  due = keeps.due;
   notes = notes;
   paid = paid;
 }
@@ -171,6 +177,47 @@ none-before found (event ∷ more) e = after-none found event (none-before (from
 last-none : (trail more : List Event) → last_from (trail ++ more) ≡ None → last_from trail ≡ None
 last-none trail more e = none-before (last_from trail) more (sym (fold-append from_after None trail more) ∙ e)
 
+-- THE FIRST SYNC that was completed since: what was due is paid
+abbrev Lifts : EngineSeen → EngineSeen → Type 0
+Lifts old new = (from : ℕ) → last_from (events_in old) ≡ None → last_from (events_in new) ≡ Some from → old.ground.due ≤ new.ground.generation
+
+-- what was due is at most what is due after one call
+due_once : (before after : Seen) → IsOneCall before after → before.due ≤ after.due
+due_once before after (inl same) = let e = ap (λ (s : Seen). s.due) same in omega (arith, e)
+due_once before after (inr keeps) = keeps.due
+
+-- no event was entered
+lifts_none : (more : List Logged) (old new : EngineSeen) → log_in new ≡ log_in old ++ more → trail_of more ≡ [] → Lifts old new
+lifts_none more old new log quiet from none some =
+    let events : events_in new ≡ events_in old = ap trail_of log ∙ (trail_of-append (log_in old) more ∙ (ap (λ (es : List Event). events_in old ++ es) quiet ∙ append-nil (events_in old))) in
+    let both : None ≡ Some from = sym none ∙ (sym (ap last_from events) ∙ some) in
+    cc
+
+-- one event was entered, and if it completed a sync, what was due then is paid
+lifts_entered : (entry : Entry) (old new : EngineSeen) → IsOneCall old.ground new.ground → log_in new ≡ log_in old ++ Entered entry ∷ []
+    → ((from : ℕ) → from_after None entry.event ≡ Some from → new.ground.due ≤ new.ground.generation) → Lifts old new
+lifts_entered entry old new call log paid from none some =
+    let events : events_in new ≡ events_in old ++ entry.event ∷ [] = ap trail_of log ∙ trail_of-append (log_in old) (Entered entry ∷ []) in
+    let last : last_from (events_in new) ≡ from_after None entry.event =
+    ap last_from events ∙ (last_from-entered (events_in old) entry.event ∙ ap (λ (found : Option ℕ). from_after found entry.event) none) in
+    omega (arith, due_once old.ground new.ground call, paid from (sym last ∙ some))
+
+-- an event of no caller completes no sync
+pub unsynced : (event : Event) (from : ℕ) → caller_of event ≡ None → from_after None event ≡ Some from → ⊥
+unsynced (events.Access caller number node life op) from e is = cc
+unsynced (events.DestroyCache caller number node) from e is = cc
+unsynced (events.DonePager caller number node) from e is = cc
+unsynced (events.Synced caller number node at keep) from e is = cc
+unsynced (events.PageIn node page write) from e is = cc
+unsynced (events.ZeroFill node page write) from e is = cc
+unsynced (events.PageOut node page) from e is = cc
+unsynced (events.WriteOut node page) from e is = cc
+unsynced (events.SyncOut node page) from e is = cc
+unsynced (events.FlushBack node page) from e is = cc
+unsynced (events.DenyWrites node page) from e is = cc
+unsynced (events.WriteBack node page) from e is = cc
+unsynced (events.DeleteRange node page) from e is = cc
+
 -- ONE TRY: it may call the ground once, and adds these things to the log
 pub record IsTry (more : List Logged) (old new : EngineSeen) : Type 0 where
   pub goes : Goes old new
@@ -180,6 +227,7 @@ pub record IsTry (more : List Logged) (old new : EngineSeen) : Type 0 where
   pub answered : AreAnswered (tree_in old) (state_in old) more
   pub needed : AreNeeded (tree_in old) (file_in old).pages (events_in old) more
   pub calm : (disk : ℕ) → IsOnDisk disk old.ground → counts_of disk more ≡ [] → faults_in new.ground.disks disk ≡ faults_in old.ground.disks disk
+  pub lifts : Lifts old new
 
 -- pages of a told ground are from the first place on
 since_start : (shape : TreeShape) (size pages : ℕ) (opening : List ℕ) (trail : List Event) → GroundIsSince shape size pages opening trail 0
@@ -274,11 +322,13 @@ module _ (more : List Logged) (old new : EngineSeen) (sound : IsSound old) (soun
     calm = move.calm;
     kept = λ opening first disk of live. keeps_first opening first disk of live;
     turned = λ opening first disk of. turns_first opening first disk of;
+    lifts = move.lifts;
   }
 
 -- an event was entered without a fault
-pub try_entered : (entry : Entry) (old new : EngineSeen) → Enters entry old new → entry.answer ≡ answer_by (state_in old) entry.event → IsFor old entry.event → IsTry (Entered entry ∷ []) old new
-try_entered entry old new enters is needed = record {
+pub try_entered : (entry : Entry) (old new : EngineSeen) → Enters entry old new → entry.answer ≡ answer_by (state_in old) entry.event → IsFor old entry.event
+    → ((from : ℕ) → from_after None entry.event ≡ Some from → new.ground.due ≤ new.ground.generation) → IsTry (Entered entry ∷ []) old new
+try_entered entry old new enters is needed paid = record {
   goes = enters.goes;
   log = enters.log;
   notes = (tt, tt);
@@ -286,6 +336,7 @@ try_entered entry old new enters is needed = record {
   answered = (is, tt);
   needed = (needed, tt);
   calm = λ disk on none. calm_on old.ground new.ground disk enters.goes.call on enters.calm;
+  lifts = lifts_entered entry old new enters.goes.call enters.log paid;
 }
 
 -- what a refused call leaves in the log: a note of a store that failed
@@ -310,6 +361,7 @@ try_refused caller old new (StoreFault disk count) refused = record {
   answered = tt;
   needed = tt;
   calm = λ d on none. absurd (one_note (disk == d) count (own_note disk d (on.alone disk refused.why.1.named)) none);
+  lifts = lifts_none (noted_by caller (StoreFault disk count)) old new refused.why.0 refl;
 }
 try_refused caller old new TrailFull refused = record {
   goes = refused.goes;
@@ -319,6 +371,7 @@ try_refused caller old new TrailFull refused = record {
   answered = tt;
   needed = tt;
   calm = λ d on none. ap (λ (s : Seen). faults_in s.disks d) refused.why.2;
+  lifts = lifts_none [] old new (refused.why.0 ∙ sym (append-nil (log_in old))) refl;
 }
 try_refused caller old new Memory refused = record {
   goes = refused.goes;
@@ -328,6 +381,7 @@ try_refused caller old new Memory refused = record {
   answered = tt;
   needed = tt;
   calm = λ d on none. calm_on old.ground new.ground d refused.goes.call on refused.why.2;
+  lifts = lifts_none [] old new (refused.why.0 ∙ sym (append-nil (log_in old))) refl;
 }
 
 -- nothing was done
@@ -340,6 +394,7 @@ try_none old new same = subst (IsTry [] old) (sym same) (record {
   answered = tt;
   needed = tt;
   calm = λ disk on none. refl;
+  lifts = lifts_none [] old old (sym (append-nil (log_in old))) refl;
 })
 
 -- AT THE START, AND ON AND ON
@@ -356,6 +411,7 @@ later_refl e = record {
   calm = λ disk on none. refl;
   kept = λ opening first disk of live was. was;
   turned = λ opening first disk of was. was;
+  lifts = lifts_none [] e e (sym (append-nil (log_in e))) refl;
 }
 
 disks_on : (xs ys : List Logged) (a b c : Seen) → AreLater xs a b → AreLater ys b c → AreLater (xs ++ ys) a c
@@ -374,6 +430,9 @@ disks_on xs ys a b c p q = record {
   ];
   faults = λ disk. omega (arith, p.faults disk, q.faults disk);
   opened = λ disk. q.opened disk ∙ p.opened disk;
+  aside = λ disk down. q.aside disk (p.up disk ∙ down) ∙ p.aside disk down;
+  level = omega (arith, p.level, q.level);
+  due = omega (arith, p.due, q.due);
   notes = all-append (IsNoteOf (live_in a.disks)) xs ys p.notes (notes_of_more (live_in b.disks) (live_in a.disks) ys p.live q.notes);
   paid = λ disk live. let first = p.paid disk (q.live disk live) in let next = q.paid disk live in let all = notes_in-append xs ys in omega (arith, first, next, all);
 }
@@ -394,8 +453,14 @@ later_trans a b c p q = record {
       q.calm disk (on_later disk p.more a.ground b.ground p.disks on) both.1 ∙ p.calm disk on both.0;
   kept = λ opening first disk of live was. q.kept opening first disk (p.of opening of) live (p.kept opening first disk of (q.disks.live disk live) was);
   turned = λ opening first disk of was. q.turned opening first disk (p.of opening of) (p.turned opening first disk of was);
+  lifts = λ from none some. lifted (last_from (events_in b)) refl from none some;
 }
   where
+    -- a sync was completed up to the middle, or the first is in the second stretch
+    lifted : (found : Option ℕ) → last_from (events_in b) ≡ found → Lifts a c
+    lifted None at from none some = omega (arith, p.disks.due, q.lifts from at some)
+    lifted (Some middle) at from none some = omega (arith, p.lifts middle none at, q.disks.level)
+
     events_are : events_in b ≡ events_in a ++ trail_of p.more
     events_are = ap trail_of p.log ∙ trail_of-append (log_in a) p.more
 

@@ -22,7 +22,7 @@ use Rattle.stack_engine.proofs.Planning.{plan_kind, sync_kind}
 use Rattle.spr_volume.specs.TowerCalls.{Moves, Refuses, Tries, access_of, sync_of}
 use Rattle.spr_volume.specs.Later.{IsLater}
 use Rattle.spr_volume.proofs.Needing.{IsFor, for_access, for_sync}
-use Rattle.spr_volume.proofs.Laters.{IsTry, later_trans, later_try, noted_by, try_entered, try_none, try_refused, unanswered}
+use Rattle.spr_volume.proofs.Laters.{IsTry, later_trans, later_try, noted_by, try_entered, try_none, try_refused, unanswered, unsynced}
 
 -- MESSAGES are nobody's
 
@@ -54,7 +54,8 @@ module _ (caller : ℕ) (event : Event) (old new : EngineSeen) (out : List ℕ) 
   sent : (asked message : Event) → IsPageMessage asked → Sends asked old new message → IsFor old message → IsTried caller event old new out (Ok (Stepped message))
   sent asked message kind sends needed = record {
     last = _;
-    is_try = try_entered _ old new sends.enters (unanswered (state_in old) message (stands_quiet old new asked message kind sends.stands)) needed;
+    is_try = try_entered _ old new sends.enters (unanswered (state_in old) message (stands_quiet old new asked message kind sends.stands)) needed
+        (λ at is. absurd (unsynced message at (stands_quiet old new asked message kind sends.stands) is));
     moves = (_, refl, refl, stands_quiet old new asked message kind sends.stands);
   }
 
@@ -73,7 +74,7 @@ module _ (caller number node life : ℕ) (op : Op) (old new : TowerSeen) (out : 
       → IfErr r (Fails caller old new) → IsTried caller (access_of caller node life op (events_in old.engine)) old.engine new.engine out r
   tried_access (Ok (Done answer)) hits bytes fails = record {
     last = _;
-    is_try = try_entered _ old.engine new.engine hits.makes.enters (ap Some hits.makes.is) (λ quiet. absurd cc);
+    is_try = try_entered _ old.engine new.engine hits.makes.enters (ap Some hits.makes.is) (λ quiet. absurd cc) (λ at is. absurd cc);
     moves = (_, refl, record { event_is = ap (λ (n : ℕ). events.Access caller n node life op) number_is; answer_is = refl; bytes = λ read. sym (bytes read) });
   }
   tried_access (Ok (Stepped message)) steps bytes fails =
@@ -89,7 +90,7 @@ module _ (caller number node from : ℕ) (keep : Keep) (old new : TowerSeen) (nu
       → IsTried caller (sync_of caller node from keep (events_in old.engine)) old.engine new.engine [] r
   tried_sync (Ok (Done answer)) syncs fails = record {
     last = _;
-    is_try = try_entered _ old.engine new.engine syncs.enters refl (λ quiet. absurd cc);
+    is_try = try_entered _ old.engine new.engine syncs.enters refl (λ quiet. absurd cc) (λ at is. syncs.kept.paid);
     moves = (_, refl, record { event_is = ap (λ (n : ℕ). events.Synced caller n node from keep) number_is; answer_is = ap Some (sym syncs.is); bytes = λ read. refl });
   }
   tried_sync (Ok (Stepped message)) settles fails =

@@ -1,5 +1,5 @@
 -- The same file later on.
-use Rattle.std.specs.Prelude.{◌≡◌, ◌⊎◌, ℕ, ◌+◌, ◌<◌, ◌≤◌, List, [], ◌∷◌, ◌++◌, length, is_some, Option, Some, None, Contains}
+use Rattle.std.specs.Prelude.{◌≡◌, ◌⊎◌, ℕ, ◌+◌, ◌<◌, ◌≤◌, false, List, [], ◌∷◌, ◌++◌, length, is_some, Option, Some, None, Contains}
 use Rattle.std.specs.List.{AllByRecursion}
 use Rattle.hist_plain.specs.declared.event.Answer.{Answer}
 use Rattle.hist_plain.specs.declared.event.Answer.TheVariants as answers
@@ -38,7 +38,8 @@ notes_in (Noted note ∷ log) = notes_in log + 1
 
 -- THE DISKS LATER ON, after these things of the log. They are the same ones, those were opened that were, and what they kept is told if it was. No disk gets live, some
 -- disk is live if one was, and one that is so no more has failed since. The counts of faults rise, and each note is of a disk that was live.
--- Each disk that is live at the end failed once at least for each note: a fault that another disk masked is not told.
+-- Each disk that is live at the end failed once at least for each note: a fault that another disk masked is not told. Neither
+-- the generation falls, nor the one that is due.
 pub record AreLater (more : List Logged) (old new : Seen) : Type 0 where
   pub disks : numbers_in new.disks ≡ numbers_in old.disks
   pub up : (disk : ℕ) → is_up_in new.disks disk ≡ is_up_in old.disks disk
@@ -48,6 +49,10 @@ pub record AreLater (more : List Logged) (old new : Seen) : Type 0 where
   pub lost : (disk : ℕ) → Contains (live_in old.disks) disk → Contains (live_in new.disks) disk ⊎ (faults_in old.disks disk < faults_in new.disks disk)
   pub faults : (disk : ℕ) → faults_in old.disks disk ≤ faults_in new.disks disk
   pub opened : (disk : ℕ) → opened_in new.disks disk ≡ opened_in old.disks disk
+  -- what was not opened holds what it held
+  pub aside : (disk : ℕ) → is_up_in old.disks disk ≡ false → held_in new.disks disk ≡ held_in old.disks disk
+  pub level : old.generation ≤ new.generation
+  pub due : old.due ≤ new.due
   pub notes : AllByRecursion (IsNoteOf (live_in old.disks)) more
   pub paid : (disk : ℕ) → Contains (live_in new.disks) disk → faults_in old.disks disk + notes_in more ≤ faults_in new.disks disk
 
@@ -99,3 +104,5 @@ pub record IsLater (old new : EngineSeen) : Type 0 where
   pub kept : (opening : List ℕ) (first : Option (Option Imaged)) (disk : ℕ) → IsOf opening old → Contains (live_in new.ground.disks) disk
       → KeepsFirst opening first old disk → KeepsFirst opening first new disk
   pub turned : (opening : List ℕ) (first : Option Imaged) (disk : ℕ) → IsOf opening old → TurnsFirst opening first old disk → TurnsFirst opening first new disk
+  -- if a sync was completed since, for the first time, what was due then is paid
+  pub lifts : (from : ℕ) → last_from (events_in old) ≡ None → last_from (events_in new) ≡ Some from → old.ground.due ≤ new.ground.generation

@@ -14,7 +14,7 @@ returns-in-Ok-clause-chooses g t c told h = chose c.admit-entered.result.outcome
 pub returns-then-not-may_yield-clause-chooses : goal.returns-then-not-may_yield-clause-chooses
 returns-then-not-may_yield-clause-chooses g t c told h =
     chose-none c.requires.disks c.requires.first
-    (stays-at c.top-best.ensures.top c.admit-entered.ensures.beside (c.may_yield.ensures.stays c.if-not-may_yield.true))
+    (stays-at c.best-generation.ensures.best c.admit-entered.ensures.beside (c.may_yield.ensures.stays c.if-not-may_yield.true))
     (at-fault c.admit-entered.result.outcome c.in-Err.fault c.in-Err.is (c.admit-entered.ensures.admits told h))
 
 pub choose-requires : goal.choose-requires
@@ -24,7 +24,7 @@ choose-requires g t c κs within =
     let d : goods (seats (tree_of c.args.node.now)) ≡ t = c.decreases in
     let b : beside_in c.cede.new.node ≡ beside_in c.args.node.now = c.cede.ensures.beside ∙ c.admit-entered.ensures.beside in
     let a : Again (beside_in c.args.node.now) (seats (tree_of c.args.node.now)) (seats (tree_of c.cede.new.node)) =
-    again c.requires.first (ceded c.top-best.ensures.top c.admit-entered.ensures.beside (y.quiet e) (y.alone e) (y.found e) c.cede.ensures.cedes)
+    again c.requires.first (ceded c.best-generation.ensures.best c.admit-entered.ensures.beside (y.quiet e) (y.alone e) (y.found e) c.cede.ensures.cedes)
     (at-fault c.admit-entered.result.outcome c.in-Err.fault c.in-Err.is (c.admit-entered.ensures.admits false (λ q. cc))) in
     let fall : goods (seats (tree_of c.cede.new.node)) < t = omega (arith, d, a.fewer) in (
       fall,
@@ -60,6 +60,6 @@ returns-else-not-may_yield-clause-chooses g t c told h =
     let y = c.may_yield.ensures in
     let e = c.if-not-may_yield.false in
     let b : beside_in c.cede.new.node ≡ beside_in c.args.node.now = c.cede.ensures.beside ∙ c.admit-entered.ensures.beside in
-    chose-again c.requires.disks c.requires.first (ceded c.top-best.ensures.top c.admit-entered.ensures.beside (y.quiet e) (y.alone e) (y.found e) c.cede.ensures.cedes)
+    chose-again c.requires.disks c.requires.first (ceded c.best-generation.ensures.best c.admit-entered.ensures.beside (y.quiet e) (y.alone e) (y.found e) c.cede.ensures.cedes)
     (at-fault c.admit-entered.result.outcome c.in-Err.fault c.in-Err.is (c.admit-entered.ensures.admits told h))
     (c.choose.ensures.chooses told (λ q. ap all_told b ∙ h q))

@@ -44,7 +44,7 @@ returns-in-Opened-clause-others g t c d h =
 
 pub returns-in-Shut-clause-shut : goal.returns-in-Shut-clause-shut
 returns-in-Shut-clause-shut g t c = rw c.in-Shut.is
-    (shut-shut (λ s. g.S.Store.content s) (λ s. g.S.Store.faults s) c.in-Shut.kept c.shut.inside.disk c.shut.inside.shape c.shut.inside.bad c.shut.inside.opened c.shut.inside.store c.put_at-in-Shut.new.places (c.shut.view_is ∙ c.kept.view_is) (every-first (rw c.in-Shut.is at c.requires.there)) (rw c.kept.view_is at c.sound-in-Shut.ensures) c.put_at-in-Shut.ensures.at)
+    (shut-shut (λ s. g.S.Store.content s) (λ s. g.S.Store.faults s) c.in-Shut.kept c.shut.inside.disk c.shut.inside.shape c.shut.inside.bad c.shut.inside.blank c.shut.inside.opened c.shut.inside.store c.put_at-in-Shut.new.places (c.shut.view_is ∙ c.kept.view_is) (every-first (rw c.in-Shut.is at c.requires.there)) (rw c.kept.view_is at c.sound-in-Shut.ensures) c.put_at-in-Shut.ensures.at)
 
 pub returns-in-Shut-clause-others : goal.returns-in-Shut-clause-others
 returns-in-Shut-clause-others g t c d h =

@@ -28,12 +28,12 @@ loop-place-preserved g c =
       spare = c.enter_at-entered.ensures.spare;
       beside = c.enter_at-entered.ensures.beside ∙ v.beside;
       enters = λ told h s w zs k.
-          subst (λ o. Enters told c.args.shape.now.pages 0 c.args.disks (seats (tree_of c.args.node.now)) s o zs) (or-assoc c.loop-place.wrote c.enter_at-entered.result.wrote w)
+          subst (λ o. Enters told c.args.generation c.args.shape.now.pages 0 c.args.disks (seats (tree_of c.args.node.now)) s o zs) (or-assoc c.loop-place.wrote c.enter_at-entered.result.wrote w)
           (v.enters told h s (c.enter_at-entered.result.wrote || w) zs (enter-goes c.enter_at-entered.result.outcome c.in-Ok.field-0 c.in-Ok.is q (c.enter_at-entered.ensures.enters told (λ t. ap all_told v.beside ∙ h t)) k));
     }
 
 pub returns-clause-enters : goal.returns-clause-enters
 returns-clause-enters g c told h =
     let q : c.args.disks - c.loop-place.place ≡ 0 = omega (arith, c.loop-place-test.false) in
-    subst (λ o. Enters told c.args.shape.now.pages 0 c.args.disks (seats (tree_of c.args.node.now)) (Done true) o (seats (tree_of c.loop-place.node))) (or-none c.loop-place.wrote)
+    subst (λ o. Enters told c.args.generation c.args.shape.now.pages 0 c.args.disks (seats (tree_of c.args.node.now)) (Done true) o (seats (tree_of c.loop-place.node))) (or-none c.loop-place.wrote)
     (c.loop-place.invariant.enters told h (Done true) false (seats (tree_of c.loop-place.node)) (enters-none q))

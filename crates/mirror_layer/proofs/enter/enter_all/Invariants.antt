@@ -13,5 +13,5 @@ invariant-loop-place g l = record {
   spare : IsSpare l.fn.shape l.spare;
   beside : beside_in l.node ≡ beside_in l.fn.node;
   enters : (told : Bool) → (told ≡ true → all_told (beside_in l.fn.node) ≡ true) → (s : Says) (w : Bool) (zs : List machine.Seat)
-      → Enters told l.fn.shape.pages l.place (l.fn.disks - l.place) (machine.seats (tree_of l.node)) s w zs → Enters told l.fn.shape.pages 0 l.fn.disks (machine.seats (tree_of l.fn.node)) s (l.wrote || w) zs;
+      → Enters told l.fn.generation l.fn.shape.pages l.place (l.fn.disks - l.place) (machine.seats (tree_of l.node)) s w zs → Enters told l.fn.generation l.fn.shape.pages 0 l.fn.disks (machine.seats (tree_of l.fn.node)) s (l.wrote || w) zs;
 }

@@ -6,7 +6,7 @@ use Rattle.mirror_layer.proofs.TreeSteps.{suits-raise}
 use Rattle.mirror_layer.proofs.flush.+raise_all.Goals as goal
 
 pub pass-requires-clause-suits : goal.pass-requires-clause-suits
-pass-requires-clause-suits g t c = suits-raise c.next-generation.result c.args.node.now c.next-generation.ensures.low c.next-generation.ensures.high
+pass-requires-clause-suits g t c = suits-raise c.next_generation-generation.result c.args.node.now c.next_generation-generation.ensures.low c.next_generation-generation.ensures.high
 
 pub raise_all-requires : goal.raise_all-requires
 raise_all-requires g t c κs within =
@@ -16,10 +16,10 @@ raise_all-requires g t c κs within =
     (fall, (within.0, (within.1, f.0)))
 
 pub returns-in-Ok-true-clause-raised : goal.returns-in-Ok-true-clause-raised
-returns-in-Ok-true-clause-raised g t c = whole c.in-Ok-true.ensures.passes c.in-Ok-true.field-0-test c.next-generation.ensures.next
+returns-in-Ok-true-clause-raised g t c = whole c.in-Ok-true.ensures.passes c.in-Ok-true.field-0-test c.next_generation-generation.ensures.next
 
 pub returns-in-Ok-false-clause-raised : goal.returns-in-Ok-false-clause-raised
-returns-in-Ok-false-clause-raised g t c = again c.in-Ok-false.ensures.passes c.in-Ok-false.field-0-test c.next-generation.ensures.next c.raise_all.ensures.raised
+returns-in-Ok-false-clause-raised g t c = again c.in-Ok-false.ensures.passes c.in-Ok-false.field-0-test c.next_generation-generation.ensures.next c.raise_all.ensures.raised
 
 pub returns-in-Err-clause-raised : goal.returns-in-Err-clause-raised
-returns-in-Err-clause-raised g t c = none c.in-Err.ensures.passes c.next-generation.ensures.next
+returns-in-Err-clause-raised g t c = none c.in-Err.ensures.passes c.next_generation-generation.ensures.next

@@ -47,13 +47,13 @@ returns-then-even-clause-joins g c told h i b t k =
 pub returns-then-wrote-clause-joins : goal.returns-then-wrote-clause-joins
 returns-then-wrote-clause-joins g c told h i b t k =
     let q : c.args.shape.now.pages - c.loop-page.page ≡ 0 = omega (arith, c.loop-page-test.false) in
-    turn-settled (cell_of c.args.disk.now) (cell_of c.loop-page.disk) (cell_of c.settle-settled.new.disk) q c.if-even.false c.generation.ensures.generation (ap (λ o. o || c.settle-settled.result.wrote) c.if-wrote.true ∙ sym c.if-wrote.true) c.settle-settled.ensures.settles
+    turn-settled (cell_of c.args.disk.now) (cell_of c.loop-page.disk) (cell_of c.settle-settled.new.disk) q c.if-even.false (ap (λ o. o || c.settle-settled.result.wrote) c.if-wrote.true ∙ sym c.if-wrote.true) c.settle-settled.ensures.settles
     (c.loop-page.invariant.turns told h i b t k)
 
 pub returns-else-wrote-clause-joins : goal.returns-else-wrote-clause-joins
 returns-else-wrote-clause-joins g c told h i b t k =
     let q : c.args.shape.now.pages - c.loop-page.page ≡ 0 = omega (arith, c.loop-page-test.false) in
-    turn-settled (cell_of c.args.disk.now) (cell_of c.loop-page.disk) (cell_of c.settle-settled.new.disk) q c.if-even.false c.generation.ensures.generation (ap (λ o. o || c.settle-settled.result.wrote) c.if-wrote.false) c.settle-settled.ensures.settles
+    turn-settled (cell_of c.args.disk.now) (cell_of c.loop-page.disk) (cell_of c.settle-settled.new.disk) q c.if-even.false (ap (λ o. o || c.settle-settled.result.wrote) c.if-wrote.false) c.settle-settled.ensures.settles
     (c.loop-page.invariant.turns told h i b t k)
 
 pub returns-in-Left-clause-out : goal.returns-in-Left-clause-out

@@ -11,6 +11,6 @@ invariant-loop-page g l = record {
   live : machine.is_live (tree_of l.node) ≡ true;
   beside : beside_in l.node ≡ beside_in l.fn.node;
   own : beside_of l.disk ≡ beside_of l.fn.disk;
-  turns : (told : Bool) → Tells told (beside_in l.fn.node) l.fn.disk → (i : ℕ) (b : Bool) (t : machine.Store) → Nth i (machine.seats (tree_of l.fn.node)) (machine.Out b t)
-      → Turns told l.fn.even l.fn.shape.pages (machine.seats (tree_of l.fn.node)) (cell_of l.fn.disk) l.even (l.fn.shape.pages - l.page) l.page l.wrote (machine.seats (tree_of l.node)) (cell_of l.disk) i b t;
+  turns : (told : Bool) → Tells told (beside_in l.fn.node) l.fn.disk → (i : ℕ) (b : machine.Why) (t : machine.Store) → Nth i (machine.seats (tree_of l.fn.node)) (machine.Out b t)
+      → Turns told l.fn.even l.fn.generation l.fn.shape.pages (machine.seats (tree_of l.fn.node)) (cell_of l.fn.disk) l.even (l.fn.shape.pages - l.page) l.page l.wrote (machine.seats (tree_of l.node)) (cell_of l.disk) i b t;
 }

@@ -1,10 +1,11 @@
-use Rattle.std.proofs.Common.{refl, false}
+use Rattle.std.proofs.Common.{refl}
+use Rattle.mirror_rules.specs.Tree.{Down}
 use Rattle.mirror_layer.proofs.open.spare_leaf.Goals as goal
 
 pub returns : goal.returns
 returns g c = record {
   one = tt;
-  bad = false;
+  why = Down;
   store = _;
   out = refl;
   fits = refl;

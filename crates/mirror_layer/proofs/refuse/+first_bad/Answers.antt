@@ -14,4 +14,4 @@ first_bad-requires-in-Mirror-clause-bad g t c κs l =
 
 pub unreachable-requires-in_default-None : goal.unreachable-requires-in_default-None
 unreachable-requires-in_default-None g t c =
-    bad-there c.kept.inside.shut.bad (store_of c.kept.inside.shut) (rw (← c.kept.view_is) at (rw c.in-Shut.is at c.requires.bad)) (sym c.bad_of.ensures.bad ∙ c.in_default-None.is-1)
+    bad-there c.kept.inside.shut.bad c.kept.inside.shut.blank (store_of c.kept.inside.shut) (rw (← c.kept.view_is) at (rw c.in-Shut.is at c.requires.bad)) (sym c.bad_of.ensures.bad ∙ c.in_default-None.is-1)

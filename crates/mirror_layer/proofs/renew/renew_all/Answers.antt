@@ -26,6 +26,8 @@ loop-place-preserved g c =
       live = c.renew_at.ensures.live;
       spare = c.renew_at.ensures.spare;
       beside = c.renew_at.ensures.beside ∙ v.beside;
+      room = c.in-Ok.ensures.room;
+      images = c.renew_at.ensures.images;
       renews = λ told h s zs k. v.renews told h s zs (renew-goes c.renew_at.result c.in-Ok.field-0 c.in-Ok.is q (c.renew_at.ensures.renews told (λ t. ap all_told v.beside ∙ h t)) k);
     }
 

@@ -4,13 +4,13 @@ use Rattle.mirror_rules.proofs.BlameLaws.{opens-whole, opens-blame}
 use Rattle.mirror_rules.proofs.opening.opening_leaves_out_who_refused.Goals as goal
 
 pub returns-clause-left : goal.returns-clause-left
-returns-clause-left c = λ told owed size n ss xs us h m. opens-excused h m
+returns-clause-left c = λ told owed n g ss xs us h m. opens-excused h m
 
 pub returns-clause-whole : goal.returns-clause-whole
-returns-clause-whole c = λ told owed size n ss xs us h m c. opens-whole h m c
+returns-clause-whole c = λ told owed n g ss xs us h m k. opens-whole h m k
 
 pub returns-clause-blames : goal.returns-clause-blames
-returns-clause-blames c = λ told size n d k ss xs us h m. opens-blame h m
+returns-clause-blames c = λ told n d k ss xs us h m. opens-blame h m
 
 pub returns-clause-bad : goal.returns-clause-bad
-returns-clause-bad c = λ told size n d xs us h. opens-bad h
+returns-clause-bad c = λ told n d xs us h. opens-bad h

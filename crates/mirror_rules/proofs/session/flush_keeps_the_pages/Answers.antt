@@ -4,13 +4,13 @@ use Rattle.mirror_rules.proofs.GenLaws.{flush-live}
 use Rattle.mirror_rules.proofs.session.flush_keeps_the_pages.Goals as goal
 
 pub returns-clause-same : goal.returns-clause-same
-returns-clause-same c = λ F o q s xs ys h p. keeps-holds (flush_keeps h) p
+returns-clause-same c = λ F o q g h s xs ys k p. keeps-holds (flush_keeps k) p
 
 pub returns-clause-kept : goal.returns-clause-kept
-returns-clause-kept c = λ F o q s xs ys h p. flush-kept h p
+returns-clause-kept c = λ F o q g h s xs ys k p. flush-kept k p
 
 pub returns-clause-taken : goal.returns-clause-taken
-returns-clause-taken c = λ F o q w xs ys h p. flush-done h p
+returns-clause-taken c = λ F o q w g h xs ys k p. flush-done k p
 
 pub returns-clause-live : goal.returns-clause-live
-returns-clause-live c = λ o q w xs ys h. flush-live h refl
+returns-clause-live c = λ o q w g h xs ys k. flush-live k refl

@@ -1,4 +1,4 @@
-use Rattle.std.proofs.Common.{◌≡◌, suc, length, List, map, sym, ap, subst, ◌∙◌, arith}
+use Rattle.std.proofs.Common.{◌≡◌, suc, length, List, map, ap, subst, ◌∙◌, arith}
 use Rattle.name_context.specs.History.{NamesSeen}
 use Rattle.stack_engine.specs.Tower.{TowerSeen}
 use Rattle.spr_volume.specs.Passes.{AreBack, AreNamesBack, Knows, VolumeSeen, logs}

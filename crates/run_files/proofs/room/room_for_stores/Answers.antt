@@ -1,4 +1,4 @@
-use Rattle.std.proofs.Common.{◌≡◌, ◌≤◌, length, ap, ◌∙◌, arith}
+use Rattle.std.proofs.Common.{length, ap, arith}
 use Rattle.run_files.proofs.room.room_for_stores.Goals as goal
 
 pub returns-clause-keys : goal.returns-clause-keys

@@ -1,4 +1,4 @@
-use Rattle.std.proofs.Common.{◌≡◌, ◌+◌, ◌++◌, ◌<◌, ◌^◌, List, length, sym, ap, subst, ◌∙◌, arith}
+use Rattle.std.proofs.Common.{◌≡◌, ◌++◌, ◌<◌, ◌^◌, List, length, sym, subst, arith}
 use Rattle.run_defs.specs.declared.store.StoreKey.{StoreKey}
 use Rattle.stack_engine.specs.Tower.{TowerSeen}
 use Rattle.spr_report.specs.Writing.{Finishes}

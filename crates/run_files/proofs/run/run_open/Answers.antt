@@ -1,6 +1,6 @@
 use denote.Exit.{no}
 use denote.Param.Send.{arg_send, param_send}
-use Rattle.std.proofs.Common.{◌≡◌, [], inr, refl, suc, length, List, sym, subst}
+use Rattle.std.proofs.Common.{inr, refl, suc, length, List, sym, subst}
 use Rattle.stack_engine.specs.Tower.{TowerSeen}
 use Rattle.file_stores.proofs.Crossing.{ground_send}
 use Rattle.run_files.specs.Held.{OpensEach}

@@ -1,9 +1,9 @@
 use Rattle.std.proofs.Common.{◌≡◌, ◌<◌, ℕ, Bool, List, ◌∷◌, length, sym, refl, subst, ap, ◌∙◌}
 use Rattle.std.specs.Prelude.{OnOk, OnErr, IfErr}
 use Rattle.page_ground.specs.Seen.{Keeps, IsCalm, IsFault, with_page}
-use Rattle.mirror_rules.specs.Tree.{Seat, Tree, seats}
+use Rattle.mirror_rules.specs.Tree.{Image, Seat, Tree, seats}
 use Rattle.mirror_rules.specs.Steps.{Says, Puts}
-use Rattle.mirror_rules.specs.Guards.{Guarding}
+use Rattle.mirror_rules.specs.Guards.{Medium, Guarding}
 use Rattle.mirror_rules.specs.History.{Since_then}
 use Rattle.mirror_rules.proofs.GuardLaws.{guards-write}
 use Rattle.mirror_rules.proofs.RoundLaws.{live-tree}
@@ -26,7 +26,7 @@ returns-clause-ok g c =
     let e = c.self.view_is in
     let bs : List Beside = beside_in d.node in
     let t : Tree = tree_of d.node in
-    let G : Ground = ground d.shape d.owed (seats t) bs in
+    let G : Ground = ground d.shape d.owed d.level (seats t) bs in
     let r = c.put.result in
     let q = c.put.new.owed in
     let u : List Seat = seats (tree_of c.put.new.node) in
@@ -34,7 +34,7 @@ returns-clause-ok g c =
     let p = c.args.page in
     let x = c.args.bytes.now in
     let h = c.put.ensures.puts in
-    moved {shape = d.shape} {q = q} {u = u} {bs = bs} (λ a h. OnOk r ((seen_of h).pages ≡ with_page p x (seen_of a).pages)) e b (write-oks r G q u p x i h)
+    moved {shape = d.shape} {q = q} {n = d.level} {u = u} {bs = bs} (λ a h. OnOk r ((seen_of h).pages ≡ with_page p x (seen_of a).pages)) e b (write-oks r G q u p x i h)
 
 pub returns-clause-err : goal.returns-clause-err
 returns-clause-err g c =
@@ -43,7 +43,7 @@ returns-clause-err g c =
     let e = c.self.view_is in
     let bs : List Beside = beside_in d.node in
     let t : Tree = tree_of d.node in
-    let G : Ground = ground d.shape d.owed (seats t) bs in
+    let G : Ground = ground d.shape d.owed d.level (seats t) bs in
     let r = c.put.result in
     let q = c.put.new.owed in
     let u : List Seat = seats (tree_of c.put.new.node) in
@@ -51,7 +51,7 @@ returns-clause-err g c =
     let p = c.args.page in
     let x = c.args.bytes.now in
     let h = c.put.ensures.puts in
-    moved {shape = d.shape} {q = q} {u = u} {bs = bs} (λ a h. OnErr r ((seen_of h).pages ≡ (seen_of a).pages)) e b (write-errs r G q u p x i h)
+    moved {shape = d.shape} {q = q} {n = d.level} {u = u} {bs = bs} (λ a h. OnErr r ((seen_of h).pages ≡ (seen_of a).pages)) e b (write-errs r G q u p x i h)
 
 pub returns-clause-keeps : goal.returns-clause-keeps
 returns-clause-keeps g c =
@@ -60,7 +60,7 @@ returns-clause-keeps g c =
     let e = c.self.view_is in
     let bs : List Beside = beside_in d.node in
     let t : Tree = tree_of d.node in
-    let G : Ground = ground d.shape d.owed (seats t) bs in
+    let G : Ground = ground d.shape d.owed d.level (seats t) bs in
     let r = c.put.result in
     let q = c.put.new.owed in
     let u : List Seat = seats (tree_of c.put.new.node) in
@@ -68,7 +68,7 @@ returns-clause-keeps g c =
     let p = c.args.page in
     let x = c.args.bytes.now in
     let h = c.put.ensures.puts in
-    moved {shape = d.shape} {q = q} {u = u} {bs = bs} (λ a h. Keeps (seen_of a) (seen_of h)) e b (after-write G q u i h.2).keeps
+    moved {shape = d.shape} {q = q} {n = d.level} {u = u} {bs = bs} (λ a h. Keeps (seen_of a) (seen_of h)) e b (after-write G q u i h.2).keeps
 
 pub returns-clause-calm : goal.returns-clause-calm
 returns-clause-calm g c =
@@ -77,7 +77,7 @@ returns-clause-calm g c =
     let e = c.self.view_is in
     let bs : List Beside = beside_in d.node in
     let t : Tree = tree_of d.node in
-    let G : Ground = ground d.shape d.owed (seats t) bs in
+    let G : Ground = ground d.shape d.owed d.level (seats t) bs in
     let r = c.put.result in
     let q = c.put.new.owed in
     let u : List Seat = seats (tree_of c.put.new.node) in
@@ -85,7 +85,7 @@ returns-clause-calm g c =
     let p = c.args.page in
     let x = c.args.bytes.now in
     let h = c.put.ensures.puts in
-    moved {shape = d.shape} {q = q} {u = u} {bs = bs} (λ a h. OnOk r (IsCalm (seen_of a) (seen_of h))) e b (write-calms r G q u p x i h)
+    moved {shape = d.shape} {q = q} {n = d.level} {u = u} {bs = bs} (λ a h. OnOk r (IsCalm (seen_of a) (seen_of h))) e b (write-calms r G q u p x i h)
 
 pub returns-clause-fault : goal.returns-clause-fault
 returns-clause-fault g c =
@@ -94,7 +94,7 @@ returns-clause-fault g c =
     let e = c.self.view_is in
     let bs : List Beside = beside_in d.node in
     let t : Tree = tree_of d.node in
-    let G : Ground = ground d.shape d.owed (seats t) bs in
+    let G : Ground = ground d.shape d.owed d.level (seats t) bs in
     let r = c.put.result in
     let q = c.put.new.owed in
     let u : List Seat = seats (tree_of c.put.new.node) in
@@ -102,7 +102,7 @@ returns-clause-fault g c =
     let p = c.args.page in
     let x = c.args.bytes.now in
     let h = c.put.ensures.puts in
-    moved {shape = d.shape} {q = q} {u = u} {bs = bs} (λ a h. IfErr r (IsFault (seen_of a) (seen_of h))) e b (write-faults r G q u p x i h)
+    moved {shape = d.shape} {q = q} {n = d.level} {u = u} {bs = bs} (λ a h. IfErr r (IsFault (seen_of a) (seen_of h))) e b (write-faults r G q u p x i h)
 
 pub returns-clause-puts : goal.returns-clause-puts
 returns-clause-puts g c =
@@ -111,7 +111,7 @@ returns-clause-puts g c =
     let e = c.self.view_is in
     let bs : List Beside = beside_in d.node in
     let t : Tree = tree_of d.node in
-    let G : Ground = ground d.shape d.owed (seats t) bs in
+    let G : Ground = ground d.shape d.owed d.level (seats t) bs in
     let r = c.put.result in
     let q = c.put.new.owed in
     let u : List Seat = seats (tree_of c.put.new.node) in
@@ -119,7 +119,7 @@ returns-clause-puts g c =
     let p = c.args.page in
     let x = c.args.bytes.now in
     let h = c.put.ensures.puts in
-    moved {shape = d.shape} {q = q} {u = u} {bs = bs} (λ a h. (s : Says) × (outcome s ≡ answered r) × Puts p x a.owed a.row s h.owed h.row) e b h
+    moved {shape = d.shape} {q = q} {n = d.level} {u = u} {bs = bs} (λ a h. (s : Says) × (outcome s ≡ answered r) × Puts p x a.owed a.row s h.owed h.row) e b h
 
 pub returns-clause-rest : goal.returns-clause-rest
 returns-clause-rest g c =
@@ -128,7 +128,7 @@ returns-clause-rest g c =
     let e = c.self.view_is in
     let bs : List Beside = beside_in d.node in
     let t : Tree = tree_of d.node in
-    let G : Ground = ground d.shape d.owed (seats t) bs in
+    let G : Ground = ground d.shape d.owed d.level (seats t) bs in
     let r = c.put.result in
     let q = c.put.new.owed in
     let u : List Seat = seats (tree_of c.put.new.node) in
@@ -136,7 +136,7 @@ returns-clause-rest g c =
     let p = c.args.page in
     let x = c.args.bytes.now in
     let h = c.put.ensures.puts in
-    moved {shape = d.shape} {q = q} {u = u} {bs = bs} (λ a h. h ≡ record a { owed = h.owed; row = h.row }) e b refl
+    moved {shape = d.shape} {q = q} {n = d.level} {u = u} {bs = bs} (λ a h. h ≡ record a { owed = h.owed; row = h.row }) e b refl
 
 pub returns-clause-guards : goal.returns-clause-guards
 returns-clause-guards g c =
@@ -145,7 +145,7 @@ returns-clause-guards g c =
     let e = c.self.view_is in
     let bs : List Beside = beside_in d.node in
     let t : Tree = tree_of d.node in
-    let G : Ground = ground d.shape d.owed (seats t) bs in
+    let G : Ground = ground d.shape d.owed d.level (seats t) bs in
     let r = c.put.result in
     let q = c.put.new.owed in
     let u : List Seat = seats (tree_of c.put.new.node) in
@@ -153,7 +153,7 @@ returns-clause-guards g c =
     let p = c.args.page in
     let x = c.args.bytes.now in
     let h = c.put.ensures.puts in
-    moved {shape = d.shape} {q = q} {u = u} {bs = bs} (λ a h. (F : List (List ℕ)) (ws : List (ℕ × List ℕ)) (L : ℕ → Bool) → Guarding (Since_then F ws) L a.row → Guarding (Since_then F ((p, x) ∷ ws)) L h.row) e b (λ F ws L n. guards-write h.2 n)
+    moved {shape = d.shape} {q = q} {n = d.level} {u = u} {bs = bs} (λ a h. (v : Medium) (F : List (List ℕ)) (ws : List (ℕ × List ℕ)) (L : ℕ → Bool) (past : List Image) → Guarding v (Since_then F ws) L past a.row → Guarding v (Since_then F ((p, x) ∷ ws)) L past h.row) e b (λ v F ws L past n. guards-write h.2 n)
 
 pub invariant_of-self : goal.invariant_of-self
 invariant_of-self g c =
@@ -162,7 +162,7 @@ invariant_of-self g c =
     let e = c.self.view_is in
     let bs : List Beside = beside_in d.node in
     let t : Tree = tree_of d.node in
-    let G : Ground = ground d.shape d.owed (seats t) bs in
+    let G : Ground = ground d.shape d.owed d.level (seats t) bs in
     let r = c.put.result in
     let q = c.put.new.owed in
     let u : List Seat = seats (tree_of c.put.new.node) in
@@ -170,4 +170,4 @@ invariant_of-self g c =
     let p = c.args.page in
     let x = c.args.bytes.now in
     let h = c.put.ensures.puts in
-    moved-one {shape = d.shape} {q = q} {u = u} {bs = bs} b (after-write G q u i h.2).whole
+    moved-one {shape = d.shape} {q = q} {n = d.level} {u = u} {bs = bs} b (after-write G q u i h.2).whole
