@@ -21,6 +21,8 @@ use Rattle.mirror_layer.specs.Ground.{Differ, Counted}
 use Rattle.mirror_layer.specs.Stores.{Finds, Numbered, GivesBack}
 use Rattle.mirror_layer.specs.Filling.{HasStore, has_store, Fills, fills, Apart}
 use Rattle.mirror_layer.specs.Meeting.{IsNew, AllNew, Found, IsBadOf, Met, shuts_in}
+use Rattle.mirror_layer.specs.declared.came.Notice.{Notice}
+use Rattle.mirror_layer.specs.Coming.{AllCome}
 use Rattle.mirror_layer.specs.Bringing.{Brought, brought, Lies, lies, Seen, IsReady, RefusedOver, refused, lacked, UnitedAs, IsFirstOf, IsBadStore, bad_store}
 use Rattle.mirror_rules.specs.Opening.{Opens, Good, BadImage, Lost}
 use Rattle.mirror_layer.proofs.CloseSteps.{nth-some}
@@ -132,12 +134,13 @@ pub owes-by : {owed : Bool} {disks : ℕ} (us : List Seat) (g : ℕ) → disks �
 owes-by us g e o = o ∙ ap (λ n. ltb 1 n || ltb 1 g) e
 
 -- an opening that went well
-pub ready : {D H : Type 0} {T : Type 0} {content : T → Option Content} {faults : T → ℕ} {shape : ImageShape} {stores : List T} {plan : Plan} (n m : Node D H) (places : List (Option T)) (emptied : List T) (room : ℕ) (owed : Bool) (g : ℕ)
-    → Filled content faults shape stores plan n → beside_in m ≡ beside_in n → UnitedAs (Ok g) shape (shuts_in n) (beside_in n) (seats (tree_of m)) → owed ≡ owes (seats (tree_of m)) g → is_live (tree_of m) ≡ true → Pairs Counted (beside_in m) (seats (tree_of m)) → g ≤ limit
-    → length places ≡ length stores → emptied ≡ [] → length stores ≤ room → IsReady content faults shape stores plan (beside_in m) (seats (tree_of m)) owed g places emptied room
-ready {content = content} {faults = faults} {shape = shape} {stores = stores} {plan = plan} n m places emptied room owed g f same goes due live counts within many empty enough =
+pub ready : {D H : Type 0} {T : Type 0} {content : T → Option Content} {faults : T → ℕ} {shape : ImageShape} {stores : List T} {plan : Plan} (n m : Node D H) (places : List (Option T)) (emptied : List T) (room : ℕ) (owed : Bool) (g : ℕ) (words came : List (Option Notice))
+    → Filled content faults shape stores plan n → beside_in m ≡ beside_in n → UnitedAs (Ok g) shape (shuts_in n) (beside_in n) (seats (tree_of m)) came → owed ≡ owes (seats (tree_of m)) g → is_live (tree_of m) ≡ true → Pairs Counted (beside_in m) (seats (tree_of m)) → g ≤ limit
+    → length places ≡ length stores → words ≡ came → length came ≡ length stores → emptied ≡ [] → length stores ≤ room → IsReady content faults shape stores plan (beside_in m) (seats (tree_of m)) owed g words places emptied room
+ready {content = content} {faults = faults} {shape = shape} {stores = stores} {plan = plan} n m places emptied room owed g words came f same united due live counts within many is worded empty enough =
     let us = seats (tree_of m) in
-    let r : IsReady content faults shape stores plan (beside_in n) us owed g places emptied room = record {
+    let goes = united.0 in
+    let r : IsReady content faults shape stores plan (beside_in n) us owed g words places emptied room = record {
       seen = seen-by f goes.met;
       opens = subst (λ o. Opens (all_told (beside_in n)) shape.pages goes.row (Good o g) us) (sym due) goes.opens;
       live = live-seats (tree_of m) live;
@@ -145,8 +148,10 @@ ready {content = content} {faults = faults} {shape = shape} {stores = stores} {p
       within = within;
       differ = f.ordered.differ;
       keeps = record { numbered = f.ordered.numbered; many = many ∙ sym f.ordered.many; empty = empty; enough = omega (arith, enough, f.ordered.many) };
+      words_many = ap (λ v. length v) is ∙ (worded ∙ sym f.ordered.many);
+      came = subst (λ v. AllCome (all_told (beside_in n)) shape.pages goes.row us v) (sym is) united.1;
     } in
-    subst (λ bs. IsReady content faults shape stores plan bs us owed g places emptied room) (sym same) r
+    subst (λ bs. IsReady content faults shape stores plan bs us owed g words places emptied room) (sym same) r
 
 -- why the blocks of the first disk's store are no image
 bad-first : {T : Type 0} {content : T → Option Content} {faults : T → ℕ} {shape : ImageShape} {stores : List T} {disk : ℕ} {bad : images.BadImage} {ns : List ℕ} (s : ShutSeen) {ss : List ShutSeen}
@@ -159,14 +164,14 @@ bad-placed : {T : Type 0} {content : T → Option Content} {faults : T → ℕ} 
 bad-placed {content = content} {faults = faults} {shape = shape} {stores = stores} {ns = ns} fs f = bad-first f.shut (subst (λ v. Pairs (Fills content faults shape (map (λ s. Some s) stores)) ns v) f.first fs) f.number f.reason
 
 -- and one that was refused
-pub refused-as : {D H : Type 0} {T : Type 0} {content : T → Option Content} {faults : T → ℕ} {shape : ImageShape} {stores : List T} {plan : Plan} (n m : Node D H) (reason : Refusal) (after : List T) → Filled content faults shape stores plan n → beside_in m ≡ beside_in n
-    → UnitedAs (Err reason) shape (shuts_in n) (beside_in n) (seats (tree_of m)) → GivesBack content faults (beside_in m) (seats (tree_of m)) after → RefusedOver content faults shape stores plan reason after
-refused-as {content = content} {faults = faults} {shape = shape} n m (why.BadImage disk bad) after f same goes back =
+pub refused-as : {D H : Type 0} {T : Type 0} {content : T → Option Content} {faults : T → ℕ} {shape : ImageShape} {stores : List T} {plan : Plan} (n m : Node D H) (reason : Refusal) (after : List T) (words : List (Option Notice)) → Filled content faults shape stores plan n → beside_in m ≡ beside_in n
+    → UnitedAs (Err reason) shape (shuts_in n) (beside_in n) (seats (tree_of m)) words → GivesBack content faults (beside_in m) (seats (tree_of m)) after → RefusedOver content faults shape stores plan reason after
+refused-as {content = content} {faults = faults} {shape = shape} n m (why.BadImage disk bad) after words f same goes back =
     refused {reason = why.BadImage disk bad} (seen-by f goes.0.met) goes.0.opens refl (bad-placed f.fills goes.1) (blames (BadImage disk) goes.0.opens goes.0.met.meets)
     (λ told. lasting (subst (λ t. Opens t shape.pages goes.0.row (BadImage disk) (seats (tree_of m))) told goes.0.opens) goes.0.met.meets (sizes (brought-all f.fills goes.0.met.found) f.lies (told-every (beside_in n) told)))
     (subst (λ bs. GivesBack content faults bs (seats (tree_of m)) after) same back)
-refused-as {content = content} {faults = faults} {shape = shape} n m (why.StoreFault fault) after f same goes back =
+refused-as {content = content} {faults = faults} {shape = shape} n m (why.StoreFault fault) after words f same goes back =
     refused {reason = why.StoreFault fault} (seen-by f goes.met) goes.opens (refl, refl) tt (blames (Lost fault.disk fault.count) goes.opens goes.met.meets)
     (λ told. lasting (subst (λ t. Opens t shape.pages goes.row (Lost fault.disk fault.count) (seats (tree_of m))) told goes.opens) goes.met.meets (sizes (brought-all f.fills goes.met.found) f.lies (told-every (beside_in n) told)))
     (subst (λ bs. GivesBack content faults bs (seats (tree_of m)) after) same back)
-refused-as {content = content} {faults = faults} n m why.Memory after f same goes back = lacked (brought-all f.fills goes.found) f.lies goes.rests (subst (λ bs. GivesBack content faults bs (seats (tree_of m)) after) same back)
+refused-as {content = content} {faults = faults} n m why.Memory after words f same goes back = lacked (brought-all f.fills goes.found) f.lies goes.rests (subst (λ bs. GivesBack content faults bs (seats (tree_of m)) after) same back)

@@ -11,6 +11,8 @@ pub mod PlaceSteps
 pub mod EnterSteps
 pub mod WinSteps
 pub mod AdmitSteps
+pub mod LiveSteps
+pub mod CameSteps
 pub mod CedeSteps
 pub mod ChooseSteps
 pub mod SoundSteps

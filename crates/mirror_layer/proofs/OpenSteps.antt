@@ -21,7 +21,10 @@ use Rattle.mirror_layer.specs.Ceding.{AtFirst, first_in, first_out}
 use Rattle.mirror_layer.specs.Renewing.{blanks}
 use Rattle.mirror_layer.specs.Meeting.{IsNew, AllNew, Found, Met, Reason, Reasons, shuts_in, bads_in}
 use Rattle.mirror_layer.specs.Refusing.{IsFirstBad, Refuses}
+use Rattle.mirror_layer.specs.declared.came.Notice.{Notice}
+use Rattle.mirror_layer.specs.Coming.{AllCome}
 use Rattle.mirror_layer.specs.Bringing.{IsFirstOf, UnitedAs}
+use Rattle.mirror_layer.proofs.CameSteps.{renews-come}
 use Rattle.mirror_layer.proofs.CloseSteps.{every_both}
 use Rattle.mirror_layer.proofs.PlaceSteps.{row-length}
 use Rattle.mirror_layer.proofs.RenewSteps.{looks-blanks, only-blanks}
@@ -90,11 +93,11 @@ first-met : {shuts : List ShutSeen} {disk : ℕ} {bad : images.BadImage} {found 
 first-met {shuts} f g m rs = first-of f.store f.number (subst (λ v. Pairs Reason shuts v) g.is rs) m.found (subst (λ v. Pairs Meets m.seen v) f.is m.meets)
 
 -- no disk is good
-pub united-none : {D H : Type 0} (n : Node D H) (r : Refusal) (shape : ImageShape) (shuts : List ShutSeen) (beside : List Beside) → Refuses n r → Every NotGood (seats (tree_of n)) → Met shuts (seats (tree_of n)) → Reasons shuts (bads_in n) → UnitedAs (Err r) shape shuts beside (seats (tree_of n))
-united-none n (why.BadImage disk bad) shape shuts beside h none m rs =
+pub united-none : {D H : Type 0} (n : Node D H) (r : Refusal) (shape : ImageShape) (shuts : List ShutSeen) (beside : List Beside) → Refuses n r → Every NotGood (seats (tree_of n)) → Met shuts (seats (tree_of n)) → Reasons shuts (bads_in n) → (words : List (Option Notice)) → UnitedAs (Err r) shape shuts beside (seats (tree_of n)) words
+united-none n (why.BadImage disk bad) shape shuts beside h none m rs words =
     let f = first-bad n disk bad h.1 in (record { row = seats (tree_of n); met = m; opens = opens-first (seats (tree_of n)) f h.0 }, first-met f (first-reason n disk bad h.1) m rs)
-united-none n (why.StoreFault fault) shape shuts beside h none m rs = record { row = seats (tree_of n); met = m; opens = open_down none h }
-united-none n why.Memory shape shuts beside h none m rs = absurd h
+united-none n (why.StoreFault fault) shape shuts beside h none m rs words = record { row = seats (tree_of n); met = m; opens = open_down none h }
+united-none n why.Memory shape shuts beside h none m rs words = absurd h
 
 -- it is an opening
 opens-good : {told : Bool} {n g : ℕ} {xs zs us : List Seat} → Chooses told n xs (Ok g) zs → Renews told g n 0 (length zs) zs (Done true) us → Opens told n xs (Good (owes us g) g) us
@@ -110,19 +113,19 @@ opens-unrenewed (chosen a b) r = open_unrenewed a b r
 opens-unrenewed (chosen_again a b y h) r = open_again a b y (opens-unrenewed h r)
 
 -- a disk won
-pub united-gone : {shape : ImageShape} {shuts : List ShutSeen} {beside : List Beside} {xs zs : List Seat} (f : StoreFault) → Met shuts xs → Chooses (all_told beside) shape.pages xs (Err f) zs → UnitedAs (Err (why.StoreFault f)) shape shuts beside zs
+pub united-gone : {shape : ImageShape} {shuts : List ShutSeen} {beside : List Beside} {xs zs : List Seat} (f : StoreFault) → Met shuts xs → Chooses (all_told beside) shape.pages xs (Err f) zs → UnitedAs (Err (why.StoreFault f)) shape shuts beside zs []
 united-gone {xs = xs} f m h = record { row = xs; met = m; opens = opens-gone h }
 
 renews-all : {D H : Type 0} {told : Bool} {g pages : ℕ} {s : Says} {us : List Seat} (n : Node D H) (disks : ℕ) (beside : List Beside) → disks ≡ length beside → beside_in n ≡ beside → Renews told g pages 0 disks (seats (tree_of n)) s us → Renews told g pages 0 (length (seats (tree_of n))) (seats (tree_of n)) s us
 renews-all {told = told} {g = g} {pages = pages} {s = s} {us = us} n disks beside many same r = subst (λ k. Renews told g pages 0 k (seats (tree_of n)) s us) (many ∙ (ap (λ (v : List Beside). length v) (sym same) ∙ sym (row-length n))) r
 
 pub united-lost : {D H : Type 0} {shape : ImageShape} {shuts : List ShutSeen} {g : ℕ} {xs us : List Seat} (n : Node D H) (disks : ℕ) (beside : List Beside) (f : StoreFault) → disks ≡ length beside → beside_in n ≡ beside → Met shuts xs
-    → Chooses (all_told beside) shape.pages xs (Ok g) (seats (tree_of n)) → Renews (all_told beside) g shape.pages 0 disks (seats (tree_of n)) (Fault f.disk f.count) us → UnitedAs (Err (why.StoreFault f)) shape shuts beside us
+    → Chooses (all_told beside) shape.pages xs (Ok g) (seats (tree_of n)) → Renews (all_told beside) g shape.pages 0 disks (seats (tree_of n)) (Fault f.disk f.count) us → UnitedAs (Err (why.StoreFault f)) shape shuts beside us []
 united-lost {xs = xs} n disks beside f many same m h r = record { row = xs; met = m; opens = opens-unrenewed h (renews-all n disks beside many same r) }
 
 pub united-good : {D H : Type 0} {shape : ImageShape} {shuts : List ShutSeen} {xs us : List Seat} (n : Node D H) (disks : ℕ) (beside : List Beside) (g : ℕ) → disks ≡ length beside → beside_in n ≡ beside → Met shuts xs
-    → Chooses (all_told beside) shape.pages xs (Ok g) (seats (tree_of n)) → Renews (all_told beside) g shape.pages 0 disks (seats (tree_of n)) (Done true) us → UnitedAs (Ok g) shape shuts beside us
-united-good {xs = xs} n disks beside g many same m h r = record { row = xs; met = m; opens = opens-good h (renews-all n disks beside many same r) }
+    → Chooses (all_told beside) shape.pages xs (Ok g) (seats (tree_of n)) → Renews (all_told beside) g shape.pages 0 disks (seats (tree_of n)) (Done true) us → (words : List (Option Notice)) → AllCome (all_told beside) shape.pages xs (seats (tree_of n)) words → UnitedAs (Ok g) shape shuts beside us words
+united-good {xs = xs} n disks beside g many same m h r words a = (record { row = xs; met = m; opens = opens-good h (renews-all n disks beside many same r) }, renews-come words r a)
 
 -- the disks tell as before
 pub told-then : (bs : List Beside) {cs : List Beside} → cs ≡ bs → all_told bs ≡ true → all_told cs ≡ true

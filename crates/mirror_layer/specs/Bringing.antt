@@ -1,5 +1,5 @@
 -- A ground that is opened over stores.
-use Rattle.std.specs.Prelude.{◌≡◌, ◌≤◌, ℕ, List, ◌∷◌, is_some, Bool, true, Option, Result, Ok, Err}
+use Rattle.std.specs.Prelude.{◌≡◌, ◌≤◌, ℕ, List, ◌∷◌, length, is_some, Bool, true, Option, Result, Ok, Err}
 use Rattle.spr_io.specs.Content.{Content}
 use Rattle.disk_format.specs.declared.shape.ImageShape.{ImageShape}
 use Rattle.disk_format.specs.declared.why.BadImage.{BadImage}
@@ -16,6 +16,8 @@ use Rattle.mirror_layer.specs.Ground.{Ground, Counted, Differ}
 use Rattle.mirror_layer.specs.Stores.{Finds, GivesBack, HasRoom}
 use Rattle.mirror_layer.specs.Shut.{ShutSeen}
 use Rattle.mirror_layer.specs.Meeting.{Met, Rests, Rested, IsBadOf}
+use Rattle.mirror_layer.specs.declared.came.Notice.{Notice}
+use Rattle.mirror_layer.specs.Coming.{AllCome}
 use Rattle.mirror_layer.specs.declared.refuse.Refusal.{Refusal}
 use Rattle.mirror_layer.specs.declared.refuse.Refusal.TheVariants as why
 
@@ -49,15 +51,15 @@ pub record IsFirstOf (shuts : List ShutSeen) (disk : ℕ) (bad : BadImage) : Typ
   pub number : shut.disk ≡ disk
   pub reason : IsBadOf shut.shape shut.content bad
 
--- the same by what is answered: the ground's generation, or a refusal
-abbrev pub UnitedAs : Result ℕ Refusal → ImageShape → List ShutSeen → List Beside → List Seat → Type 0
-UnitedAs (Ok g) shape shuts beside us = Goes shape shuts beside (Good (owes us g) g) us
-UnitedAs (Err (why.BadImage disk bad)) shape shuts beside us = Goes shape shuts beside (opening.BadImage disk) us × IsFirstOf shuts disk bad
-UnitedAs (Err (why.StoreFault fault)) shape shuts beside us = Goes shape shuts beside (Lost fault.disk fault.count) us
-UnitedAs (Err why.Memory) shape shuts beside us = Rested shuts us
+-- the same by what is answered: the ground's generation, and what it made of each disk; or a refusal
+abbrev pub UnitedAs : Result ℕ Refusal → ImageShape → List ShutSeen → List Beside → List Seat → List (Option Notice) → Type 0
+UnitedAs (Ok g) shape shuts beside us words = (goes : Goes shape shuts beside (Good (owes us g) g) us) × AllCome (all_told beside) shape.pages goes.row us words
+UnitedAs (Err (why.BadImage disk bad)) shape shuts beside us words = Goes shape shuts beside (opening.BadImage disk) us × IsFirstOf shuts disk bad
+UnitedAs (Err (why.StoreFault fault)) shape shuts beside us words = Goes shape shuts beside (Lost fault.disk fault.count) us
+UnitedAs (Err why.Memory) shape shuts beside us words = Rested shuts us
 
--- the disks of an opening that went well, with the room that their ground keeps for its stores
-pub record IsReady {T : Type 0} (content : T → Option Content) (faults : T → ℕ) (shape : ImageShape) (stores : List T) (plan : Plan) (beside : List Beside) (us : List Seat) (owed : Bool) (generation : ℕ) (places : List (Option T)) (emptied : List T) (room : ℕ) : Type 0 where
+-- the disks of an opening that went well, with what it made of each, and the room that their ground keeps for its stores
+pub record IsReady {T : Type 0} (content : T → Option Content) (faults : T → ℕ) (shape : ImageShape) (stores : List T) (plan : Plan) (beside : List Beside) (us : List Seat) (owed : Bool) (generation : ℕ) (words : List (Option Notice)) (places : List (Option T)) (emptied : List T) (room : ℕ) : Type 0 where
   pub seen : Seen content faults shape stores plan beside
   pub opens : Opens (all_told beside) shape.pages seen.row (Good owed generation) us
   pub live : Has IsLive us
@@ -65,6 +67,8 @@ pub record IsReady {T : Type 0} (content : T → Option Content) (faults : T →
   pub within : generation ≤ machine.limit
   pub differ : Differ beside
   pub keeps : HasRoom beside places emptied room
+  pub words_many : length words ≡ length beside
+  pub came : AllCome (all_told beside) shape.pages seen.row us words
 
 -- THE GROUND IS OPENED: what became of the disks is an opening of the machine
 pub record OpenedOver {T : Type 0} (content : T → Option Content) (faults : T → ℕ) (shape : ImageShape) (stores : List T) (plan : Plan) (g : Ground) : Type 0 where

@@ -13,4 +13,7 @@ pub mod Filling
 pub mod Refusing
 pub mod Renewing
 pub mod Lasting
+pub mod Coming
 pub mod Bringing
+pub mod Came
+pub mod Notices

@@ -11,12 +11,14 @@ ghost use Rattle.mirror_rules.specs.Steps.{Says, Look, Puts, Flushes};
 ghost use Rattle.mirror_layer.specs.Calls.{answered};
 ghost use Rattle.mirror_layer.specs.Ground.{IsGround, PutsPage, outcome, seen_of};
 ghost use Rattle.mirror_layer.specs.Stores.{GivesBack, Numbered};
-ghost use Rattle.mirror_layer.specs.Bringing.{OpenedOver, RefusedOver};
+ghost use Rattle.mirror_layer.specs.Bringing.{RefusedOver};
+ghost use Rattle.mirror_layer.specs.Came.{OpenedWith, is_live_in};
 ghost use Rattle.std.specs.List.Sorted.{IsPermutation};
 ghost use Rattle.disk_format.specs.Shape.{IsShape};
 ghost use Rattle.disk_layer.specs.Disk.{Suits};
 ghost use Rattle.stack_accept.specs.Plan.{disks_in, numbers_below, plan_of};
 
+use crate::came::{Notice, lives, tell};
 use crate::close::give_back;
 use crate::ground::MirrorGround;
 use crate::node::Shut;
@@ -57,24 +59,32 @@ impl<S: Store> AnyGround<S> {
     ///
     /// It is refused if no disk has an image, if the ground refused a read, or if memory ran out, which comes before any
     /// store is written. The stores go back then.
+    ///
+    /// `came` gets, by the disks' numbers, what the opening made of each.
     pub fn open(
         alloc: Global,
         plan: &GroundPlan,
         stores: Vec<S>,
         shape: &ImageShape,
+        came: &mut [Option<Notice>],
     ) -> Result<AnyGround<S>, OpenAll<S>>
         requires shape { IsShape shape.now }
         requires plan { IsPermutation (disks_in (plan_of plan.now)) (numbers_below (length stores.items)) }
         requires suits { Every (λ s. Suits shape.now (S.size s) (S.number s)) stores.items }
-        ensures opened { IfOk result (OpenedOver (λ s. S.content s) (λ s. S.faults s) shape.now stores.items (plan_of plan.now)) }
+        requires came { length came.old ≡ length stores.items }
+        ensures opened { IfOk result (OpenedWith (λ s. S.content s) (λ s. S.faults s) shape.now stores.items (plan_of plan.now) came.new) }
+        ensures came { length came.new ≡ length came.old }
         ensures refused { IfErr result (λ e. RefusedOver (λ s. S.content s) (λ s. S.faults s) shape.now stores.items (plan_of plan.now) e.why e.stores.items) }
     {
         match open_over(alloc, plan, stores, shape) {
-            Ok(room) => Ok(AnyGround {
-                ground: MirrorGround::new(room.node, *shape, room.owed, room.generation),
-                places: room.places,
-                emptied: room.emptied,
-            }),
+            Ok(room) => {
+                tell(&room.node, 0, &room.words, came);
+                Ok(AnyGround {
+                    ground: MirrorGround::new(room.node, *shape, room.owed, room.generation),
+                    places: room.places,
+                    emptied: room.emptied,
+                })
+            }
             Err(refused) => Err(refused),
         }
     }
@@ -92,6 +102,13 @@ impl<S: Store> AnyGround<S> {
         ensures { result ≡ self.now.generation }
     {
         self.ground.generation()
+    }
+
+    /// Whether the disk of this number is live.
+    pub fn is_live(&self, disk: usize) -> bool
+        ensures { result ≡ is_live_in self.now.row disk }
+    {
+        lives(self.ground.node(), disk)
     }
 
     /// Gives the stores back, in the order of the disks. It asks no store, and takes no memory.

@@ -1,12 +1,13 @@
 //! A disk wins an opening, and a winner that cannot be read may give way.
 
-ghost use Rattle.std.specs.Prelude.{◌≡◌, ◌<◌, ◌≤◌, ◌^◌, Bool, List, IfOk, length, true, false};
+ghost use Rattle.std.specs.Prelude.{◌≡◌, ◌<◌, ◌≤◌, ◌^◌, Bool, List, IfOk, OnOk, length, true, false};
 ghost use Rattle.mirror_rules.specs.Tree as machine;
 ghost use Rattle.mirror_rules.specs.Claims.{Every, Pairs};
 ghost use Rattle.mirror_rules.specs.Opening.{Yields};
 ghost use Rattle.mirror_layer.specs.View.{tree_of, beside_in, beside_of, seat_of, cell_of};
 ghost use Rattle.mirror_layer.specs.Calls.{all_told};
 ghost use Rattle.mirror_layer.specs.Places.{IsSpare};
+ghost use Rattle.mirror_layer.specs.Coming.{AllCome};
 ghost use Rattle.mirror_layer.specs.Winning.{Waits};
 ghost use Rattle.mirror_layer.specs.Winning as winning;
 ghost use Rattle.mirror_layer.specs.Ceding.{AtFirst};
@@ -14,6 +15,7 @@ ghost use Rattle.mirror_layer.specs.Choosing.{Chooses, Other, NotOther, HasOther
 
 use crate::admit::admit;
 use crate::asked::{Held, Side, has_failed, level};
+use crate::came::Notice;
 use crate::cede::{cede, live_count};
 use crate::node::{Mark, Node, Unopened};
 use crate::win::best;
@@ -83,6 +85,8 @@ fn may_yield<D: Side, H: Unopened>(node: &Node<D, H>, wrote: bool, generation: u
 ///
 /// It answers the ground's generation, that of the winner. An error is the fault of the ground's last read, if no winner could
 /// give way.
+///
+/// `came` gets, by the disks' places, what the opening makes of each that is live at its end.
 pub(crate) fn choose<D: Side, H: Unopened>(
     node: &mut Node<D, H>,
     disks: usize,
@@ -90,6 +94,7 @@ pub(crate) fn choose<D: Side, H: Unopened>(
     shape: &ImageShape,
     ours: &mut [u8],
     its: &mut [u8],
+    came: &mut [Option<Notice>],
 ) -> Result<u64, StoreFault>
     requires waits { Every Waits (machine.seats (tree_of node.old)) }
     requires good { winning.is_good (machine.seats (tree_of node.old)) ≡ true }
@@ -99,7 +104,9 @@ pub(crate) fn choose<D: Side, H: Unopened>(
     requires shapes { Every (λ b. b.shape ≡ shape.now) (beside_in node.old) }
     requires ours { length ours.old ≡ shape.now.page_size }
     requires its { length its.old ≡ shape.now.page_size }
+    requires came { length came.old ≡ disks }
     ensures chooses { (told : Bool) → (told ≡ true → all_told (beside_in node.old) ≡ true) → Chooses told shape.now.pages (machine.seats (tree_of node.old)) result (machine.seats (tree_of node.new)) }
+    ensures came { OnOk result (AllCome (all_told (beside_in node.old)) shape.now.pages (machine.seats (tree_of node.old)) (machine.seats (tree_of node.new)) came.new) }
     ensures low { IfOk result (λ g. 1 ≤ g) }
     ensures high { IfOk result (λ g. g < 2 ^ 63) }
     ensures live { machine.is_live (tree_of node.new) ≡ true }
@@ -107,7 +114,7 @@ pub(crate) fn choose<D: Side, H: Unopened>(
     ensures beside { beside_in node.new ≡ beside_in node.old }
 {
     let generation = best(node);
-    let entered = admit(node, disks, generation, spare, shape, ours, its);
+    let entered = admit(node, disks, generation, spare, shape, ours, its, came);
     match entered.outcome {
         Ok(()) => Ok(generation),
         Err(fault) => {
@@ -115,7 +122,7 @@ pub(crate) fn choose<D: Side, H: Unopened>(
                 return Err(fault);
             }
             cede(node);
-            choose(node, disks, spare, shape, ours, its)
+            choose(node, disks, spare, shape, ours, its, came)
         }
     }
 }

@@ -94,6 +94,13 @@ impl<D: Side + Send, H: Unopened + Send> MirrorGround<D, H> {
         self.level
     }
 
+    /// What it is made of, to be looked at.
+    pub(crate) fn node(&self) -> &Node<D, H>
+        ensures { machine.seats (tree_of result.now) ≡ self.now.row }
+    {
+        &self.node
+    }
+
     /// What it is made of.
     pub fn into_node(self) -> Node<D, H>
         ensures row { machine.seats (tree_of result) ≡ self.row }

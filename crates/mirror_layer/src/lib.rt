@@ -4,6 +4,7 @@
 mod admit;
 mod any;
 mod asked;
+mod came;
 mod cede;
 mod choose;
 mod close;
@@ -24,6 +25,7 @@ mod win;
 
 pub use any::AnyGround;
 pub use asked::{Call, Held, Side, hold};
+pub use came::{Notice, at_close};
 pub use flush::next_generation;
 pub use ground::MirrorGround;
 pub use node::{Kept, Mark, Node, Shut, Unopened};

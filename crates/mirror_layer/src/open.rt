@@ -14,6 +14,7 @@ ghost use Rattle.mirror_layer.specs.Places.{IsSpare};
 ghost use Rattle.mirror_layer.specs.Bringing.{IsReady, RefusedOver, UnitedAs};
 
 use crate::admit::is_good;
+use crate::came::Notice;
 use crate::choose::choose;
 use crate::close::give_back;
 use crate::fill::fill_all;
@@ -43,6 +44,8 @@ pub(crate) struct Room<S: Store> {
     pub ours: Vec<u8>,
     /// A page of a disk that joins.
     pub its: Vec<u8>,
+    /// By the disks' places, what the opening makes of each that is live at its end.
+    pub words: Vec<Option<Notice>>,
     /// The ground's generation, once it is opened, and whether it owes a raise.
     pub generation: u64,
     pub owed: bool,
@@ -80,6 +83,7 @@ pub(crate) fn room_for<S: Store>(
     ensures emptied { IfOk result (λ room. (room.emptied.items ≡ []) × (disks ≤ vec_capacity room.emptied)) }
     ensures ours { IfOk result (λ room. length room.ours.items ≡ shape.now.page_size) }
     ensures its { IfOk result (λ room. length room.its.items ≡ shape.now.page_size) }
+    ensures words { IfOk result (λ room. length room.words.items ≡ disks) }
 {
     Ok(Room {
         node: empty_tree(alloc, plan, shape)?,
@@ -88,6 +92,7 @@ pub(crate) fn room_for<S: Store>(
         spare: spare_leaf(shape),
         ours: vec![in alloc; 0u8; shape.page_size as usize]?,
         its: vec![in alloc; 0u8; shape.page_size as usize]?,
+        words: vec![in alloc; None; disks]?,
         generation: 0,
         owed: false,
     })
@@ -106,6 +111,8 @@ pub(crate) fn set_out<S: Store>(stores: Vec<S>, places: &mut Vec<Option<S>>)
 
 /// Opens each disk; the good ones become one ground, and then the blank ones are made and join it. It answers the ground's
 /// generation. All memory is taken before a store is written.
+///
+/// `came` gets, by the disks' places, what the opening makes of each that is live at its end.
 pub(crate) fn unite<S: Store>(
     alloc: Global,
     node: &mut Node<Disk<S>, Shut<S>>,
@@ -114,6 +121,7 @@ pub(crate) fn unite<S: Store>(
     shape: &ImageShape,
     ours: &mut [u8],
     its: &mut [u8],
+    came: &mut [Option<Notice>],
 ) -> Result<u64, Refusal>
     requires shape { IsShape shape.now }
     requires new { AllNew node.old }
@@ -122,7 +130,8 @@ pub(crate) fn unite<S: Store>(
     requires shapes { Every (λ b. b.shape ≡ shape.now) (beside_in node.old) }
     requires ours { length ours.old ≡ shape.now.page_size }
     requires its { length its.old ≡ shape.now.page_size }
-    ensures united { UnitedAs result shape.now (shuts_in node.old) (beside_in node.old) (machine.seats (tree_of node.new)) }
+    requires came { length came.old ≡ disks }
+    ensures united { UnitedAs result shape.now (shuts_in node.old) (beside_in node.old) (machine.seats (tree_of node.new)) came.new }
     ensures live { OnOk result (machine.is_live (tree_of node.new) ≡ true) }
     ensures high { IfOk result (λ g. g < 2 ^ 63) }
     ensures beside { beside_in node.new ≡ beside_in node.old }
@@ -137,7 +146,7 @@ pub(crate) fn unite<S: Store>(
         return Err(Refusal::Memory);
     };
     let mut images = found;
-    match choose(node, disks, spare, shape, ours, its) {
+    match choose(node, disks, spare, shape, ours, its, came) {
         Err(fault) => Err(Refusal::StoreFault { fault }),
         Ok(generation) => {
             match renew_all(node, disks, generation, spare, &mut images, shape, ours) {
@@ -191,7 +200,7 @@ pub(crate) fn open_over<S: Store>(
     requires shape { IsShape shape.now }
     requires plan { IsPermutation (disks_in (plan_of plan.now)) (numbers_below (length stores.items)) }
     requires suits { Every (λ s. Suits shape.now (S.size s) (S.number s)) stores.items }
-    ensures ready { IfOk result (λ room. IsReady (λ s. S.content s) (λ s. S.faults s) shape.now stores.items (plan_of plan.now) (beside_in room.node) (machine.seats (tree_of room.node)) room.owed room.generation room.places.items room.emptied.items (vec_capacity room.emptied)) }
+    ensures ready { IfOk result (λ room. IsReady (λ s. S.content s) (λ s. S.faults s) shape.now stores.items (plan_of plan.now) (beside_in room.node) (machine.seats (tree_of room.node)) room.owed room.generation room.words.items room.places.items room.emptied.items (vec_capacity room.emptied)) }
     ensures refused { IfErr result (λ e. RefusedOver (λ s. S.content s) (λ s. S.faults s) shape.now stores.items (plan_of plan.now) e.why e.stores.items) }
 {
     let disks = number_of(&stores);
@@ -212,6 +221,7 @@ pub(crate) fn open_over<S: Store>(
         shape,
         &mut room.ours,
         &mut room.its,
+        &mut room.words,
     ) {
         Ok(generation) => {
             sound_all(&room.node);

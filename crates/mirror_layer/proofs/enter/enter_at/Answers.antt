@@ -1,8 +1,10 @@
 use Rattle.std.proofs.Common.{◌≡◌, false, sym, subst}
 use Rattle.mirror_rules.specs.Claims.{Every}
+use Rattle.mirror_rules.proofs.OpenLaws.{nth-same}
 use Rattle.mirror_rules.proofs.RoundLaws.{live-tree, live-seats}
 use Rattle.mirror_layer.specs.View.{Beside, tree_of}
 use Rattle.mirror_layer.specs.Places.{first_beside}
+use Rattle.mirror_layer.specs.Coming.{IsWord}
 use Rattle.mirror_layer.proofs.EnterSteps.{Visit, leaf-live, every-set, every-nth, enters-live, visit-enters, visit-beside, visit-spare}
 use Rattle.mirror_layer.proofs.enter.enter_at.Goals as goal
 
@@ -39,3 +41,6 @@ returns-clause-beside g c =
     let v : Visit c.args.place c.args.shape.now c.args.spare.now c.exchange_at.new.leaf c.enter_leaf-entered.new.leaf c.exchange_at-2.new.leaf c.args.node.now c.exchange_at.new.node c.enter_leaf-entered.new.node c.exchange_at-2.new.node =
     record { first = c.exchange_at.ensures; then = c.exchange_at-2.ensures; idle = c.requires.spare; beside = c.enter_leaf-entered.ensures.beside; own = c.enter_leaf-entered.ensures.own; out = c.enter_leaf-entered.ensures.out } in
     visit-beside v
+
+pub returns-clause-came : goal.returns-clause-came
+returns-clause-came g c x h = subst (λ v. IsWord v c.enter_leaf-entered.result.wrote c.enter_leaf-entered.result.came) (nth-same c.exchange_at.ensures.seat h) c.enter_leaf-entered.ensures.came

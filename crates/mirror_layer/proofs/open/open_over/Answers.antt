@@ -1,4 +1,4 @@
-use Rattle.std.proofs.Common.{◌≡◌, ◌≤◌, List, length, map, Some, true, vec_capacity, sym, subst, ◌∙◌, ap, arith}
+use Rattle.std.proofs.Common.{◌≡◌, ◌≤◌, ◌++◌, List, length, map, take, drop, Some, true, vec_capacity, sym, subst, ◌∙◌, ap, arith}
 use Rattle.std.proofs.lemmas.List.{length-map}
 use Rattle.stack_accept.specs.Plan.{disks_in, plan_of}
 use Rattle.mirror_rules.specs.Claims.{Every}
@@ -9,6 +9,7 @@ use Rattle.mirror_layer.specs.Ground.{Differ}
 use Rattle.mirror_layer.specs.Stores.{Numbered}
 use Rattle.mirror_layer.specs.Filling.{HasStore, Apart}
 use Rattle.mirror_layer.specs.Bringing.{lacked_first}
+use Rattle.mirror_layer.proofs.CameSteps.{whole-list}
 use Rattle.mirror_layer.proofs.NumberSteps.{numbers-apart, numbers-under}
 use Rattle.mirror_layer.proofs.BringSteps.{placed-stores, lies-there, lies-shapes, filled, ready, refused-as, disks-row, owes-by}
 use Rattle.mirror_layer.proofs.open.open_over.Goals as goal
@@ -65,11 +66,12 @@ pub returns-in-Ok-unite-clause-ready : goal.returns-in-Ok-unite-clause-ready
 returns-in-Ok-unite-clause-ready g c =
     let f = filled c.set_out.new.places.items (plan_of c.args.plan.now) (planned (tree_of c.in-Ok.found.node)) c.fill_all.new.node c.in-Ok.ensures.planned c.set_out.ensures c.fill_all.ensures.new c.fill_all.ensures.filled c.requires.plan in
     let many = c.fill_all.ensures.many ∙ (ap (λ l. length l) c.set_out.ensures ∙ length-map c.args.stores.items (λ s. Some s)) in
+    let worded : length c.unite.new.came ≡ length c.in-Ok.found.words.items = c.unite.auto.came ∙ ap (λ l. length l) c.deref_mut-3.ensures.value in
     let row = disks-row c.unite.new.node c.number_of-disks.result (c.number_of-disks.ensures ∙ (sym f.ordered.many ∙ ap (λ (l : List Beside). length l) (sym c.unite.ensures.beside))) in
-    ready c.fill_all.new.node c.unite.new.node c.fill_all.new.places.items c.in-Ok.found.emptied.items (vec_capacity c.in-Ok.found.emptied) c.owes.result c.in-Ok-unite.generation f c.unite.ensures.beside c.in-Ok-unite.ensures.united (owes-by (seats (tree_of c.unite.new.node)) c.in-Ok-unite.generation row c.owes.ensures) c.in-Ok-unite.ensures.live
-    c.sound_all.ensures (omega (arith, c.in-Ok-unite.ensures.high)) many c.in-Ok.ensures.emptied.0 (subst (λ k. k ≤ vec_capacity c.in-Ok.found.emptied) c.number_of-disks.ensures c.in-Ok.ensures.emptied.1)
+    ready c.fill_all.new.node c.unite.new.node c.fill_all.new.places.items c.in-Ok.found.emptied.items (vec_capacity c.in-Ok.found.emptied) c.owes.result c.in-Ok-unite.generation (take c.in-Ok.found.words.len (c.unite.new.came ++ drop (length c.unite.new.came) c.in-Ok.found.words.items)) c.unite.new.came f c.unite.ensures.beside c.in-Ok-unite.ensures.united (owes-by (seats (tree_of c.unite.new.node)) c.in-Ok-unite.generation row c.owes.ensures) c.in-Ok-unite.ensures.live
+    c.sound_all.ensures (omega (arith, c.in-Ok-unite.ensures.high)) many (whole-list c.in-Ok.found.words.len c.unite.new.came (drop (length c.unite.new.came) c.in-Ok.found.words.items) (c.in-Ok.found.words.ok.0 ∙ sym worded)) (worded ∙ (c.in-Ok.ensures.words ∙ c.number_of-disks.ensures)) c.in-Ok.ensures.emptied.0 (subst (λ k. k ≤ vec_capacity c.in-Ok.found.emptied) c.number_of-disks.ensures c.in-Ok.ensures.emptied.1)
 
 pub returns-in-Err-clause-refused : goal.returns-in-Err-clause-refused
 returns-in-Err-clause-refused g c =
     let f = filled c.set_out.new.places.items (plan_of c.args.plan.now) (planned (tree_of c.in-Ok.found.node)) c.fill_all.new.node c.in-Ok.ensures.planned c.set_out.ensures c.fill_all.ensures.new c.fill_all.ensures.filled c.requires.plan in
-    refused-as c.fill_all.new.node c.unite.new.node c.in-Err.why c.give_back-stores.result.items f c.unite.ensures.beside c.in-Err.ensures.united c.give_back-stores.ensures
+    refused-as c.fill_all.new.node c.unite.new.node c.in-Err.why c.give_back-stores.result.items c.unite.new.came f c.unite.ensures.beside c.in-Err.ensures.united c.give_back-stores.ensures

@@ -4,6 +4,7 @@ use Rattle.mirror_rules.specs.Claims.{Every, Pairs}
 use Rattle.mirror_layer.specs.View.{Beside, beside_in, tree_of}
 use Rattle.mirror_layer.specs.Calls.{all_told}
 use Rattle.mirror_layer.specs.Ceding.{AtFirst}
+use Rattle.mirror_layer.specs.Coming.{AllCome}
 use Rattle.mirror_layer.proofs.MeetSteps.{rested}
 use Rattle.mirror_layer.proofs.AdmitSteps.{met-waits, good-none}
 use Rattle.mirror_layer.proofs.OpenSteps.{met-first}
@@ -16,7 +17,7 @@ why_none-requires-clause-none g c κs within = good-none (seats (tree_of c.meet.
 pub returns-then-not-is_good-clause-united : goal.returns-then-not-is_good-clause-united
 returns-then-not-is_good-clause-united g c =
     united-none c.meet.new.node c.why_none.result c.args.shape.now _ _ c.why_none.ensures (good-none (seats (tree_of c.meet.new.node)) (sym c.is_good.ensures ∙ c.if-not-is_good.true))
-    (not-err c.meet.result (sym c.is_err.ensures.value ∙ c.if-is_err.false) c.meet.ensures.met) (not-err c.meet.result (sym c.is_err.ensures.value ∙ c.if-is_err.false) c.meet.ensures.reasons)
+    (not-err c.meet.result (sym c.is_err.ensures.value ∙ c.if-is_err.false) c.meet.ensures.met) (not-err c.meet.result (sym c.is_err.ensures.value ∙ c.if-is_err.false) c.meet.ensures.reasons) c.args.came.now
 
 pub choose-requires-clause-waits : goal.choose-requires-clause-waits
 choose-requires-clause-waits g c = met-waits (not-err c.meet.result (sym c.is_err.ensures.value ∙ c.if-is_err.false) c.meet.ensures.met).meets
@@ -47,7 +48,8 @@ pub returns-in-Ok-renew_all-clause-united : goal.returns-in-Ok-renew_all-clause-
 returns-in-Ok-renew_all-clause-united g c =
     united-good c.choose.new.node c.args.disks (beside_in c.args.node.now) c.in-Ok-choose.generation c.requires.disks (c.choose.ensures.beside ∙ c.meet.ensures.beside) (not-err c.meet.result (sym c.is_err.ensures.value ∙ c.if-is_err.false) c.meet.ensures.met)
     (c.in-Ok-choose.ensures.chooses (all_told (beside_in c.args.node.now)) (told-then (beside_in c.args.node.now) c.meet.ensures.beside))
-    (c.in-Ok-renew_all.ensures.renews (all_told (beside_in c.args.node.now)) (told-then (beside_in c.args.node.now) (c.choose.ensures.beside ∙ c.meet.ensures.beside)))
+    (c.in-Ok-renew_all.ensures.renews (all_told (beside_in c.args.node.now)) (told-then (beside_in c.args.node.now) (c.choose.ensures.beside ∙ c.meet.ensures.beside))) c.choose.new.came
+    (subst (λ bs. AllCome (all_told bs) c.args.shape.now.pages (seats (tree_of c.meet.new.node)) (seats (tree_of c.choose.new.node)) c.choose.new.came) c.meet.ensures.beside c.in-Ok-choose.ensures.came)
 
 pub returns-clause-united : goal.returns-clause-united
 returns-clause-united g c =
