@@ -6,6 +6,7 @@ use Rattle.disk_layer.specs.declared.refused.OpenWhy.{OpenWhy}
 use Rattle.disk_layer.specs.declared.refused.OpenWhy.TheVariants as whys
 use Rattle.page_ground.specs.declared.fault.StoreFault.{StoreFault}
 use Rattle.disk_layer.specs.Calls as disks
+use Rattle.mirror_layer.specs.declared.came.Notice.{Notice}
 use Rattle.file_stores.specs.State.{StoreState}
 use Rattle.file_stores.specs.Stop.{refused}
 use Rattle.file_stores.specs.Held.{StoreSeen}
@@ -28,8 +29,8 @@ refused-unopened mount old new whys.Memory content refusal = same-state new.stat
 
 module _ {T : Type 0} (size number : T → ℕ) (content : T → Option Content) (faults : T → ℕ) (mount : Mount) (file : ℕ) where
   -- it was opened
-  pub opened-alone : (ts : List T) (d : Alone) → OpenedAlone content faults (shape_of_file mount file) ts d → IsOpened mount (record { file = file; stores = stores_from size number content faults file 0 ts }) (One d)
-  opened-alone ts d opened = (_, ap (λ l. stores_from size number content faults file 0 l) opened.1, opened.2, opened.3)
+  pub opened-alone : (ts : List T) (notices : List (Option Notice)) (d : Alone) → OpenedAlone content faults (shape_of_file mount file) ts d → IsOpened mount (record { file = file; stores = stores_from size number content faults file 0 ts }) notices (One d)
+  opened-alone ts notices d opened = (_, ap (λ l. stores_from size number content faults file 0 l) opened.1, opened.2, opened.3)
 
   -- it was refused
   pub refused-alone : (ts after : List T) (why : OpenWhy) → RefusedAlone content faults (shape_of_file mount file) ts why after

@@ -42,7 +42,7 @@ module _ {T U : Type 0} {content : T → Option Content} {faults : T → ℕ} {i
   seen-alike seen = record { stores_seen = seen.stores_seen; row = seen.row; brought = brought-alike seen.brought; lies = lies-alike seen.lies; meets = seen.meets }
 
   -- an opening
-  pub opened-alike : {shape : ImageShape} {plan : Plan} {g : Ground} → OpenedOver content faults shape xs plan g → OpenedOver its_content its_faults shape ys plan g
+  abbrev pub opened-alike : {shape : ImageShape} {plan : Plan} {g : Ground} → OpenedOver content faults shape xs plan g → OpenedOver its_content its_faults shape ys plan g
   opened-alike o = record { seen = seen-alike o.seen; opens = o.opens; shaped = o.shaped; fair = o.fair; lasting = o.lasting; given = o.given }
 
   stored-alike : {bs : List Beside} {ss : List machine.Store} → Pairs (Stored content faults xs) bs ss → Pairs (Stored its_content its_faults ys) bs ss

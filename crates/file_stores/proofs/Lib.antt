@@ -19,3 +19,4 @@ pub mod SpotLaws
 pub mod Crossing
 pub mod RowLaws
 pub mod AloneSteps
+pub mod NoticeLaws

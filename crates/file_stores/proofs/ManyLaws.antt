@@ -7,7 +7,9 @@ use Rattle.stack_accept.specs.Mount.{Mount}
 use Rattle.stack_accept.specs.Plan.{disks_in, numbers_below}
 use Rattle.mirror_layer.specs.Ground.{Ground}
 use Rattle.mirror_layer.specs.Stores.{GivesBack}
-use Rattle.mirror_layer.specs.Bringing.{OpenedOver, RefusedOver}
+use Rattle.mirror_layer.specs.Bringing.{RefusedOver}
+use Rattle.mirror_layer.specs.Came.{OpenedWith}
+use Rattle.mirror_layer.specs.declared.came.Notice.{Notice}
 use Rattle.mirror_layer.specs.declared.refuse.Refusal.{Refusal}
 use Rattle.file_stores.specs.Held.{keys_of}
 use Rattle.file_stores.specs.Files.{Bare, FileSeen, IsFile}
@@ -41,8 +43,8 @@ module _ {T : Type 0} (size number : T → ℕ) (content : T → Option Content)
       more : (n m : ℕ) → 1 ≤ n → (n ≡ 1 → ⊥) → m ≡ n → 1 < m
       more n m some other e = omega (arith, some, other, e)
 
-  pub opened-many : (ts : List T) (g : Ground) → 1 < length (file_over ts).stores → OpenedOver content faults (shape_of_file mount file) ts mount.ground g → IsOpened mount (file_over ts) (Many g)
-  opened-many ts g some over = (some, opened-alike (keyed-alike size number content faults file ts) over)
+  pub opened-many : (ts : List T) (notices : List (Option Notice)) (g : Ground) → 1 < length (file_over ts).stores → OpenedWith content faults (shape_of_file mount file) ts mount.ground notices g → IsOpened mount (file_over ts) notices (Many g)
+  opened-many ts notices g some opened = (some, record { over = opened-alike (keyed-alike size number content faults file ts) opened.over; came_so = opened.came_so })
 
   pub refused-many : (ts after : List T) (why : Refusal) → 1 < length (file_over ts).stores → RefusedOver content faults (shape_of_file mount file) ts mount.ground why after → IsUnopened mount (file_over ts) (file_over after) (refused_by file why)
   refused-many ts after why some over =

@@ -17,6 +17,7 @@ use Rattle.mirror_layer.specs.declared.refuse.Refusal.{Refusal}
 use Rattle.mirror_layer.proofs.NumberSteps.{numbers-each}
 use Rattle.mirror_layer.proofs.BringSteps.{lies-ordered}
 use Rattle.file_stores.specs.declared.stop.Stop.{Stop}
+use Rattle.mirror_layer.specs.declared.refuse.Refusal.TheVariants as whys
 use Rattle.file_stores.specs.declared.stop.Stop.TheVariants as stops
 use Rattle.file_stores.specs.State.{StoreState}
 use Rattle.run_defs.specs.declared.store.StoreKey.{StoreKey}
@@ -27,6 +28,7 @@ use Rattle.file_stores.proofs.Lists.{some-is, no-item}
 use Rattle.file_stores.specs.Files.{ArePairs, FileSeen, IsFile, Lasts}
 use Rattle.file_stores.specs.WholeDisk.{Alone}
 use Rattle.file_stores.specs.Under.{One, Many}
+use Rattle.mirror_layer.specs.declared.came.Notice.{Notice}
 use Rattle.file_stores.specs.Opening.{content_of, faults_of, shape_of_file, IsOpened, IsLeft, IsUnopened, unopened_one, unopened_many, IsUnopenedOne}
 use Rattle.file_stores.proofs.GroundLists.{get-nth, same-item, get-within}
 
@@ -124,16 +126,16 @@ pub same-keys : (mount : Mount) (f g : FileSeen) → IsFile mount f → keys_of 
 same-keys mount f g is keys many = keys ∙ (ap (λ n. stores_of_file n f.file) (many ∙ file-number mount f is) ∙ sym is.keys)
 
 -- A FILE WAS OPENED OVER DISKS IN MIRRORS, AND CLOSED
-pub closed-lasts : (mount : Mount) (f g : FileSeen) (first last : Ground) → IsFile mount f → IsOpened mount f (Many first) → keys_of g.stores ≡ stores_of_file (length g.stores) f.file → IsLeft (Many last) g → last.beside ≡ first.beside
+pub closed-lasts : (mount : Mount) (f g : FileSeen) (notices : List (Option Notice)) (first last : Ground) → IsFile mount f → IsOpened mount f notices (Many first) → keys_of g.stores ≡ stores_of_file (length g.stores) f.file → IsLeft (Many last) g → last.beside ≡ first.beside
     → ArePairs Lasts f.stores g.stores
-closed-lasts mount f g first last is opened keys back same =
-    let all = back-lasts mount f is opened.1.seen.lies (subst (λ bs. GivesBack content_of faults_of bs last.row g.stores) same back) in
+closed-lasts mount f g notices first last is opened keys back same =
+    let all = back-lasts mount f is opened.1.over.seen.lies (subst (λ bs. GivesBack content_of faults_of bs last.row g.stores) same back) in
     in-pairs f.stores g.stores (same-keys mount f g is keys all.many) all
 
 -- A FILE WAS OPENED OVER A DISK, AND CLOSED: where the disk's count did not fall, and it tells what it holds if it did
-pub alone-lasts : (mount : Mount) (f g : FileSeen) (first last : Alone) → IsFile mount f → IsOpened mount f (One first) → keys_of g.stores ≡ stores_of_file (length g.stores) f.file → IsLeft (One last) g → first.disk.faults ≤ last.disk.faults
+pub alone-lasts : (mount : Mount) (f g : FileSeen) (notices : List (Option Notice)) (first last : Alone) → IsFile mount f → IsOpened mount f notices (One first) → keys_of g.stores ≡ stores_of_file (length g.stores) f.file → IsLeft (One last) g → first.disk.faults ≤ last.disk.faults
     → is_some last.disk.content ≡ is_some first.disk.content → ArePairs Lasts f.stores g.stores
-alone-lasts mount f g first last is opened keys left later tells =
+alone-lasts mount f g notices first last is opened keys left later tells =
     let old = opened.0 in
     let new = left.0 in
     let calm = opened.2.calm in
@@ -141,3 +143,12 @@ alone-lasts mount f g first last is opened keys left later tells =
     let told : is_some new.state.content ≡ is_some old.state.content = ap (λ (s : StoreState). is_some s.content) left.2 ∙ (tells ∙ ap (λ (c : Option Content). is_some c) opened.2.content) in
     let all = lasts-one old new f.stores g.stores opened.1 left.1 (omega (arith, calm, later, count), told-still old.state.content new.state.content told) in
     in-pairs f.stores g.stores (same-keys mount f g is keys all.many) all
+
+-- a file is not opened where memory lacks for it
+pub unopened-memory : (mount : Mount) (f : FileSeen) → IsFile mount f → IsUnopened mount f f stops.Memory
+unopened-memory mount f is = by f.stores refl
+  where
+    by : (ss : List StoreSeen) → f.stores ≡ ss → IsUnopened mount f f stops.Memory
+    by [] e = let none = ap (λ (l : List StoreSeen). length l) e in let all = file-number mount f is in let some = is.sound.some_disk in absurd (omega (arith, none, all, some))
+    by (s ∷ []) e = unopened_one {old = s} {new = s} e e refl refl refl
+    by (s ∷ t ∷ ss) e = let many = ap (λ (l : List StoreSeen). length l) e in unopened_many {why = whys.Memory} (omega (arith, many)) lacked_first refl

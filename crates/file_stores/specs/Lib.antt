@@ -9,3 +9,4 @@ pub mod WholeDisk
 pub mod Under
 pub mod Opening
 pub mod Reading
+pub mod Notices

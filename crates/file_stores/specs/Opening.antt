@@ -11,7 +11,9 @@ use Rattle.mirror_rules.specs.Tree as machine
 use Rattle.mirror_rules.specs.Claims.{Has}
 use Rattle.mirror_layer.specs.Ground.{Ground}
 use Rattle.mirror_layer.specs.Stores.{GivesBack}
-use Rattle.mirror_layer.specs.Bringing.{OpenedOver, RefusedOver}
+use Rattle.mirror_layer.specs.Bringing.{RefusedOver}
+use Rattle.mirror_layer.specs.Came.{OpenedWith}
+use Rattle.mirror_layer.specs.declared.came.Notice.{Notice}
 use Rattle.mirror_layer.specs.declared.refuse.Refusal.{Refusal}
 use Rattle.mirror_layer.specs.declared.refuse.Refusal.TheVariants as whys
 use Rattle.file_stores.specs.Keys.{image_shape}
@@ -42,10 +44,10 @@ under mount s = record { disk = s.key.disk; shape = image_shape mount s.key; con
 pub data IsBadOn (disk : ℕ) : Seat → Type 0 where
   bad_on : {s : machine.Store} → s.disk ≡ disk → IsBadOn disk (Out Bad s)
 
--- a file's image was opened over its stores
-abbrev pub IsOpened : Mount → FileSeen → Under → Type 0
-IsOpened mount f (One a) = (s : StoreSeen) × (f.stores ≡ s ∷ []) × disks.Opened (under mount s) a.disk × IsFirst a
-IsOpened mount f (Many g) = (1 < length f.stores) × OpenedOver content_of faults_of (shape_of_file mount f.file) f.stores mount.ground g
+-- a file's image was opened over its stores; and of disks in mirrors, what the opening made of each, by their numbers
+abbrev pub IsOpened : Mount → FileSeen → List (Option Notice) → Under → Type 0
+IsOpened mount f opened (One a) = (s : StoreSeen) × (f.stores ≡ s ∷ []) × disks.Opened (under mount s) a.disk × IsFirst a
+IsOpened mount f opened (Many g) = (1 < length f.stores) × OpenedWith content_of faults_of (shape_of_file mount f.file) f.stores mount.ground opened g
 
 -- the opening of disks in mirrors found this one bad: it was left out, and nothing was written to it
 abbrev pub IsFoundBad : Ground → ℕ → Type 0

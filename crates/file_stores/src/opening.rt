@@ -11,7 +11,7 @@ use crate::ground::{Either, FileGround};
 use crate::keys::shape_of;
 use crate::stop::Stop;
 use crate::whole_disk::WholeDisk;
-use mirror_layer::{AnyGround, Refusal};
+use mirror_layer::{AnyGround, Notice, Refusal};
 use run_defs::StoreKey;
 use spr_io::Store;
 use stack_accept::Mounted;
@@ -47,15 +47,17 @@ fn refused_by(file: u32, why: Refusal) -> Stop
     }
 }
 
-/// Opens the image of a file over its stores: over one a disk, over several disks in mirrors. A refusal hands the stores
-/// back.
-pub fn open_file<S: Store>(
+/// Opens the image of a file over its stores. `opened` gets what the opening made of each disk in mirrors, by their numbers.
+fn open_in<S: Store>(
     alloc: Global,
     mount: &Mounted,
     stores: FileStores<S>,
+    opened: &mut [Option<Notice>],
 ) -> Result<FileGround<S>, Unopened<S>>
     requires file { IsFile mount.now stores }
-    ensures opened { IfOk result (IsOpened mount.now stores) }
+    requires room { length opened.old ≡ length stores.stores }
+    ensures opened { IfOk result (IsOpened mount.now stores opened.new) }
+    ensures room { length opened.new ≡ length opened.old }
     ensures file { IfErr result (λ e. e.stores.file ≡ stores.file) }
     ensures keys { IfErr result (λ e. keys_of e.stores.stores ≡ keys_of stores.stores) }
     ensures refused { IfErr result (λ e. IsUnopened mount.now stores e.stores e.stop) }
@@ -77,7 +79,7 @@ pub fn open_file<S: Store>(
             }),
         };
     }
-    match AnyGround::open(alloc, mount.ground(), stores, &shape) {
+    match AnyGround::open(alloc, mount.ground(), stores, &shape, opened) {
         Ok(mirrors) => Ok(FileGround {
             either: Either::Many(mirrors),
         }),
@@ -88,6 +90,36 @@ pub fn open_file<S: Store>(
             },
             stop: refused_by(file, refused.why),
         }),
+    }
+}
+
+/// Opens the image of a file over its stores: over one a disk, over several disks in mirrors. A refusal hands the stores
+/// back.
+///
+/// Beside what lies under the file it answers what the opening made of each disk in mirrors, by their numbers. Of a disk alone
+/// nothing is told.
+pub fn open_file<S: Store>(
+    alloc: Global,
+    mount: &Mounted,
+    stores: FileStores<S>,
+) -> Result<(FileGround<S>, Vec<Option<Notice>>), Unopened<S>>
+    requires file { IsFile mount.now stores }
+    ensures opened { IfOk result (λ file. IsOpened mount.now stores file.1.items file.0) }
+    ensures many { IfOk result (λ file. length file.1.items ≡ length stores.stores) }
+    ensures file { IfErr result (λ e. e.stores.file ≡ stores.file) }
+    ensures keys { IfErr result (λ e. keys_of e.stores.stores ≡ keys_of stores.stores) }
+    ensures refused { IfErr result (λ e. IsUnopened mount.now stores e.stores e.stop) }
+{
+    let Ok(room) = vec![in alloc; None; mount.disks().len()] else {
+        return Err(Unopened {
+            stores,
+            stop: Stop::Memory,
+        });
+    };
+    let mut opened = room;
+    match open_in(alloc, mount, stores, &mut opened) {
+        Ok(ground) => Ok((ground, opened)),
+        Err(unopened) => Err(unopened),
     }
 }
 

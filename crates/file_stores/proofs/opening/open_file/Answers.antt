@@ -1,47 +1,25 @@
-use Rattle.std.proofs.Common.{length, ap, ◌∙◌, sym, subst}
-use Rattle.file_stores.specs.Files.{FileSeen, IsFile}
-use Rattle.file_stores.proofs.KeyedLaws.{suits-keyed}
-use Rattle.file_stores.proofs.AloneLaws.{refused-alone}
-use Rattle.file_stores.proofs.ManyLaws.{plan-many, some-many, opened-many, refused-many, keys-many}
+use Rattle.std.proofs.Common.{List, Option, length, ap, sym, subst, ◌∙◌}
+use Rattle.std.proofs.lemmas.List.{with_items_is}
+use Rattle.mirror_layer.specs.declared.came.Notice.{Notice}
+use Rattle.file_stores.specs.Opening.{IsOpened}
+use Rattle.file_stores.proofs.FileLaws.{file-number}
+use Rattle.file_stores.proofs.StoreLaws.{unopened-memory}
 use Rattle.file_stores.proofs.opening.open_file.Goals as goal
 
-pub open-requires-clause-suits : goal.open-requires-clause-suits
-open-requires-clause-suits g c κs within =
-    let is = subst (λ (f : FileSeen). IsFile c.args.mount.now f) (sym c.stores.view_is) c.requires.file in
-    rw c.shape_of-shape.ensures.shape (suits-keyed g.S.Store.size g.S.Store.number g.S.Store.content g.S.Store.faults c.args.mount.now c.stores.inside.file c.stores.inside.stores.items is)
+pub returns-in_default-clause-refused : goal.returns-in_default-clause-refused
+returns-in_default-clause-refused g c = unopened-memory c.args.mount.now c.args.stores c.requires.file
 
-pub returns-in-Err-clause-refused : goal.returns-in-Err-clause-refused
-returns-in-Err-clause-refused g c =
-    rw (← c.stores.view_is, c.refused.ensures)
-    (refused-alone g.S.Store.size g.S.Store.number g.S.Store.content g.S.Store.faults c.args.mount.now c.stores.inside.file c.stores.inside.stores.items c.in-Err.refused.stores.items c.in-Err.refused.why (rw c.shape_of-shape.ensures.shape at c.in-Err.ensures.refused))
+pub open_in-requires-clause-room : goal.open_in-requires-clause-room
+open_in-requires-clause-room g c κs within =
+    c.deref_mut.ensures.len ∙ (c.in-Ok.ensures.len ∙ (ap (λ l. length l) c.disks.ensures.value ∙ sym (file-number c.args.mount.now c.args.stores c.requires.file)))
 
-pub open-requires-2-clause-plan : goal.open-requires-2-clause-plan
-open-requires-2-clause-plan g c κs within =
-    let is = subst (λ (f : FileSeen). IsFile c.args.mount.now f) (sym c.stores.view_is) c.requires.file in
-    rw c.ground.ensures.value (plan-many g.S.Store.size g.S.Store.number g.S.Store.content g.S.Store.faults c.args.mount.now c.stores.inside.file c.stores.inside.stores.items is)
+pub returns-in-Ok-open_in-clause-opened : goal.returns-in-Ok-open_in-clause-opened
+returns-in-Ok-open_in-clause-opened g c =
+    let same = with_items_is c.in-Ok.room c.open_in.new.opened (c.in-Ok-open_in.ensures.room ∙ c.deref_mut.ensures.len) in
+    subst (λ (l : List (Option Notice)). IsOpened c.args.mount.now c.args.stores l c.in-Ok-open_in.ground) (sym same) c.in-Ok-open_in.ensures.opened
 
-pub open-requires-2-clause-suits : goal.open-requires-2-clause-suits
-open-requires-2-clause-suits g c κs within =
-    let is = subst (λ (f : FileSeen). IsFile c.args.mount.now f) (sym c.stores.view_is) c.requires.file in
-    rw c.shape_of-shape.ensures.shape (suits-keyed g.S.Store.size g.S.Store.number g.S.Store.content g.S.Store.faults c.args.mount.now c.stores.inside.file c.stores.inside.stores.items is)
-
-pub returns-in-Ok-open-clause-opened : goal.returns-in-Ok-open-clause-opened
-returns-in-Ok-open-clause-opened g c =
-    let is = subst (λ (f : FileSeen). IsFile c.args.mount.now f) (sym c.stores.view_is) c.requires.file in
-    let some = some-many g.S.Store.size g.S.Store.number g.S.Store.content g.S.Store.faults c.args.mount.now c.stores.inside.file c.stores.inside.stores.items is (λ e. c.if-as_slice-eq1.false (ap (λ l. length l) c.as_slice.ensures.value ∙ e)) in
-    rw (← c.stores.view_is)
-    (opened-many g.S.Store.size g.S.Store.number g.S.Store.content g.S.Store.faults c.args.mount.now c.stores.inside.file c.stores.inside.stores.items c.in-Ok-open.mirrors some (rw (c.shape_of-shape.ensures.shape, c.ground.ensures.value) at c.in-Ok-open.ensures.opened))
-
-pub returns-in-Err-open-clause-keys : goal.returns-in-Err-open-clause-keys
-returns-in-Err-open-clause-keys g c =
-    let is = subst (λ (f : FileSeen). IsFile c.args.mount.now f) (sym c.stores.view_is) c.requires.file in
-    rw (← c.stores.view_is)
-    (keys-many g.S.Store.size g.S.Store.number g.S.Store.content g.S.Store.faults c.args.mount.now c.stores.inside.file c.stores.inside.stores.items c.in-Err-open.refused.stores.items c.in-Err-open.refused.why is (rw (c.shape_of-shape.ensures.shape, c.ground.ensures.value) at c.in-Err-open.ensures.refused))
-
-pub returns-in-Err-open-clause-refused : goal.returns-in-Err-open-clause-refused
-returns-in-Err-open-clause-refused g c =
-    let is = subst (λ (f : FileSeen). IsFile c.args.mount.now f) (sym c.stores.view_is) c.requires.file in
-    let some = some-many g.S.Store.size g.S.Store.number g.S.Store.content g.S.Store.faults c.args.mount.now c.stores.inside.file c.stores.inside.stores.items is (λ e. c.if-as_slice-eq1.false (ap (λ l. length l) c.as_slice.ensures.value ∙ e)) in
-    rw (← c.stores.view_is, c.refused_by.ensures)
-    (refused-many g.S.Store.size g.S.Store.number g.S.Store.content g.S.Store.faults c.args.mount.now c.stores.inside.file c.stores.inside.stores.items c.in-Err-open.refused.stores.items c.in-Err-open.refused.why some
-    (rw (c.shape_of-shape.ensures.shape, c.ground.ensures.value) at c.in-Err-open.ensures.refused))
+pub returns-in-Ok-open_in-clause-many : goal.returns-in-Ok-open_in-clause-many
+returns-in-Ok-open_in-clause-many g c =
+    let same = with_items_is c.in-Ok.room c.open_in.new.opened (c.in-Ok-open_in.ensures.room ∙ c.deref_mut.ensures.len) in
+    ap (λ l. length l) same
+    ∙ (c.in-Ok-open_in.ensures.room ∙ (c.deref_mut.ensures.len ∙ (c.in-Ok.ensures.len ∙ (ap (λ l. length l) c.disks.ensures.value ∙ sym (file-number c.args.mount.now c.args.stores c.requires.file)))))
