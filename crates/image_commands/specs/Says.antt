@@ -1,5 +1,5 @@
 -- What formatting the stores of a stack does, and what printing the pages of one does; and the text and status of each.
-use Rattle.std.specs.Prelude.{◌≡◌, ◌⊎◌, ℕ, ◌++◌, List, length, slice_get, Some}
+use Rattle.std.specs.Prelude.{◌≡◌, ◌⊎◌, ℕ, ◌++◌, List, [], length, slice_get, Option, Some}
 use Rattle.stack_accept.specs.Mount.{Mount}
 use Rattle.run_defs.specs.declared.store.StoreKey.{StoreKey}
 use Rattle.spr_io.specs.Berth.{BaySeen}
@@ -14,6 +14,8 @@ use Rattle.file_stores.specs.Keys.{image_shape, stores_of_file}
 use Rattle.file_stores.specs.Files.{FileSeen, IsFile, StandsAt}
 use Rattle.file_stores.specs.State.{StoreState, Returned}
 use Rattle.file_stores.specs.Stop.{lost_text, stop_text, stop_status}
+use Rattle.mirror_layer.specs.declared.came.Notice.{Notice}
+use Rattle.file_stores.specs.Notices.{notice_lines}
 use Rattle.file_stores.specs.Stops.{NotTaken, OutOfMemory, Untaken}
 use Rattle.image_commands.specs.Fresh.{IsFresh, FailedAt, IsUntouched, Part}
 use Rattle.image_commands.specs.Pages.{page_lines}
@@ -53,12 +55,15 @@ pub record FileTurned (mount : Mount) (before after : BaySeen) (file : ℕ) (los
   pub stores : Returned mount before after (stores_of_file (length mount.disks) file) lost (StandsAt old.stores new.stores)
   pub becomes : Becomes old new
 
--- The pages of a file were printed; or not, because its stores could not be taken, or for what became of them.
-pub data SaysDump (mount : Mount) (before after : BaySeen) (file : ℕ) (text : List ℕ) (status : Status) : Type 0 where
-  printed : (pages : List (List ℕ)) (lost : List StoreKey) → FileTurned mount before after file lost (λ f g. IsRead mount f g pages) → text ≡ page_lines 0 pages ++ lost_text mount lost → status ≡ done_status lost
-      → SaysDump mount before after file text status
-  not_taken : (stop : Stop) (lost : List StoreKey) → Untaken mount before after (stores_of_file (length mount.disks) file) lost stop → text ≡ stop_text mount stop lost → status ≡ stop_status stop → SaysDump mount before after file text status
-  not_printed : (stop : Stop) (lost : List StoreKey) → FileTurned mount before after file lost (λ f g. IsUnprinted mount f g stop) → text ≡ stop_text mount stop lost → status ≡ stop_status stop → SaysDump mount before after file text status
+-- The pages of a file were printed; or not, because its stores could not be taken, or for what became of them. Lines are told of the disks in
+-- mirrors of a file that was opened.
+pub data SaysDump (mount : Mount) (before after : BaySeen) (file : ℕ) (notices text : List ℕ) (status : Status) : Type 0 where
+  printed : (pages : List (List ℕ)) (told : List (Option Notice)) (lost : List StoreKey) → FileTurned mount before after file lost (λ f g. IsRead mount told f g pages) → notices ≡ notice_lines mount file told
+      → text ≡ page_lines 0 pages ++ lost_text mount lost → status ≡ done_status lost → SaysDump mount before after file notices text status
+  not_taken : (stop : Stop) (lost : List StoreKey) → Untaken mount before after (stores_of_file (length mount.disks) file) lost stop → notices ≡ [] → text ≡ stop_text mount stop lost → status ≡ stop_status stop
+      → SaysDump mount before after file notices text status
+  not_printed : (stop : Stop) (told : List (Option Notice)) (lost : List StoreKey) → FileTurned mount before after file lost (λ f g. IsUnprinted mount told f g stop) → notices ≡ notice_lines mount file told
+      → text ≡ stop_text mount stop lost → status ≡ stop_status stop → SaysDump mount before after file notices text status
 
 -- the pages and a line for each store that is lost were written, or memory ran out for the text
 abbrev pub PrintsPages : Mount → List (List ℕ) → List StoreKey → SinkSeen → SinkSeen → Status → Type 0

@@ -7,14 +7,14 @@ ghost use Rattle.spr_io.specs.Berth.{BaySeen};
 ghost use Rattle.file_stores.specs.Keys.{AreStores, EachAt, stores_of_file};
 ghost use Rattle.file_stores.specs.Held.{AreGiven, AreOut, IsFit, IsRoom, keys_of};
 ghost use Rattle.file_stores.specs.State.{RoseBy};
-ghost use Rattle.file_stores.specs.Written.{Written};
+ghost use Rattle.file_stores.specs.Written.{WrittenBeside};
 ghost use Rattle.image_commands.specs.Says.{SaysDump, PrintsPages};
 
-use crate::pages::{lines_of, read_stores};
+use crate::pages::{ReadFile, lines_of, read_stores};
 use crate::told::tell;
 use file_stores::{
     FileStores, Held, Stop, as_file, give_back, put_file, shape_of, stopped, stores_of_one,
-    take_stores,
+    take_stores, write_notices,
 };
 use run_defs::StoreKey;
 use spr_io::{Bay, Sink, Store};
@@ -104,12 +104,13 @@ fn give_file<B: Bay>(
 
 /// Reads the pages of a file from its stores, gives them back, and writes the pages, or why they were not read. The room for
 /// that is there.
-fn dump_taken<B: Bay, K: Sink>(
+fn dump_taken<B: Bay, K: Sink, N: Sink>(
     alloc: Global,
     mount: &Mounted,
     file: u32,
     bay: &mut B,
     sink: &mut K,
+    notices: &mut N,
     room: FileRoom<B::Store>,
 ) -> Status
     requires file { file < length mount.now.files }
@@ -119,7 +120,7 @@ fn dump_taken<B: Bay, K: Sink>(
     requires left { IsRoom (length mount.now.disks) room.left }
     requires lost { IsRoom (length mount.now.disks) room.lost }
     requires bytes { length room.bytes.items ≡ pages_of mount.now file * mount.now.page_size }
-    ensures ended { (before : BaySeen) → AreOut mount.now before (B.told bay.old) room.taken.items → RoseBy 0 before.faults (B.told bay.old).faults → Written (SaysDump mount.now before (B.told bay.new) file) (K.told sink.old) (K.told sink.new) result }
+    ensures ended { (before : BaySeen) → AreOut mount.now before (B.told bay.old) room.taken.items → RoseBy 0 before.faults (B.told bay.old).faults → WrittenBeside (SaysDump mount.now before (B.told bay.new) file) (K.told sink.old) (K.told sink.new) (N.told notices.old) (N.told notices.new) result }
 {
     let FileRoom {
         keys: _,
@@ -130,21 +131,28 @@ fn dump_taken<B: Bay, K: Sink>(
         mut bytes,
     } = room;
     let stores = as_file(mount, file, taken, stores);
-    let (stores, read) = read_stores(alloc, mount, stores, &mut bytes);
+    let ReadFile {
+        stores,
+        notices: told,
+        outcome,
+    } = read_stores(alloc, mount, stores, &mut bytes);
     give_file(mount, bay, stores, left, &mut lost);
-    match read {
+    // That the sink of notices fails changes nothing else.
+    let _ = write_notices(notices, mount, file, &told);
+    match outcome {
         Ok(()) => print_pages(alloc, mount, file, &bytes, &lost, sink),
         Err(stop) => stopped(sink, mount, stop, &lost),
     }
 }
 
 /// Takes the stores of a file, reads its pages, gives the stores back, and writes how that ended. The room for that is there.
-fn dump_all<B: Bay, K: Sink>(
+fn dump_all<B: Bay, K: Sink, N: Sink>(
     alloc: Global,
     mount: &Mounted,
     file: u32,
     bay: &mut B,
     sink: &mut K,
+    notices: &mut N,
     room: FileRoom<B::Store>,
 ) -> Status
     requires file { file < length mount.now.files }
@@ -155,11 +163,11 @@ fn dump_all<B: Bay, K: Sink>(
     requires left { IsRoom (length mount.now.disks) room.left }
     requires lost { IsRoom (length mount.now.disks) room.lost }
     requires bytes { length room.bytes.items ≡ pages_of mount.now file * mount.now.page_size }
-    ensures { Written (SaysDump mount.now (B.told bay.old) (B.told bay.new) file) (K.told sink.old) (K.told sink.new) result }
+    ensures { WrittenBeside (SaysDump mount.now (B.told bay.old) (B.told bay.new) file) (K.told sink.old) (K.told sink.new) (N.told notices.old) (N.told notices.new) result }
 {
     let mut room = room;
     match take_stores(mount, bay, &room.keys, &mut room.taken) {
-        Ok(()) => dump_taken(alloc, mount, file, bay, sink, room),
+        Ok(()) => dump_taken(alloc, mount, file, bay, sink, notices, room),
         Err(stop) => {
             give_back(mount, bay, room.taken, &mut room.lost);
             stopped(sink, mount, stop, &room.lost)
@@ -171,19 +179,23 @@ fn dump_all<B: Bay, K: Sink>(
 /// the stores back; and writes a line for each page, one for each store that is lost, and the status. The opening may write to
 /// disks in mirrors, and nothing else does.
 ///
+/// If the image was opened, the sink of notices gets a line for each disk in a mirror of which something is told. If that sink
+/// fails, nothing else changes.
+///
 /// The order of the steps and the texts are this project's own.
-pub fn dump_file<B: Bay, K: Sink>(
+pub fn dump_file<B: Bay, K: Sink, N: Sink>(
     alloc: Global,
     mount: &Mounted,
     file: u32,
     bay: &mut B,
     sink: &mut K,
+    notices: &mut N,
 ) -> Status
     requires { file < length mount.now.files }
-    ensures dumps { Written (SaysDump mount.now (B.told bay.old) (B.told bay.new) file) (K.told sink.old) (K.told sink.new) result }
+    ensures dumps { WrittenBeside (SaysDump mount.now (B.told bay.old) (B.told bay.new) file) (K.told sink.old) (K.told sink.new) (N.told notices.old) (N.told notices.new) result }
 {
     match room_for(alloc, mount, file) {
-        Ok(room) => dump_all(alloc, mount, file, bay, sink, room),
+        Ok(room) => dump_all(alloc, mount, file, bay, sink, notices, room),
         Err(AllocError) => stopped(sink, mount, Stop::Memory, &[]),
     }
 }

@@ -8,7 +8,9 @@ use Rattle.file_stores.specs.Held.{StoreSeen, IsUntaken}
 use Rattle.file_stores.specs.Stop.{stop_text, stop_status}
 use Rattle.file_stores.specs.Stops.{Untaken}
 use Rattle.file_stores.proofs.FileLaws.{length-disks}
+use Rattle.file_stores.proofs.NoticeLaws.{written-alone}
 use Rattle.file_stores.proofs.ReturnLaws.{stops-taking}
+use Rattle.image_commands.specs.Says.{SaysDump}
 use Rattle.image_commands.proofs.FileLaws.{dumps-untaken}
 use Rattle.image_commands.proofs.dumping.dump_all.Goals as goal
 
@@ -54,5 +56,7 @@ returns-in-Err g c =
     let cause = subst (λ (ks : List StoreKey). IsUntaken ks (length taken) before mid stop) items c.in-Err.ensures.cause in
     let first = c.in-Err.ensures.first ∙ ap (take (length taken)) items in
     let stops : Untaken mount before after keys lost stop = stops-taking mount before mid after keys lost taken stop c.in-Err.ensures.out first cause c.give_back.ensures in
-    dumps-untaken mount before after c.args.file lost stop old new c.stopped.result stops
-    (subst (λ (l : List StoreKey). Finishes old new (stop_text mount stop l) (stop_status stop) c.stopped.result) c.deref-in-Err.ensures.value c.stopped.ensures)
+    let ends : Finishes old new (stop_text mount stop lost) (stop_status stop) c.stopped.result =
+    subst (λ (l : List StoreKey). Finishes old new (stop_text mount stop l) (stop_status stop) c.stopped.result) c.deref-in-Err.ensures.value c.stopped.ensures in
+    written-alone (SaysDump mount before after c.args.file) old new (g.N.Sink.told c.args.notices.now) c.stopped.result
+    (dumps-untaken mount before after c.args.file lost stop old new c.stopped.result stops ends)
