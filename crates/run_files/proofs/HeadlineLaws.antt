@@ -1,5 +1,5 @@
 -- What a run promises of a file, from what it leaves.
-use Rattle.std.proofs.Common.{◌≡◌, ℕ, zero, suc, ◌≤◌, List, [], ◌∷◌, Option, Some, None, IfSome, IsSome, sym, ap, subst, ◌∙◌, arith}
+use Rattle.std.proofs.Common.{◌≡◌, ℕ, zero, suc, ◌≤◌, List, [], ◌∷◌, Option, Some, None, IfSome, IsSome, sym, ap, subst, ◌∙◌, arith, get_or}
 use Rattle.std.specs.Prelude.{Contains, slice_get, unwrap_or}
 use Rattle.hist_plain.specs.declared.event.Event.TheVariants.{Synced}
 use Rattle.hist_plain.specs.declared.event.Keep.{Keep}
@@ -21,6 +21,7 @@ use Rattle.file_stores.specs.Files.{FileSeen, IsFile}
 use Rattle.file_stores.proofs.Lists.{some-is}
 use Rattle.run_files.specs.Headline.{Headline, IsHeadline, KeepsFrom, live_after}
 use Rattle.run_files.specs.Promise.{TellsAll}
+use Rattle.mirror_layer.specs.declared.came.Notice.{Notice}
 use Rattle.run_files.specs.Run.{AreTold, IsFrom, IsKept, IsTold, Leaves, LeavesFile, LeavesMirrors, leaves_many, leaves_one, live_of, pages_in}
 use Rattle.run_files.proofs.PromiseLaws.{each-sync}
 use Rattle.run_files.proofs.TurnLaws.{file-key}
@@ -75,12 +76,12 @@ many-headline mount closing log f g run tells =
           (kept.0, kept.1, keeps-each mount closing log before.key told.opening (unwrap_or (told_in (kept_in (seen_of run.opened).disks disk)) None) (kept.0).kept kept.2 place caller number node from keep at);
     }
 
-leaves-headline : (mount : Mount) (file : ℕ) (closing : List Reply) (log : List Logged) (f g : FileSeen) → f.file ≡ file → IsFile mount f → (leaves : LeavesFile mount closing log f g) → TellsAll f → IsHeadline mount file log f g (live_after leaves)
-leaves-headline mount file closing log f g own is (leaves_one {old} {new} was left leaves) tells =
+leaves-headline : (mount : Mount) (file : ℕ) (closing : List Reply) (log : List Logged) (f g : FileSeen) (notices : List (Option Notice)) → f.file ≡ file → IsFile mount f → (leaves : LeavesFile mount closing log f g notices) → TellsAll f → IsHeadline mount file log f g (live_after leaves)
+leaves-headline mount file closing log f g notices own is (leaves_one {old} {new} was left leaves silent) tells =
     one-headline mount file closing log f g old new was left (ap (λ (k : StoreKey). k.file) (file-key mount f is old was) ∙ own) leaves tells
-leaves-headline mount file closing log f g own is (leaves_many some run) tells = subst (λ n. IsHeadline mount n log f g (live_of run.closed)) own (many-headline mount closing log f g run tells)
+leaves-headline mount file closing log f g notices own is (leaves_many some run told) tells = subst (λ n. IsHeadline mount n log f g (live_of run.closed)) own (many-headline mount closing log f g run tells)
 
 pub headline-is : Headline
-headline-is mount script before after h said closing lost played file f g at to tells =
+headline-is mount script before after h said closing lost notices played file f g at to tells =
     let files = played.of.each file f at in
-    leaves-headline mount file closing (log_of h.logs file) f g files.0 files.1 (played.leaves file f g at to) tells
+    leaves-headline mount file closing (log_of h.logs file) f g (get_or played.told file []) files.0 files.1 (played.leaves file f g at to) tells

@@ -1,6 +1,6 @@
 -- The files over the stores that are out, one after another.
 use Rattle.std.proofs.Common.{◌≡◌, ℕ, zero, suc, Bool, true, false, ◌+◌, ◌<◌, ◌≤◌, List, [], ◌∷◌, ◌++◌, length, map, Option, Some, None, refl, sym, ap, subst, ◌∙◌, arith, append_assoc, length-append}
-use Rattle.std.specs.Prelude.{slice_get, slice_index, slice_index_or, is_some}
+use Rattle.std.specs.Prelude.{get_or, slice_get, slice_index, slice_index_or, is_some}
 use Rattle.std.proofs.lemmas.List.{length-map, map-append}
 use Rattle.stack_accept.specs.declared.entries.Kind.{Kind}
 use Rattle.stack_accept.specs.declared.entries.Kind.TheVariants as kinds
@@ -24,11 +24,14 @@ use Rattle.file_stores.specs.Files.{ArePairs, FileSeen, Lasts}
 use Rattle.file_stores.proofs.Lists.{some-is, no-item}
 use Rattle.file_stores.specs.Under.{IsSound as IsSoundUnder, Under, seen_under}
 use Rattle.file_stores.specs.Opening.{IsOpened}
-use Rattle.run_files.specs.Held.{paged, BeganOn, Opens, OpensEach, OpensSome, IsUnheld, IsShut, AreShut}
+use Rattle.mirror_layer.specs.declared.came.Notice.{Notice}
+use Rattle.file_stores.specs.Notices.{AreAtClose}
+use Rattle.run_files.specs.Held.{paged, BeganOn, Opens, OpensEach, AreMade, made_none, made_more, OpensSome, IsUnheld, IsShut, AreShut, AreEnded, ended_none, ended_more}
 
 -- a tower over what lies under a file
-pub opens-of : (mount : Mount) (f : FileSeen) (u : Under) (t : TowerSeen) → IsOpened mount f u → IsSoundUnder u → engines.Opens mount.tree (paged mount f.file) (seen_under u) t.engine → t.turns ≡ [] → BeganOn mount f.file u t → Opens mount f t
-opens-of mount f u t over sound opens free began = record { under = u; over = over; under_sound = sound; opens = opens; free = free; began = began }
+pub opens-of : (mount : Mount) (f : FileSeen) (made : List (Option Notice)) (u : Under) (t : TowerSeen) → length made ≡ length f.stores → IsOpened mount f made u → IsSoundUnder u → engines.Opens mount.tree (paged mount f.file) (seen_under u) t.engine → t.turns ≡ []
+    → BeganOn mount f.file u t → (opens : Opens mount f t) × (made ≡ opens.made)
+opens-of mount f made u t each over sound opens free began = (record { under = u; made = made; each = each; over = over; under_sound = sound; opens = opens; free = free; began = began }, refl)
 
 pub opens-more : (mount : Mount) (ss : List FileSeen) (ts : List TowerSeen) (s : FileSeen) (t : TowerSeen) → OpensEach mount ss ts → Opens mount s t → OpensEach mount (ss ++ s ∷ []) (ts ++ t ∷ [])
 opens-more mount [] [] s t h last = (last, tt)
@@ -189,3 +192,61 @@ paged-of mount file paged_file sound inside fits is =
 pub map-same : {A : Type 0} (xs : List A) → map (λ x. x) xs ≡ xs
 map-same [] = refl
 map-same (x ∷ xs) = ap (λ l. x ∷ l) (map-same xs)
+
+-- what the openings of files made of their disks
+pub made-more : {mount : Mount} {fs : List FileSeen} {ts : List TowerSeen} {ms : List (List (Option Notice))} {f : FileSeen} {t : TowerSeen} {m : List (Option Notice)} → AreMade mount fs ts ms → (opens : Opens mount f t) → m ≡ opens.made
+    → AreMade mount (fs ++ f ∷ []) (ts ++ t ∷ []) (ms ++ m ∷ [])
+made-more {mount = mount} {f = f} {t = t} made_none opens e = subst (λ n. AreMade mount (f ∷ []) (t ∷ []) (n ∷ [])) (sym e) (made_more opens made_none)
+made-more (made_more first h) opens e = made_more first (made-more h opens e)
+
+pub made-length : {mount : Mount} {fs : List FileSeen} {ts : List TowerSeen} {ms : List (List (Option Notice))} → AreMade mount fs ts ms → length ms ≡ length ts
+made-length made_none = refl
+made-length (made_more o h) = ap suc (made-length h)
+
+-- of one file
+pub made-at : {mount : Mount} {fs : List FileSeen} {ts : List TowerSeen} {ms : List (List (Option Notice))} (k : ℕ) (f : FileSeen) (t : TowerSeen) → AreMade mount fs ts ms → slice_get fs k ≡ Some f → slice_get ts k ≡ Some t
+    → (opens : Opens mount f t) × (slice_get ms k ≡ Some opens.made)
+made-at k f t made_none is at = absurd (no-item k f is)
+made-at {mount = mount} zero f t (made_more {f = g} {t = u} {ms = ms} o h) is at = by (some-is g f is) (some-is u t at)
+  where
+    by : g ≡ f → u ≡ t → (opens : Opens mount f t) × (Some o.made ≡ Some opens.made)
+    by e d = subst (λ x. (opens : Opens mount x t) × (Some o.made ≡ Some opens.made)) e (subst (λ y. (opens : Opens mount g y) × (Some o.made ≡ Some opens.made)) d (o, refl))
+made-at (suc k) f t (made_more o h) is at = made-at k f t h is at
+
+-- a file more was closed
+pub ended-more : {n : ℕ} {ts : List TowerSeen} {fs : List FileSeen} {ms ns : List (List (Option Notice))} {t : TowerSeen} {f : FileSeen} {m e : List (Option Notice)} → AreEnded n ts fs ms ns → (shut : IsShut (n + length ts) t f) → AreAtClose shut.under m e
+    → AreEnded n (ts ++ t ∷ []) (fs ++ f ∷ []) (ms ++ m ∷ []) (ns ++ e ∷ [])
+ended-more {n = n} {t = t} {f = f} {m = m} {e = e} ended_none shut is =
+    let own : n + 0 ≡ n = omega arith in
+    let at : (s : IsShut n t f) × AreAtClose s.under m e = subst (λ k. (s : IsShut k t f) × AreAtClose s.under m e) own (shut, is) in
+    ended_more at.0 at.1 ended_none
+ended-more {n = n} {t = t} {f = f} {m = m} {e = e} (ended_more {ts = ts} s c h) shut is =
+    let own : n + suc (length ts) ≡ suc n + length ts = omega arith in
+    let at : (s : IsShut (suc n + length ts) t f) × AreAtClose s.under m e = subst (λ k. (s : IsShut k t f) × AreAtClose s.under m e) own (shut, is) in
+    ended_more s c (ended-more h at.0 at.1)
+
+pub ended-shut : {n : ℕ} {ts : List TowerSeen} {fs : List FileSeen} {ms ns : List (List (Option Notice))} → AreEnded n ts fs ms ns → AreShut n ts fs
+ended-shut ended_none = tt
+ended-shut (ended_more s c h) = (s, ended-shut h)
+
+pub ended-length : {n : ℕ} {ts : List TowerSeen} {fs : List FileSeen} {ms ns : List (List (Option Notice))} → AreEnded n ts fs ms ns → length ns ≡ length ts
+ended-length ended_none = refl
+ended-length (ended_more s c h) = ap suc (ended-length h)
+
+-- the tower that was closed, and what is told of its file's disks
+pub ended-at : {n : ℕ} {ts : List TowerSeen} {fs : List FileSeen} {ms ns : List (List (Option Notice))} (k : ℕ) (t : TowerSeen) (f : FileSeen) (m : List (Option Notice)) → AreEnded n ts fs ms ns → slice_get ts k ≡ Some t → slice_get fs k ≡ Some f → slice_get ms k ≡ Some m
+    → (shut : IsShut (n + k) t f) × AreAtClose shut.under m (get_or ns k [])
+ended-at k t f m ended_none at is has = absurd (no-item k f is)
+ended-at {n = n} zero t f m (ended_more {t = u} {f = g} {m = l} {n = e} s c h) at is has =
+    let own : n ≡ n + 0 = omega arith in
+    subst (λ k. (shut : IsShut k t f) × AreAtClose shut.under m e) own
+    (subst (λ x. (shut : IsShut n x f) × AreAtClose shut.under m e) (some-is u t at)
+    (subst (λ x. (shut : IsShut n u x) × AreAtClose shut.under m e) (some-is g f is)
+    (s, subst (λ (x : List (Option Notice)). AreAtClose s.under x e) (some-is l m has) c)))
+ended-at {n = n} (suc k) t f m (ended_more {ns = ns} s c h) at is has =
+    let own : suc n + k ≡ n + suc k = omega arith in
+    subst (λ j. (shut : IsShut j t f) × AreAtClose shut.under m (get_or ns k [])) own (ended-at k t f m h at is has)
+
+pub ended-made : {n : ℕ} {ts : List TowerSeen} {fs : List FileSeen} {ms ns : List (List (Option Notice))} → AreEnded n ts fs ms ns → length ms ≡ length ts
+ended-made ended_none = refl
+ended-made (ended_more s c h) = ap suc (ended-made h)

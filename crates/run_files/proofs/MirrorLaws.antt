@@ -52,7 +52,10 @@ use Rattle.file_stores.proofs.StoreLaws.{AllLast}
 use Rattle.file_stores.proofs.SpotLaws.{After, Before, after-at, before-at, live-few, live-some, numbers-seen}
 use Rattle.file_stores.proofs.UnderLaws.{counts-under}
 use Rattle.run_files.specs.Play.{IsWhole}
-use Rattle.run_files.specs.Run.{AreTold, Holds, LeavesMirrors, Store, live_of, versions}
+use Rattle.mirror_layer.specs.declared.came.Notice.{Notice}
+use Rattle.mirror_layer.specs.Came.{AreCame}
+use Rattle.file_stores.specs.Notices.{AreAtClose}
+use Rattle.run_files.specs.Run.{AreNotices, AreTold, Holds, LeavesMirrors, Store, live_of, versions}
 use Rattle.run_files.proofs.EngineLaws.{EngineRun, along-of, behind-of, kept-of, reached-of, rises-of, same-number, same-size, shows-all, shows-of, turned-of, lifts-of, IsTurnedIn}
 use Rattle.run_files.proofs.PromiseLaws.{within-of}
 use Rattle.run_files.proofs.GivenLaws.{given-paged, lies-told, pages-shown, row-tree, stored-told, told-all}
@@ -346,6 +349,14 @@ module _ (mount : Mount) (f g : FileSeen) (a z : Ground) (e0 e1 : EngineSeen) (c
             let number : z.shape.pages ≡ pages_of mount old.key.file = same-number mount f.file (seen_of a) (seen_of z) e0 e1 run ∙ ap (λ n. pages_of mount n) (sym own) in
             λ i. record { page_size = size i; pages = number i }
 
+  -- the ground has the shape that it had
+  shape-kept : z.shape ≡ a.shape
+  shape-kept =
+      let size : z.shape.page_size ≡ mount.page_size = same-size mount f.file (seen_of a) (seen_of z) e0 e1 run in
+      let number : z.shape.pages ≡ pages_of mount f.file = same-number mount f.file (seen_of a) (seen_of z) e0 e1 run in
+      let same : z.shape ≡ shape_of_file mount f.file = λ i. record { page_size = size i; pages = number i } in
+      same ∙ sym turn.over.shaped
+
   pub mirrors-left : LeavesMirrors mount closing (log_in e1) f g
   mirrors-left = record {
     opened = a;
@@ -353,6 +364,7 @@ module _ (mount : Mount) (f g : FileSeen) (a z : Ground) (e0 e1 : EngineSeen) (c
     owes = owes-of some-stores;
     closed = z;
     sound = turn.still.0;
+    shaped = shape-kept;
     back = turn.back;
     some = some mount (log_in e1) f g a z turn;
     live = turn.later.live;
@@ -363,3 +375,8 @@ module _ (mount : Mount) (f g : FileSeen) (a z : Ground) (e0 e1 : EngineSeen) (c
     rises = rises;
     told = λ tells. told-of tells;
   }
+
+  -- what is told of the disks
+  pub notices-left : (made notices : List (Option Notice)) → AreCame (all_told a.beside) a.beside turn.over.seen.row a.row made → length made ≡ length f.stores → AreAtClose (Many z) made notices → AreNotices mirrors-left notices
+  unfolding mirrors-left
+  notices-left made notices came each close = record { made = made; made_so = came; each = each; notices_so = close }

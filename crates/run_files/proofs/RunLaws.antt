@@ -1,6 +1,6 @@
 -- From the towers of a run to what became of its files and their stores.
-use Rattle.std.proofs.Common.{◌≡◌, ⊎_elim, ℕ, suc, ◌<◌, ◌^◌, List, [], ◌∷◌, length, map, Option, Some, refl, sym, ap, subst, ◌∙◌, arith}
-use Rattle.std.specs.Prelude.{slice_get}
+use Rattle.std.proofs.Common.{◌≡◌, ⊎_elim, ℕ, suc, ◌+◌, ◌<◌, ◌^◌, List, [], ◌∷◌, length, map, Option, Some, refl, sym, ap, subst, ◌∙◌, arith}
+use Rattle.std.specs.Prelude.{get_or, slice_get}
 use Rattle.std.specs.List.{AllByRecursion}
 use Rattle.std.proofs.lemmas.Option.{slice_get_within}
 use Rattle.hist_plain.specs.History.{IsNumbered}
@@ -45,11 +45,13 @@ use Rattle.file_stores.proofs.FileLaws.{became-files, file-number, keys-in, pair
 use Rattle.file_stores.proofs.ReturnLaws.{returned-of}
 use Rattle.file_stores.specs.Under.{Under, seen_under}
 use Rattle.run_files.specs.Ended.{status_of}
-use Rattle.run_files.specs.Held.{AreFiles, IsTaken, Opens, OpensEach, IsShut, AreShut}
+use Rattle.mirror_layer.specs.declared.came.Notice.{Notice}
+use Rattle.file_stores.specs.Notices.{AreAtClose, all_notices}
+use Rattle.run_files.specs.Held.{AreFiles, AreMade, AreEnded, IsTaken, Opens, OpensEach, IsShut, AreShut}
 use Rattle.run_files.specs.Play.{IsClosed, IsUnwritten, ArePlayed, IsWhole, unnamed}
 use Rattle.run_files.specs.Run.{IsOfFile, AreOfFiles, LeavesFile, start_of, Played, SaysRun, reported, ran_out}
 use Rattle.run_files.specs.Told.{Tells}
-use Rattle.run_files.proofs.HeldLaws.{opens-length, opens-at, shut-length, shut-at, length-logs}
+use Rattle.run_files.proofs.HeldLaws.{opens-length, opens-at, made-at, ended-at, ended-length, shut-length, shut-at, length-logs}
 use Rattle.run_files.proofs.TowerLaws.{back-at, log_at-tower, same-number}
 use Rattle.run_files.proofs.EngineLaws.{EngineRun, disks-later, of-file}
 use Rattle.run_files.proofs.TurnLaws.{UnderTurn, few-disks, leaves-of, turn-of, turn-pairs}
@@ -97,6 +99,8 @@ pub record FileRun (mount : Mount) (after : List TowerSeen) (k : ℕ) (f g : Fil
   pub shut : IsShut k t1 g
   pub is : IsFile mount f
   pub file : f.file ≡ k
+  pub notices : List (Option Notice)
+  pub close : AreAtClose shut.under opens.made notices
 
 -- all that is known of a run that is over
 pub record IsRunOver (mount : Mount) (before after : List TowerSeen) (olds news : List FileSeen) : Type 0 where
@@ -105,28 +109,41 @@ pub record IsRunOver (mount : Mount) (before after : List TowerSeen) (olds news 
   pub end : ℕ
   pub back : AreTowersBack end before after
   pub shut : AreShut 0 after news
+  -- what is told of the files' disks, by what their openings made of them
+  pub mades : List (List (Option Notice))
+  pub told : List (List (Option Notice))
+  pub made : AreMade mount olds before mades
+  pub ended : AreEnded 0 after news mades told
 
 pub number-news : (mount : Mount) (before after : List TowerSeen) (olds news : List FileSeen) → IsRunOver mount before after olds news → length news ≡ length olds
 number-news mount before after olds news run =
     shut-length 0 after news run.shut ∙ (same-number run.end before after run.back ∙ opens-length mount olds before run.opened)
 
-file-run : (mount : Mount) (before after : List TowerSeen) (olds news : List FileSeen) (k : ℕ) (f g : FileSeen) → IsRunOver mount before after olds news → slice_get olds k ≡ Some f → slice_get news k ≡ Some g → FileRun mount after k f g
+file-run : (mount : Mount) (before after : List TowerSeen) (olds news : List FileSeen) (k : ℕ) (f g : FileSeen) (run : IsRunOver mount before after olds news) → slice_get olds k ≡ Some f → slice_get news k ≡ Some g → (r : FileRun mount after k f g) × (r.notices ≡ get_or run.told k [])
 file-run mount before after olds news k f g run is at =
     let within = slice_get_within olds k f is in
     let many = opens-length mount olds before run.opened in
     let a = there before k (omega (arith, within, many)) in
     let b = shut-at 0 after news k g run.shut at in
     let own = run.of.each k f is in
-    record {
-      t0 = a.0;
-      t1 = b.0;
-      there1 = b.1;
-      opens = opens-at mount olds before k f a.0 run.opened is a.1;
-      later = (back-at run.end before after k a.0 b.0 run.back a.1 b.1).later;
-      shut = subst (λ n. IsShut n b.0 g) (omega arith) b.2;
-      is = own.1;
-      file = own.0;
-    }
+    let o = made-at k f a.0 run.made is a.1 in
+    let zero : 0 + k ≡ k = omega arith in
+    let e : (shut : IsShut k b.0 g) × AreAtClose shut.under (o.0).made (get_or run.told k []) =
+    subst (λ n. (shut : IsShut n b.0 g) × AreAtClose shut.under (o.0).made (get_or run.told k [])) zero (ended-at k b.0 g (o.0).made run.ended b.1 at o.1) in (
+      record {
+        t0 = a.0;
+        t1 = b.0;
+        there1 = b.1;
+        opens = o.0;
+        later = (back-at run.end before after k a.0 b.0 run.back a.1 b.1).later;
+        shut = e.0;
+        is = own.1;
+        file = own.0;
+        notices = get_or run.told k [];
+        close = e.1;
+      },
+      refl,
+    )
 
 module _ (mount : Mount) (after : List TowerSeen) (k : ℕ) (f g : FileSeen) (r : FileRun mount after k f g) where
   abbrev u0 : Under
@@ -146,15 +163,17 @@ module _ (mount : Mount) (after : List TowerSeen) (k : ℕ) (f g : FileSeen) (r 
   log-at = sym (log_at-tower after k r.t1 r.there1)
 
   turn : UnderTurn mount (log_in e1) f g u0 u1
-  turn = turn-of mount (log_in e1) f g u0 u1 r.is r.opens.over r.opens.under_sound (disks-later mount f.file (seen_under u0) (seen_under u1) r.t0.engine e1 engine-run) r.shut.left r.shut.under_sound
+  turn = turn-of mount (log_in e1) f g r.opens.made u0 u1 r.is r.opens.over r.opens.under_sound (disks-later mount f.file (seen_under u0) (seen_under u1) r.t0.engine e1 engine-run) r.shut.left r.shut.under_sound
 
   pub file-pairs : ArePairs Lasts f.stores g.stores
   file-pairs =
       turn-pairs mount (log_in e1) f g u0 u1 r.is (r.shut.file_is ∙ sym r.file) (r.shut.keys ∙ ap (λ m. stores_of_file (length g.stores) m) (sym r.shut.file_is)) turn
 
   -- what became of the file's stores
-  file-left : (closing : List Reply) → (slice_get closing f.file ≡ Some Done → IsWhole e1) → LeavesFile mount closing (log_of (logs after) k) f g
-  file-left closing whole = subst (λ (l : List Logged). LeavesFile mount closing l f g) log-at (leaves-of mount f g closing u0 u1 r.t0.engine e1 r.is engine-run turn whole)
+  file-left : (closing : List Reply) → (slice_get closing f.file ≡ Some Done → IsWhole e1) → LeavesFile mount closing (log_of (logs after) k) f g r.notices
+  file-left closing whole =
+      subst (λ (l : List Logged). LeavesFile mount closing l f g r.notices) log-at
+      (leaves-of mount f g closing r.opens.made r.notices u0 u1 r.t0.engine e1 r.is engine-run r.opens.over r.opens.under_sound (disks-later mount f.file (seen_under u0) (seen_under u1) r.t0.engine e1 engine-run) r.shut.left r.shut.under_sound whole r.opens.each r.close)
 
   -- its log
   file-log : IsOfFile mount k (log_of (logs after) k)
@@ -163,7 +182,7 @@ module _ (mount : Mount) (after : List TowerSeen) (k : ℕ) (f g : FileSeen) (r 
       (of-file mount f.file (seen_under u0) (seen_under u1) r.t0.engine e1 engine-run (length f.stores) (file-number mount f r.is) (few-disks mount (log_in e1) f g u0 u1 r.is turn)))
 
 over-pairs : (mount : Mount) (before after : List TowerSeen) (olds news : List FileSeen) → IsRunOver mount before after olds news → AreFilePairs Lasts olds news
-over-pairs mount before after olds news run file f g was is = file-pairs mount after file f g (file-run mount before after olds news file f g run was is)
+over-pairs mount before after olds news run file f g was is = file-pairs mount after file f g (file-run mount before after olds news file f g run was is).0
 
 -- THE RUN IS OVER
 module _ (mount : Mount) (closer : ℕ) (before after : List TowerSeen) (olds news : List FileSeen) (closing : List Reply) (run : IsRunOver mount before after olds news)
@@ -177,10 +196,12 @@ module _ (mount : Mount) (closer : ℕ) (before after : List TowerSeen) (olds ne
       (returned-of mount old mid new (stores_in olds) (stores_in news) lost (StandsAt (stores_in olds) (stores_in news)) taken.out (omega (arith, calm))
       (became-files olds news (number-news mount before after olds news run) (over-pairs mount before after olds news run)) given)
 
-  leaves : (file : ℕ) (f g : FileSeen) → slice_get olds file ≡ Some f → slice_get news file ≡ Some g → LeavesFile mount closing (log_of (logs after) file) f g
+  leaves : (file : ℕ) (f g : FileSeen) → slice_get olds file ≡ Some f → slice_get news file ≡ Some g → LeavesFile mount closing (log_of (logs after) file) f g (get_or run.told file [])
   leaves file f g was is =
-      let r = file-run mount before after olds news file f g run was is in
-      file-left mount after file f g r closing (λ done. (closed file r.t1 (ap (λ n. slice_get closing n) (sym r.file) ∙ done) r.there1).whole)
+      let found = file-run mount before after olds news file f g run was is in
+      let r = found.0 in
+      subst (λ (ns : List (Option Notice)). LeavesFile mount closing (log_of (logs after) file) f g ns) found.1
+      (file-left mount after file f g r closing (λ done. (closed file r.t1 (ap (λ n. slice_get closing n) (sym r.file) ∙ done) r.there1).whole))
 
   -- the logs of the files
   of-files : length closing ≡ length mount.files → AreOfFiles mount closer closing (logs after)
@@ -193,7 +214,7 @@ module _ (mount : Mount) (closer : ℕ) (before after : List TowerSeen) (olds ne
         each = λ file lt.
             let f = there olds file (omega (arith, lt, files)) in
             let g = there news file (omega (arith, lt, files, many)) in
-            file-log mount after file f.0 g.0 (file-run mount before after olds news file f.0 g.0 run f.1 g.1);
+            file-log mount after file f.0 g.0 (file-run mount before after olds news file f.0 g.0 run f.1 g.1).0;
         ended = λ file done.
             let within = slice_get_within closing file Done done in
             let t = there after file (omega (arith, within, all, files, many, towers)) in
@@ -243,13 +264,16 @@ starts-are end (t ∷ ts) (u ∷ us) back none =
 
 -- the run of the files
 played-over : (mount : Mount) (script : Script) (before mid after : BaySeen) (towers towers_after : List TowerSeen) (names : NamesSeen) (olds news : List FileSeen) (lost : List StoreKey) (said : List (List Said)) (closing : List Reply)
-    → IsTaken mount before mid (stores_of mount) (stores_in olds) → IsRunOver mount towers towers_after olds news → ArePlayed mount script towers towers_after names said closing → AreGiven mount mid after (stores_in news) lost
-    → Played mount script before after (record { logs = logs towers_after; names = names }) said closing lost
+    → IsTaken mount before mid (stores_of mount) (stores_in olds) → (run : IsRunOver mount towers towers_after olds news) → ArePlayed mount script towers towers_after names said closing → AreGiven mount mid after (stores_in news) lost
+    → Played mount script before after (record { logs = logs towers_after; names = names }) said closing lost (all_notices mount run.told)
 played-over mount script before mid after towers towers_after names olds news lost said closing taken run played given =
     let unwritten = unwritten-opened mount olds towers run.opened in
     record {
       olds = olds;
       news = news;
+      told = run.told;
+      many_told = ended-length run.ended ∙ (sym (shut-length 0 towers_after news run.shut) ∙ number-news mount towers towers_after olds news run);
+      lines = refl;
       of = run.of;
       same = record { many = number-news mount towers towers_after olds news run; pairs = over-pairs mount towers towers_after olds news run };
       stores = are-back mount (length script.clients) towers towers_after olds news closing run played.closed before mid after lost taken given;
@@ -261,8 +285,8 @@ played-over mount script before mid after towers towers_after names olds news lo
 
 -- the run, by what was written of it
 pub run-over : (mount : Mount) (script : Script) (traced : Option Ops) (before mid after : BaySeen) (towers towers_after : List TowerSeen) (names : NamesSeen) (olds news : List FileSeen) (lost : List StoreKey) (said : List (List Said)) (closing : List Reply)
-    (ls : List (List Logged)) (old new : SinkSeen) (status result : Status) → IsTaken mount before mid (stores_of mount) (stores_in olds) → IsRunOver mount towers towers_after olds news → ArePlayed mount script towers towers_after names said closing
-    → AreGiven mount mid after (stores_in news) lost → ls ≡ logs towers_after → status ≡ status_of said closing lost → Tells mount script traced (record { logs = ls; names = names }) said closing lost status old new result → Written (SaysRun mount script traced before after) old new result
+    (ls : List (List Logged)) (old new : SinkSeen) (status result : Status) → IsTaken mount before mid (stores_of mount) (stores_in olds) → (run : IsRunOver mount towers towers_after olds news) → ArePlayed mount script towers towers_after names said closing
+    → AreGiven mount mid after (stores_in news) lost → ls ≡ logs towers_after → status ≡ status_of said closing lost → Tells mount script traced (record { logs = ls; names = names }) said closing lost status old new result → Written (SaysRun mount script traced before after (all_notices mount run.told)) old new result
 run-over mount script traced before mid after towers towers_after names olds news lost said closing ls old new status result taken run played given is how tells =
     let p = played-over mount script before mid after towers towers_after names olds news lost said closing taken run played given in
     ⊎_elim

@@ -21,7 +21,8 @@ use Rattle.file_stores.specs.State.{Returned}
 use Rattle.file_stores.specs.Held.{AreGiven, StoreSeen, keys_of}
 use Rattle.file_stores.specs.Files.{AreFilePairs, ArePairs, FileSeen, IsFile, Lasts, StandsAt, stores_in}
 use Rattle.file_stores.specs.Stop.{stop_text, stop_status}
-use Rattle.file_stores.specs.Written.{Written}
+use Rattle.file_stores.specs.Written.{Written, WrittenBeside}
+use Rattle.file_stores.proofs.NoticeLaws.{written-alone}
 use Rattle.file_stores.proofs.Lists.{no-item, some-is}
 use Rattle.file_stores.proofs.FileLaws.{at-joined, became-files, keys-in, pairs-in, pairs-keys, short-after}
 use Rattle.file_stores.specs.Under.{seen_under}
@@ -37,7 +38,7 @@ closed-file : (mount : Mount) (n : ℕ) (f g : FileSeen) (t : TowerSeen) → IsF
 closed-file mount n f g t is file opens shut =
     let same : seen_under shut.under ≡ seen_under opens.under = shut.ground ∙ opens.opens.ground_is in
     let turn : UnderTurn mount [] f g opens.under shut.under =
-    turn-of mount [] f g opens.under shut.under is opens.over opens.under_sound (later-same (seen_under opens.under) (seen_under shut.under) same) shut.left shut.under_sound in
+    turn-of mount [] f g opens.made opens.under shut.under is opens.over opens.under_sound (later-same (seen_under opens.under) (seen_under shut.under) same) shut.left shut.under_sound in
     let keys : keys_of g.stores ≡ stores_of_file (length g.stores) g.file = shut.keys ∙ ap (λ m. stores_of_file (length g.stores) m) (sym shut.file_is) in
     (turn-closes mount [] f g opens.under shut.under same turn, turn-pairs mount [] f g opens.under shut.under is (shut.file_is ∙ sym file) keys turn)
 
@@ -200,9 +201,9 @@ module _ (mount : Mount) (stop : Stop) (olds news : List FileSeen) (of : AreFile
   }
 
 -- a run that ended before its phases
-pub run-stopped : (mount : Mount) (script : Script) (traced : Option Ops) (before after : BaySeen) (old new : SinkSeen) (result : Status) → Written (Stopped mount before after) old new result → Written (SaysRun mount script traced before after) old new result
-run-stopped mount script traced before after old new result w =
-    record { text = w.text; status = w.status; says = stopped w.says.stop w.says.lost w.says.halted w.says.says w.says.ends; ends = w.ends }
+pub run-stopped : (mount : Mount) (script : Script) (traced : Option Ops) (before after : BaySeen) (old new notices : SinkSeen) (result : Status) → Written (Stopped mount before after) old new result → WrittenBeside (SaysRun mount script traced before after) old new notices notices result
+run-stopped mount script traced before after old new notices result w =
+    written-alone (SaysRun mount script traced before after) old new notices result (record { text = w.text; status = w.status; says = stopped w.says.stop w.says.lost w.says.halted refl w.says.says w.says.ends; ends = w.ends })
 
 -- the stores could not all be taken
 pub untaken-writes : (mount : Mount) (before after : BaySeen) (lost : List StoreKey) (stop : Stop) (old new : SinkSeen) (result : Status) → Untaken mount before after (stores_of mount) lost stop → Finishes old new (stop_text mount stop lost) (stop_status stop) result

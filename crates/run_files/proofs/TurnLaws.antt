@@ -26,6 +26,9 @@ use Rattle.file_stores.specs.Stops.{HoldsImage}
 use Rattle.file_stores.proofs.Lists.{to-map}
 use Rattle.file_stores.proofs.FileLaws.{in-disks}
 use Rattle.file_stores.specs.Under.{IsSound, Many, One, Under, seen_under}
+use Rattle.mirror_layer.specs.declared.came.Notice.{Notice}
+use Rattle.file_stores.specs.Notices.{AreAtClose}
+use Rattle.file_stores.proofs.NoticeLaws.{alone-silent}
 use Rattle.file_stores.specs.Opening.{IsLeft, IsOpened, under}
 use Rattle.file_stores.specs.WholeDisk.{Alone, IsAlone, IsFirst, seen_whole}
 use Rattle.file_stores.proofs.StoreLaws.{AllLast, in-pairs, lasts-one, same-keys}
@@ -36,7 +39,7 @@ use Rattle.run_files.specs.Play.{IsWhole}
 use Rattle.run_files.specs.Run.{LeavesFile, leaves_one, leaves_many}
 use Rattle.run_files.proofs.DiskLaws.{leaves-of as disk-leaves}
 use Rattle.run_files.proofs.EngineLaws.{EngineRun}
-use Rattle.run_files.proofs.MirrorLaws.{Turn, few, lasts, mirrors-left}
+use Rattle.run_files.proofs.MirrorLaws.{Turn, few, lasts, mirrors-left, notices-left}
 use Rattle.run_files.proofs.WholeLaws.{on-disk, same-number-under}
 
 -- the only store of a file, or its stores on disks in mirrors
@@ -62,11 +65,11 @@ apart (b ∷ c ∷ bs) d differ e = by differ.0 (ap first e) (ap second e)
     by : Every (λ x. x.disk ≢ b.disk) (c ∷ bs) → b.disk ≡ d → c.disk ≡ d → ⊥
     by (every_more p q) one two = p (two ∙ sym one)
 
-pub turn-of : (mount : Mount) (more : List Logged) (f g : FileSeen) (u0 u1 : Under) → IsFile mount f → IsOpened mount f u0 → IsSound u0 → AreLater more (seen_under u0) (seen_under u1) → IsLeft u1 g → IsSound u1 → UnderTurn mount more f g u0 u1
-turn-of mount more f g (One d0) (One d1) is over sound later left still = turn_one over.1 over.2 later left.1 left.2 still.0 over.3 still.2
-turn-of mount more f g (Many a) (Many z) is over sound later back still = turn_many over.0 (record { is = is; over = over.1; sound = sound; later = later; back = back; still = still })
-turn-of mount more f g (One d0) (Many z) is over sound later back still = absurd (apart z.beside d0.disk.disk still.0.differ (sym (numbers-seen still.0.counts) ∙ later.disks))
-turn-of mount more f g (Many a) (One d1) is over sound later left still = absurd (apart a.beside d1.disk.disk sound.0.differ (sym (numbers-seen sound.0.counts) ∙ sym later.disks))
+pub turn-of : (mount : Mount) (more : List Logged) (f g : FileSeen) (made : List (Option Notice)) (u0 u1 : Under) → IsFile mount f → IsOpened mount f made u0 → IsSound u0 → AreLater more (seen_under u0) (seen_under u1) → IsLeft u1 g → IsSound u1 → UnderTurn mount more f g u0 u1
+turn-of mount more f g made (One d0) (One d1) is over sound later left still = turn_one over.1 over.2 later left.1 left.2 still.0 over.3 still.2
+turn-of mount more f g made (Many a) (Many z) is over sound later back still = turn_many over.0 (record { is = is; over = over.1.over; sound = sound; later = later; back = back; still = still })
+turn-of mount more f g made (One d0) (Many z) is over sound later back still = absurd (apart z.beside d0.disk.disk still.0.differ (sym (numbers-seen still.0.counts) ∙ later.disks))
+turn-of mount more f g made (Many a) (One d1) is over sound later left still = absurd (apart a.beside d1.disk.disk sound.0.differ (sym (numbers-seen sound.0.counts) ∙ sym later.disks))
 
 still-told : (x y : Option Content) → is_some y ≡ is_some x → IfSome x (λ _. IsSome y)
 still-told None y e = tt
@@ -121,7 +124,7 @@ pub turn-closes : (mount : Mount) (more : List Logged) (f g : FileSeen) (u0 u1 :
 turn-closes mount more f g _ _ same (turn_one {d0} {d1} {old} {new} was over later left state has first near) =
     closes_one was left (holds-image d0.disk (image_shape mount old.key) old.state.content over.shape over.content over.image)
     (same-state new.state old.state (ap (λ (s : StoreState). s.content) state ∙ (whole-content d1 d0 same ∙ over.content)) (ap (λ (s : StoreState). s.faults) state ∙ (whole-count d1 d0 same ∙ over.calm)))
-turn-closes mount more f g _ _ same (turn_many {a} {z} some turn) = closes_many a z some turn.over same turn.back
+turn-closes mount more f g _ _ same (turn_many {a} {z} some turn) = closes_many a z some turn.over same turn.still.0 turn.back
 
 -- THE STORES OF A FILE BEFORE AND AFTER, in pairs
 pub turn-pairs : (mount : Mount) (more : List Logged) (f g : FileSeen) (u0 u1 : Under) → IsFile mount f → g.file ≡ f.file → keys_of g.stores ≡ stores_of_file (length g.stores) g.file → UnderTurn mount more f g u0 u1 → ArePairs Lasts f.stores g.stores
@@ -135,16 +138,24 @@ file-key mount f is old was =
     (in-disks (length mount.disks) f.file 0 old.key
     (ap (λ (ks : List StoreKey). slice_get ks 0) (sym is.keys) ∙ to-map (λ (s : StoreSeen). s.key) f.stores 0 old (ap (λ (ss : List StoreSeen). slice_get ss 0) was))).0
 
--- WHAT BECAME OF THE STORES
-pub leaves-of : (mount : Mount) (f g : FileSeen) (closing : List Reply) (u0 u1 : Under) (e0 e1 : EngineSeen) → IsFile mount f → EngineRun mount f.file (seen_under u0) (seen_under u1) e0 e1 → UnderTurn mount (log_in e1) f g u0 u1
-    → (slice_get closing f.file ≡ Some Done → IsWhole e1) → LeavesFile mount closing (log_in e1) f g
-leaves-of mount f g closing _ _ e0 e1 is run (turn_one {d0} {d1} {old} {new} was over later left state has first near) whole =
-    let at : slice_get f.stores 0 ≡ Some old = ap (λ (ss : List StoreSeen). slice_get ss 0) was in
-    let key : old.key.file ≡ f.file = ap (λ (k : StoreKey). k.file) (file-key mount f is old was) in
+-- WHAT BECAME OF THE STORES, and what is told of the disks
+pub leaves-of : (mount : Mount) (f g : FileSeen) (closing : List Reply) (made notices : List (Option Notice)) (u0 u1 : Under) (e0 e1 : EngineSeen) → IsFile mount f → EngineRun mount f.file (seen_under u0) (seen_under u1) e0 e1
+    → IsOpened mount f made u0 → IsSound u0 → AreLater (log_in e1) (seen_under u0) (seen_under u1) → IsLeft u1 g → IsSound u1 → (slice_get closing f.file ≡ Some Done → IsWhole e1) → length made ≡ length f.stores → AreAtClose u1 made notices
+    → LeavesFile mount closing (log_in e1) f g notices
+leaves-of mount f g closing made notices (One d0) (One d1) e0 e1 is run opened sound later left still whole each close =
+    let old : StoreSeen = opened.0 in
+    let new : StoreSeen = left.0 in
+    let at : slice_get f.stores 0 ≡ Some old = ap (λ (ss : List StoreSeen). slice_get ss 0) opened.1 in
+    let key : old.key.file ≡ f.file = ap (λ (k : StoreKey). k.file) (file-key mount f is old opened.1) in
     let own : EngineRun mount old.key.file (seen_whole d0) (seen_whole d1) e0 e1 = subst (λ n. EngineRun mount n (seen_whole d0) (seen_whole d1) e0 e1) (sym key) run in
-    leaves_one was left
-    (disk-leaves mount old d0 d1 e0 e1 closing over own (λ done. whole (ap (λ n. slice_get closing n) (sym key) ∙ done)) has first near new.state (ap (λ (s : StoreState). s.content) state) (ap (λ (s : StoreState). s.faults) state) (is.fits 0 old at))
-leaves-of mount f g closing _ _ e0 e1 is run (turn_many {a} {z} some turn) whole = leaves_many some (mirrors-left mount f g a z e0 e1 closing run turn whole some)
+    leaves_one {old = old} {new = new} opened.1 left.1
+    (disk-leaves mount old d0 d1 e0 e1 closing opened.2 own (λ done. whole (ap (λ n. slice_get closing n) (sym key) ∙ done)) still.0 opened.3 still.2 new.state (ap (λ (s : StoreState). s.content) left.2) (ap (λ (s : StoreState). s.faults) left.2) (is.fits 0 old at))
+    (alone-silent close)
+leaves-of mount f g closing made notices (Many a) (Many z) e0 e1 is run opened sound later back still whole each close =
+    let turn : Turn mount (log_in e1) f g a z = record { is = is; over = opened.1.over; sound = sound; later = later; back = back; still = still } in
+    leaves_many opened.0 (mirrors-left mount f g a z e0 e1 closing run turn whole opened.0) (notices-left mount f g a z e0 e1 closing run turn whole opened.0 made notices opened.1.came_so each close)
+leaves-of mount f g closing made notices (One d0) (Many z) e0 e1 is run opened sound later left still whole each close = absurd (apart z.beside d0.disk.disk still.0.differ (sym (numbers-seen still.0.counts) ∙ later.disks))
+leaves-of mount f g closing made notices (Many a) (One d1) e0 e1 is run opened sound later left still whole each close = absurd (apart a.beside d1.disk.disk sound.0.differ (sym (numbers-seen sound.0.counts) ∙ sym later.disks))
 
 -- the live disks have numbers of the file's stores
 pub few-disks : (mount : Mount) (more : List Logged) (f g : FileSeen) (u0 u1 : Under) → IsFile mount f → UnderTurn mount more f g u0 u1 → (disk : ℕ) → Contains (live_in (seen_under u0).disks) disk → disk < length f.stores
@@ -157,9 +168,9 @@ few-disks mount more f g _ _ is (turn_one {d0} {d1} {old} {new} was over later l
 few-disks mount more f g _ _ is (turn_many {a} {z} some turn) disk live = few mount more f g a z turn disk live
 
 -- a file's image that was closed as soon as it was opened
-pub shut-at-once : (mount : Mount) (f g : FileSeen) (u0 u1 : Under) (file : ℕ) → IsFile mount f → IsOpened mount f u0 → IsSound u0 → u1 ≡ u0 → file ≡ f.file → g.file ≡ file → keys_of g.stores ≡ stores_of_file (length g.stores) file → IsLeft u1 g
+pub shut-at-once : (mount : Mount) (f g : FileSeen) (made : List (Option Notice)) (u0 u1 : Under) (file : ℕ) → IsFile mount f → IsOpened mount f made u0 → IsSound u0 → u1 ≡ u0 → file ≡ f.file → g.file ≡ file → keys_of g.stores ≡ stores_of_file (length g.stores) file → IsLeft u1 g
     → Closes mount f g × ArePairs Lasts f.stores g.stores
-shut-at-once mount f g u0 u1 file is over sound same own named keys left =
+shut-at-once mount f g made u0 u1 file is over sound same own named keys left =
     let back : IsLeft u0 g = subst (λ (u : Under). IsLeft u g) same left in
-    let turn : UnderTurn mount [] f g u0 u0 = turn-of mount [] f g u0 u0 is over sound (later-same (seen_under u0) (seen_under u0) refl) back sound in
+    let turn : UnderTurn mount [] f g u0 u0 = turn-of mount [] f g made u0 u0 is over sound (later-same (seen_under u0) (seen_under u0) refl) back sound in
     (turn-closes mount [] f g u0 u0 refl turn, turn-pairs mount [] f g u0 u0 is (named ∙ own) (keys ∙ ap (λ n. stores_of_file (length g.stores) n) (sym named)) turn)

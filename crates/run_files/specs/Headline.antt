@@ -15,15 +15,16 @@ use Rattle.stack_engine.specs.Opened.{AreAnswers}
 use Rattle.run_defs.specs.declared.store.StoreKey.{StoreKey}
 use Rattle.run_defs.specs.Stack.{pages_of}
 use Rattle.run_defs.specs.Log.{Histories, log_of}
+use Rattle.mirror_layer.specs.declared.came.Notice.{Notice}
 use Rattle.file_stores.specs.Held.{StoreSeen}
 use Rattle.file_stores.specs.Files.{FileSeen}
 use Rattle.run_files.specs.Run.{IsFrom, LeavesFile, Played, Store, leaves_many, leaves_one, live_of}
 use Rattle.run_files.specs.Promise.{TellsAll}
 
 -- the disks of a file that are live at the end of a run: its only one, or those of its mirrors
-abbrev pub live_after : {mount : Mount} {closing : List Reply} {log : List Logged} {f g : FileSeen} → LeavesFile mount closing log f g → List ℕ
-live_after (leaves_one old new run) = 0 ∷ []
-live_after (leaves_many some run) = live_of run.closed
+abbrev pub live_after : {mount : Mount} {closing : List Reply} {log : List Logged} {f g : FileSeen} {notices : List (Option Notice)} → LeavesFile mount closing log f g notices → List ℕ
+live_after (leaves_one old new run silent) = 0 ∷ []
+live_after (leaves_many some run told) = live_of run.closed
 
 -- a store keeps an image that has, page by page, the file as it was at some place from this one on
 abbrev pub KeepsFrom : Mount → StoreKey → List ℕ → List Logged → ℕ → Option Content → Type 0
@@ -44,6 +45,6 @@ pub record IsHeadline (mount : Mount) (file : ℕ) (log : List Logged) (f g : Fi
 -- each file of a run whose stores tell what they hold has it; that the history begins with all that a caller had seen, and holds its calls once
 -- each, is `Played` (fits)
 abbrev pub Headline : Type 0
-Headline = (mount : Mount) (script : Script) (before after : BaySeen) (h : Histories) (said : List (List Said)) (closing : List Reply) (lost : List StoreKey) (played : Played mount script before after h said closing lost)
+Headline = (mount : Mount) (script : Script) (before after : BaySeen) (h : Histories) (said : List (List Said)) (closing : List Reply) (lost : List StoreKey) (notices : List ℕ) (played : Played mount script before after h said closing lost notices)
     → (file : ℕ) (f g : FileSeen) (at : slice_get played.olds file ≡ Some f) (to : slice_get played.news file ≡ Some g) → TellsAll f
     → IsHeadline mount file (log_of h.logs file) f g (live_after (played.leaves file f g at to))

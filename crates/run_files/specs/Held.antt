@@ -1,5 +1,5 @@
 -- The files of a run over the stores that were taken: opened, and closed.
-use Rattle.std.specs.Prelude.{◌≡◌, ◌⊎◌, ℕ, suc, ◌*◌, ◌<◌, List, [], ◌∷◌, ◌++◌, length, Some}
+use Rattle.std.specs.Prelude.{◌≡◌, ◌⊎◌, ℕ, suc, ◌*◌, ◌<◌, List, [], ◌∷◌, ◌++◌, length, Option, Some}
 use Rattle.stack_accept.specs.Mount.{Mount}
 use Rattle.spr_io.specs.Berth.{BaySeen}
 use Rattle.run_defs.specs.declared.store.StoreKey.{StoreKey}
@@ -16,9 +16,11 @@ use Rattle.file_stores.specs.Keys.{EachAt, image_shape, stores_of_file}
 use Rattle.file_stores.specs.Held.{StoreSeen, keys_of, AreOut}
 use Rattle.file_stores.specs.Files.{AreFilePairs, ArePairs, FileSeen, IsFile, Lasts}
 use Rattle.file_stores.specs.Stops.{HoldsImage}
-use Rattle.mirror_layer.specs.Ground.{Ground, seen_of}
+use Rattle.mirror_layer.specs.declared.came.Notice.{Notice}
+use Rattle.mirror_layer.specs.Ground.{Ground, IsGround, seen_of}
 use Rattle.mirror_layer.specs.Bringing.{OpenedOver}
 use Rattle.mirror_layer.specs.Stores.{GivesBack}
+use Rattle.file_stores.specs.Notices.{AreAtClose}
 use Rattle.file_stores.specs.Under.{IsSound as IsSoundUnder, Under, seen_under}
 use Rattle.file_stores.specs.Opening.{IsLeft, IsOpened, IsUnopened, content_of, faults_of, shape_of_file}
 
@@ -50,7 +52,10 @@ BeganOn mount file under t = (opening : List ℕ) (told : List (List ℕ)) → (
 -- a tower without events, in which nobody has a turn, over the image of a file that was opened over its stores
 pub record Opens (mount : Mount) (f : FileSeen) (t : TowerSeen) : Type 0 where
   pub under : Under
-  pub over : IsOpened mount f under
+  -- what the opening made of each disk in mirrors
+  pub made : List (Option Notice)
+  pub each : length made ≡ length f.stores
+  pub over : IsOpened mount f made under
   pub under_sound : IsSoundUnder under
   pub opens : engines.Opens mount.tree (paged mount f.file) (seen_under under) t.engine
   pub free : t.turns ≡ []
@@ -63,12 +68,17 @@ OpensEach mount [] (t ∷ ts) = ⊥
 OpensEach mount (f ∷ fs) [] = ⊥
 OpensEach mount (f ∷ fs) (t ∷ ts) = Opens mount f t × OpensEach mount fs ts
 
+-- and this is what each opening made of the disks of the file, by their numbers
+pub data AreMade (mount : Mount) : List FileSeen → List TowerSeen → List (List (Option Notice)) → Type 0 where
+  made_none : AreMade mount [] [] []
+  made_more : {f : FileSeen} {t : TowerSeen} {fs : List FileSeen} {ts : List TowerSeen} {ms : List (List (Option Notice))} (opens : Opens mount f t) → AreMade mount fs ts ms → AreMade mount (f ∷ fs) (t ∷ ts) (opens.made ∷ ms)
+
 -- a file's image was opened over its stores and closed again, and nothing was asked of it meanwhile
 pub data Closes (mount : Mount) (f g : FileSeen) : Type 0 where
   -- the only store holds an image, and is as it was
   closes_one : {old new : StoreSeen} → f.stores ≡ old ∷ [] → g.stores ≡ new ∷ [] → HoldsImage (image_shape mount old.key) old.state.content → new.state ≡ old.state → Closes mount f g
   -- the stores of disks in mirrors are what the opening left
-  closes_many : (opened closed : Ground) → 1 < length f.stores → OpenedOver content_of faults_of (shape_of_file mount f.file) f.stores mount.ground opened → seen_of closed ≡ seen_of opened
+  closes_many : (opened closed : Ground) → 1 < length f.stores → OpenedOver content_of faults_of (shape_of_file mount f.file) f.stores mount.ground opened → seen_of closed ≡ seen_of opened → IsGround closed
       → GivesBack content_of faults_of closed.beside closed.row g.stores → Closes mount f g
 
 -- why a file could not be opened, and what became of its stores: its image was not; or memory ran out then, and it was closed again
@@ -108,3 +118,9 @@ AreShut file [] [] = Unit {0}
 AreShut file [] (f ∷ fs) = ⊥
 AreShut file (t ∷ ts) [] = ⊥
 AreShut file (t ∷ ts) (f ∷ fs) = IsShut file t f × AreShut (suc file) ts fs
+
+-- and this is what is told of the disks of each file then, by what its opening made of them
+pub data AreEnded : ℕ → List TowerSeen → List FileSeen → List (List (Option Notice)) → List (List (Option Notice)) → Type 0 where
+  ended_none : {file : ℕ} → AreEnded file [] [] [] []
+  ended_more : {file : ℕ} {t : TowerSeen} {f : FileSeen} {m : List (Option Notice)} {ts : List TowerSeen} {fs : List FileSeen} {ms ns : List (List (Option Notice))} {n : List (Option Notice)} (shut : IsShut file t f) → AreAtClose shut.under m n → AreEnded (suc file) ts fs ms ns
+      → AreEnded file (t ∷ ts) (f ∷ fs) (m ∷ ms) (n ∷ ns)

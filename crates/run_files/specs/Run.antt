@@ -1,5 +1,5 @@
 -- What a run does to the files of a stack and their stores, and what it writes.
-use Rattle.std.specs.Prelude.{◌≡◌, ◌⊎◌, ℕ, min, ◌+◌, ◌*◌, ◌<◌, ◌≤◌, List, [], ◌∷◌, map, length, take, slice_get, unwrap_or, Option, Some, None, IfSome, IsSome, Contains, Bool, true, if◌then◌else◌}
+use Rattle.std.specs.Prelude.{◌≡◌, ◌⊎◌, ℕ, min, ◌+◌, ◌*◌, ◌<◌, ◌≤◌, List, [], ◌∷◌, map, length, take, get_or, slice_get, unwrap_or, Option, Some, None, IfSome, IsSome, Contains, Bool, true, if◌then◌else◌}
 use Rattle.std.specs.List.{AllByRecursion}
 use Rattle.std.specs.Option.{option_map}
 use Rattle.hist_plain.specs.declared.TheConstants.{MAX_EVENTS}
@@ -41,6 +41,9 @@ use Rattle.page_ground.specs.Seen.{is_up_in, kept_in, live_in, numbers_in}
 use Rattle.page_ground.specs.Seen.{pages_in as told_in}
 use Rattle.mirror_rules.specs.Tree.{limit, next}
 use Rattle.mirror_rules.specs.History.{Went, Kept}
+use Rattle.mirror_layer.specs.declared.came.Notice.{Notice}
+use Rattle.mirror_layer.specs.Calls.{all_told}
+use Rattle.mirror_layer.specs.Came.{AreCame}
 use Rattle.mirror_layer.specs.Ground.{Ground, IsGround, seen_of}
 use Rattle.mirror_layer.specs.Bringing.{OpenedOver}
 use Rattle.mirror_layer.specs.Stores.{GivesBack}
@@ -48,6 +51,8 @@ use Rattle.file_stores.specs.Keys.{EachAt, stores_of, image_shape}
 use Rattle.file_stores.specs.State.{StoreState, Returned}
 use Rattle.file_stores.specs.Held.{StoreSeen}
 use Rattle.file_stores.specs.Files.{FileSeen, StandsAt, stores_in}
+use Rattle.file_stores.specs.Notices.{AreAtClose, NothingTold, all_notices}
+use Rattle.file_stores.specs.Under.{Many}
 use Rattle.file_stores.specs.Opening.{IsFoundBad, content_of, faults_of, shape_of_file}
 use Rattle.run_files.specs.Held.{AreFiles, AreSameFiles, Closes, IsUnheld}
 use Rattle.file_stores.specs.declared.stop.Stop.{Stop}
@@ -202,6 +207,7 @@ pub record LeavesMirrors (mount : Mount) (closing : List Reply) (log : List Logg
   pub owes : opened.owed ≡ true
   pub closed : Ground
   pub sound : IsGround closed
+  pub shaped : closed.shape ≡ opened.shape
   pub back : GivesBack content_of faults_of closed.beside closed.row g.stores
   -- at the end some disk is live, which was so at the opening; each other one's store failed since it was taken, or its blocks were found bad
   pub some : 0 < length (live_of closed)
@@ -216,10 +222,18 @@ pub record LeavesMirrors (mount : Mount) (closing : List Reply) (log : List Logg
   pub rises : (disk : ℕ) (old new : StoreSeen) → Store f g disk old new → Rises old.state.faults new.state.faults (counts_of disk log)
   pub told : EachAt (λ at s. IsSome s.state.content) f.stores → AreTold mount closing log f g opened closed
 
--- WHAT BECAME OF A FILE'S STORES, by its log and the answer of its closing sync
-pub data LeavesFile (mount : Mount) (closing : List Reply) (log : List Logged) (f g : FileSeen) : Type 0 where
-  leaves_one : {old new : StoreSeen} → f.stores ≡ old ∷ [] → g.stores ≡ new ∷ [] → Leaves mount closing log old.key old.state new.state → LeavesFile mount closing log f g
-  leaves_many : 1 < length f.stores → LeavesMirrors mount closing log f g → LeavesFile mount closing log f g
+-- What is told of the disks of a file in mirrors, by their numbers: by what the opening of its ground made of each, and whether the disk is live at
+-- the end.
+pub record AreNotices {mount : Mount} {closing : List Reply} {log : List Logged} {f g : FileSeen} (left : LeavesMirrors mount closing log f g) (notices : List (Option Notice)) : Type 0 where
+  pub made : List (Option Notice)
+  pub made_so : AreCame (all_told left.opened.beside) left.opened.beside left.over.seen.row left.opened.row made
+  pub each : length made ≡ length f.stores
+  pub notices_so : AreAtClose (Many left.closed) made notices
+
+-- WHAT BECAME OF A FILE'S STORES, by its log and the answer of its closing sync; and what is told of its disks in mirrors. Of a disk alone nothing is
+pub data LeavesFile (mount : Mount) (closing : List Reply) (log : List Logged) (f g : FileSeen) (notices : List (Option Notice)) : Type 0 where
+  leaves_one : {old new : StoreSeen} → f.stores ≡ old ∷ [] → g.stores ≡ new ∷ [] → Leaves mount closing log old.key old.state new.state → NothingTold notices → LeavesFile mount closing log f g notices
+  leaves_many : 1 < length f.stores → (left : LeavesMirrors mount closing log f g) → AreNotices left notices → LeavesFile mount closing log f g notices
 
 -- a log before its first entry
 abbrev pub start_of : List Logged → List Logged
@@ -230,14 +244,18 @@ abbrev pub before_all : Mount → Histories → Histories
 before_all mount h = record { logs = map start_of h.logs; names = record { began = names_at_start mount; history = [] } }
 
 -- The script was run over the files: these are their logs and the history of the names, the clients' answers and those of the closing
--- syncs; these stores were taken, each with what became of it, and came back, but for those that were lost.
-pub record Played (mount : Mount) (script : Script) (before after : BaySeen) (h : Histories) (said : List (List Said)) (closing : List Reply) (lost : List StoreKey) : Type 0 where
+-- syncs; these stores were taken, each with what became of it, and came back, but for those that were lost; and these lines were told of the disks
+-- in mirrors, by file and then by disk.
+pub record Played (mount : Mount) (script : Script) (before after : BaySeen) (h : Histories) (said : List (List Said)) (closing : List Reply) (lost : List StoreKey) (notices : List ℕ) : Type 0 where
   pub olds : List FileSeen
   pub news : List FileSeen
+  pub told : List (List (Option Notice))
+  pub many_told : length told ≡ length olds
+  pub lines : notices ≡ all_notices mount told
   pub of : AreFiles mount olds
   pub same : AreSameFiles olds news
   pub stores : Returned mount before after (stores_of mount) lost (StandsAt (stores_in olds) (stores_in news))
-  pub leaves : (file : ℕ) (old new : FileSeen) → slice_get olds file ≡ Some old → slice_get news file ≡ Some new → LeavesFile mount closing (log_of h.logs file) old new
+  pub leaves : (file : ℕ) (old new : FileSeen) → slice_get olds file ≡ Some old → slice_get news file ≡ Some new → LeavesFile mount closing (log_of h.logs file) old new (get_or told file [])
   pub files : AreOfFiles mount (length script.clients) closing h.logs
   pub fits : FitsScript mount script (before_all mount h) h said closing
   pub answered : EachAnswered script said
@@ -261,13 +279,13 @@ pub data Halted (mount : Mount) (before after : BaySeen) (lost : List StoreKey) 
   untaken : Untaken mount before after (stores_of mount) lost stop → Halted mount before after lost stop
   unopened : NotRun mount before after lost stop → Halted mount before after lost stop
 
--- The ways in which a run ends over the files, each with its text and status: the stores could not be taken or opened; the
+-- The ways in which a run ends over the files, each with its notices, its text and its status: the stores could not be taken or opened; the
 -- script was run, and this is the report, with the page messages if they are traced; or it was run, and memory ran out for the
 -- report.
-pub data SaysRun (mount : Mount) (script : Script) (traced : Option Ops) (before after : BaySeen) (text : List ℕ) (status : Status) : Type 0 where
+pub data SaysRun (mount : Mount) (script : Script) (traced : Option Ops) (before after : BaySeen) (notices text : List ℕ) (status : Status) : Type 0 where
   stopped : (stop : Stop) (lost : List StoreKey) → Halted mount before after lost stop
-      → text ≡ stop_text mount stop lost → status ≡ stop_status stop → SaysRun mount script traced before after text status
-  reported : (h : Histories) (said : List (List Said)) (closing : List Reply) (lost : List StoreKey) → Played mount script before after h said closing lost
-      → text ≡ report mount script traced h.logs h.names.history said closing lost → status ≡ status_of said closing lost → SaysRun mount script traced before after text status
-  ran_out : (h : Histories) (said : List (List Said)) (closing : List Reply) (lost : List StoreKey) → Played mount script before after h said closing lost
-      → text ≡ lost_text mount lost → status ≡ statuses.Memory → SaysRun mount script traced before after text status
+      → notices ≡ [] → text ≡ stop_text mount stop lost → status ≡ stop_status stop → SaysRun mount script traced before after notices text status
+  reported : (h : Histories) (said : List (List Said)) (closing : List Reply) (lost : List StoreKey) → Played mount script before after h said closing lost notices
+      → text ≡ report mount script traced h.logs h.names.history said closing lost → status ≡ status_of said closing lost → SaysRun mount script traced before after notices text status
+  ran_out : (h : Histories) (said : List (List Said)) (closing : List Reply) (lost : List StoreKey) → Played mount script before after h said closing lost notices
+      → text ≡ lost_text mount lost → status ≡ statuses.Memory → SaysRun mount script traced before after notices text status

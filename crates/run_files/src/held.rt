@@ -11,10 +11,14 @@ ghost use Rattle.file_stores.specs.Keys.{EachAt};
 ghost use Rattle.file_stores.specs.Held.{IsRoom};
 ghost use Rattle.file_stores.specs.Files.{ArePairs, IsFile, Lasts};
 ghost use Rattle.file_stores.specs.Under.{IsSound as IsSoundUnder, seen_under};
-ghost use Rattle.run_files.specs.Held.{paged, BeganOn, Opens, OpensEach, OpensSome, IsUnheld, IsShut, AreShut};
+ghost use Rattle.file_stores.specs.Notices.{AreAtClose};
+ghost use Rattle.run_files.specs.Held.{paged, BeganOn, Opens, OpensEach, AreMade, OpensSome, IsUnheld, IsShut, AreShut, AreEnded};
 
 use crate::layers::copy_tree;
-use file_stores::{FileGround, FileStores, Stop, Unopened, close_file, open_file, shape_of};
+use file_stores::{
+    FileGround, FileStores, Stop, Unopened, close_file, end_notices, open_file, shape_of,
+};
+use mirror_layer::Notice;
 use page_messages::PagedFile;
 use pager_channel::Ops;
 use run_defs::StoreKey;
@@ -65,26 +69,26 @@ fn open_tower<S: Store>(
     Tower::open(alloc, tree, paged, ground, *ops)
 }
 
-/// Opens a file over its stores. A refusal hands the stores back.
+/// Opens a file over its stores, and tells what that made of its disks. A refusal hands the stores back.
 fn open_one<S: Store>(
     alloc: Global,
     mount: &Mounted,
     stores: FileStores<S>,
     ops: &Ops,
-) -> Result<Tower<FileGround<S>>, Unopened<S>>
+) -> Result<(Tower<FileGround<S>>, Vec<Option<Notice>>), Unopened<S>>
     requires file { IsFile mount.now stores }
-    ensures opened { IfOk result (Opens mount.now stores) }
+    ensures opened { IfOk result (λ file. (opens : Opens mount.now stores file.0) × (file.1.items ≡ opens.made)) }
     ensures file { IfErr result (λ e. e.stores.file ≡ stores.file) }
     ensures pairs { IfErr result (λ e. ArePairs Lasts stores.stores e.stores.stores) }
     ensures cause { IfErr result (λ e. IsUnheld mount.now stores e.stores e.stop) }
 {
     let file = stores.file;
-    let ground = match open_file(alloc, mount, stores) {
-        Ok(ground) => ground,
+    let (ground, made) = match open_file(alloc, mount, stores) {
+        Ok(opened) => opened,
         Err(unopened) => return Err(unopened),
     };
     match open_tower(alloc, mount, file, ground, ops) {
-        Ok(tower) => Ok(tower),
+        Ok(tower) => Ok((tower, made)),
         Err(ground) => Err(Unopened {
             stores: close_file(ground, file),
             stop: Stop::Memory,
@@ -92,20 +96,24 @@ fn open_one<S: Store>(
     }
 }
 
-/// Opens the files over their stores, in order, as far as that goes; the stores of those that are left over go to `rest`. The room
-/// for the towers and for the rest is there.
+/// Opens the files over their stores, in order, as far as that goes, and tells what that made of the disks of each; the stores of
+/// those that are left over go to `rest`. The room for all is there.
 pub(crate) fn open_files<S: Store>(
     alloc: Global,
     mount: &Mounted,
     ops: &Ops,
     files: Vec<FileStores<S>>,
     towers: &mut Vec<Tower<FileGround<S>>>,
+    made: &mut Vec<Vec<Option<Notice>>>,
     rest: &mut Vec<FileStores<S>>,
 ) -> Result<(), Stop>
     requires files { EachAt (λ at f. IsFile mount.now f) files.items }
     requires towers { IsRoom (length files.items) towers.old }
+    requires made { IsRoom (length files.items) made.old }
     requires rest { IsRoom (length files.items) rest.old }
     ensures opened { OnOk result (OpensEach mount.now files.items towers.new.items) }
+    ensures made { OnOk result (AreMade mount.now files.items towers.new.items (map (λ m. m.items) made.new.items)) }
+    ensures many { length made.new.items ≡ length towers.new.items }
     ensures none_left { OnOk result (rest.new.items ≡ []) }
     ensures stopped { IfErr result (OpensSome mount.now files.items towers.new.items rest.new.items) }
 {
@@ -116,7 +124,10 @@ pub(crate) fn open_files<S: Store>(
             continue;
         }
         match open_one(alloc, mount, file, ops) {
-            Ok(tower) => towers.push_reserved(tower),
+            Ok((tower, disks)) => {
+                towers.push_reserved(tower);
+                made.push_reserved(disks);
+            }
             Err(unopened) => {
                 rest.push_reserved(unopened.stores);
                 stopped = Some(unopened.stop);
@@ -129,33 +140,50 @@ pub(crate) fn open_files<S: Store>(
     }
 }
 
-/// Closes the tower of a file.
-fn close<S: Store>(file: u32, tower: Tower<FileGround<S>>) -> (FileStores<S>, Trail)
-    ensures shut { IsShut file tower result.0 }
+/// Closes the tower of a file, and tells of its disks, by what its opening made of them.
+fn close<S: Store>(
+    file: u32,
+    tower: Tower<FileGround<S>>,
+    made: Vec<Option<Notice>>,
+) -> (FileStores<S>, Trail, Vec<Option<Notice>>)
+    ensures ended { (shut : IsShut file tower result.0) × AreAtClose shut.under made.items result.2.items }
     ensures log { result.1.log ≡ log_in tower.engine }
 {
+    let mut notices = made;
     let (ground, trail) = tower.close();
     ground.sound();
-    (close_file(ground, file), trail)
+    end_notices(&ground, &mut notices);
+    (close_file(ground, file), trail, notices)
 }
 
-/// Closes the towers of the files, in order: the files' stores and their logs. The room for them is there.
+/// Closes the towers of the files, in order: the files' stores, their logs, and what is told of their disks, by what the openings
+/// made of them. The room for them is there.
 pub(crate) fn close_towers<S: Store>(
     towers: Vec<Tower<FileGround<S>>>,
+    made: Vec<Vec<Option<Notice>>>,
     files: &mut Vec<FileStores<S>>,
     trails: &mut Vec<Trail>,
+    notices: &mut Vec<Vec<Option<Notice>>>,
 )
     requires few { length towers.items < 2 ^ 32 }
+    requires made { length made.items ≡ length towers.items }
     requires files { IsRoom (length towers.items) files.old }
     requires trails { IsRoom (length towers.items) trails.old }
+    requires notices { IsRoom (length towers.items) notices.old }
     ensures shut { AreShut 0 towers.items files.new.items }
+    ensures ended { AreEnded 0 towers.items files.new.items (map (λ m. m.items) made.items) (map (λ m. m.items) notices.new.items) }
     ensures logs { map (λ t. t.log) trails.new.items ≡ logs towers.items }
     ensures room { vec_capacity files.new ≡ vec_capacity files.old }
 {
+    let mut rest = made.into_iter();
     for tower in towers {
-        let (file, trail) = close(trails.as_slice().len() as u32, tower);
+        let Some(disks) = rest.next() else {
+            unreachable!()
+        };
+        let (file, trail, ended) = close(trails.as_slice().len() as u32, tower, disks);
         files.push_reserved(file);
         trails.push_reserved(trail);
+        notices.push_reserved(ended);
     }
 }
 

@@ -8,6 +8,7 @@ ghost use Rattle.file_stores.specs.Held.{IsRoom};
 ghost use Rattle.run_files.specs.Room.{HasAnswerRoom};
 
 use file_stores::{FileGround, FileStores, Held, rooms_of, stores_of};
+use mirror_layer::Notice;
 use run_defs::StoreKey;
 use run_phases::{Worker, workers_of};
 use script_text::{Reply, Said, Script};
@@ -48,12 +49,16 @@ pub(crate) struct Shelves<S: Store> {
 pub(crate) struct Files<S: Store> {
     /// The files that are open.
     pub towers: Vec<Tower<FileGround<S>>>,
+    /// What their openings made of the disks of each.
+    pub made: Vec<Vec<Option<Notice>>>,
     /// The stores of files that were not opened.
     pub rest: Vec<FileStores<S>>,
     /// Room for the stores of closed files.
     pub closed: Vec<FileStores<S>>,
     /// Room for the logs of the files.
     pub trails: Vec<Trail>,
+    /// Room for what is told of the disks of each.
+    pub notices: Vec<Vec<Option<Notice>>>,
     /// Room for all stores, as they go back.
     pub back: Vec<Held<S>>,
     /// Room for the stores that were lost.
@@ -83,17 +88,21 @@ fn room_for_files<S: Store>(
     stores: usize,
 ) -> Result<Files<S>, AllocError>
     ensures towers { IfOk result (λ r. IsRoom number r.towers) }
+    ensures made { IfOk result (λ r. IsRoom number r.made) }
     ensures rest { IfOk result (λ r. IsRoom number r.rest) }
     ensures closed { IfOk result (λ r. IsRoom number r.closed) }
     ensures trails { IfOk result (λ r. IsRoom number r.trails) }
+    ensures notices { IfOk result (λ r. IsRoom number r.notices) }
     ensures back { IfOk result (λ r. IsRoom stores r.back) }
     ensures lost { IfOk result (λ r. IsRoom stores r.lost) }
 {
     Ok(Files {
         towers: Vec::with_capacity(alloc, number)?,
+        made: Vec::with_capacity(alloc, number)?,
         rest: Vec::with_capacity(alloc, number)?,
         closed: Vec::with_capacity(alloc, number)?,
         trails: Vec::with_capacity(alloc, number)?,
+        notices: Vec::with_capacity(alloc, number)?,
         back: Vec::with_capacity(alloc, stores)?,
         lost: Vec::with_capacity(alloc, stores)?,
     })
@@ -111,9 +120,11 @@ pub(crate) fn room_for_stores<S: Store>(
     ensures empty { IfOk result (λ r. EachAt (λ at room. IsRoom (length mount.now.disks) room) r.rooms.items) }
     ensures parts { IfOk result (λ r. IsRoom (length mount.now.files) r.parts) }
     ensures towers { IfOk result (λ r. IsRoom (length mount.now.files) r.files.towers) }
+    ensures made { IfOk result (λ r. IsRoom (length mount.now.files) r.files.made) }
     ensures rest { IfOk result (λ r. IsRoom (length mount.now.files) r.files.rest) }
     ensures closed { IfOk result (λ r. IsRoom (length mount.now.files) r.files.closed) }
     ensures trails { IfOk result (λ r. IsRoom (length mount.now.files) r.files.trails) }
+    ensures notices { IfOk result (λ r. IsRoom (length mount.now.files) r.files.notices) }
     ensures back { IfOk result (λ r. IsRoom (length r.keys.items) r.files.back) }
     ensures lost { IfOk result (λ r. IsRoom (length r.keys.items) r.files.lost) }
 {

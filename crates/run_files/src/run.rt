@@ -1,6 +1,6 @@
 //! A run over the files of a stack: their stores are taken, opened, run over and given back, and the report is written.
 
-ghost use Rattle.std.specs.Prelude.{◌≡◌, ◌<◌, ◌^◌, [], List, length, map};
+ghost use Rattle.std.specs.Prelude.{◌≡◌, ◌<◌, ◌^◌, [], List, get_or, length, map};
 ghost use Rattle.std.specs.List.{AllByRecursion};
 ghost use Rattle.script_text.specs.Grammar.{IsScript};
 ghost use Rattle.stack_accept.specs.Sound.{IsMount};
@@ -11,9 +11,11 @@ ghost use Rattle.spr_client.specs.Lines.{AreCalls};
 ghost use Rattle.file_stores.specs.Keys.{EachAt, AreStores, stores_of};
 ghost use Rattle.file_stores.specs.Held.{AreGiven, IsRoom, keys_of};
 ghost use Rattle.file_stores.specs.Files.{FileSeen, stores_in};
-ghost use Rattle.file_stores.specs.Written.{Written};
+ghost use Rattle.spr_report.specs.Writing.{Writes};
+ghost use Rattle.file_stores.specs.Notices.{all_notices};
+ghost use Rattle.file_stores.specs.Written.{Written, WrittenBeside};
 ghost use Rattle.stack_engine.specs.Tower.{TowerSeen};
-ghost use Rattle.run_files.specs.Held.{AreFiles, Halts, IsTaken, OpensEach};
+ghost use Rattle.run_files.specs.Held.{AreFiles, AreMade, Halts, IsTaken, OpensEach};
 ghost use Rattle.run_files.specs.Play.{ArePlayed};
 ghost use Rattle.run_files.specs.Room.{HasAnswerRoom};
 ghost use Rattle.run_files.specs.Run.{SaysRun, traced_by};
@@ -25,13 +27,15 @@ use crate::play::{Answers, play};
 use crate::room::{Asked, Files, Shelves, room_for_answers, room_for_stores};
 use file_stores::{
     FileStores, Held, Stop, by_file, finish_lost, give_back, put_files, stopped, take_stores,
+    write_notices,
 };
 use hist_plain::Gate;
+use mirror_layer::Notice;
 use name_context::Names;
 use pager_channel::Ops;
 use run_defs::StoreKey;
 use script_text::Script;
-use spr_io::{Bay, Sink};
+use spr_io::{Bay, Failed, Sink};
 use spr_report::{Run, Status, finish, report};
 use stack_accept::Mounted;
 use std::alloc::{AllocError, Global};
@@ -71,6 +75,30 @@ fn tell<K: Sink>(alloc: Global, run: &Run<'_>, status: Status, sink: &mut K) -> 
     }
 }
 
+/// What is told of the disks of a file.
+fn notices_of(files: &[Vec<Option<Notice>>], file: u32) -> &[Option<Notice>]
+    ensures { result.now ≡ get_or (map (λ f. f.items) files.now) file [] }
+{
+    match files.get(file as usize) {
+        Some(notices) => notices,
+        None => &[],
+    }
+}
+
+/// Writes what is told of the disks of each file.
+fn tell_notices<N: Sink>(
+    sink: &mut N,
+    mount: &Mounted,
+    files: &[Vec<Option<Notice>>],
+) -> Result<(), Failed>
+    ensures { Writes (N.told sink.old) (N.told sink.new) (all_notices mount.now (map (λ f. f.items) files.now)) result }
+{
+    for file in 0..mount.files().len() as u32 {
+        write_notices(sink, mount, file, notices_of(files, file))?;
+    }
+    Ok(())
+}
+
 /// Gives the stores of closed files back, in the order in which they came.
 fn give_files<B: Bay>(
     mount: &Mounted,
@@ -91,40 +119,47 @@ fn give_files<B: Bay>(
     give_back(mount, bay, stores, lost);
 }
 
-/// Closes the files that the script was run over, gives their stores back, and writes the report.
-fn end_run<B: Bay, K: Sink>(
+/// Closes the files that the script was run over, gives their stores back, tells of their disks, and writes the report.
+fn end_run<B: Bay, K: Sink, N: Sink>(
     alloc: Global,
     given: &Given<'_>,
     bay: &mut B,
     sink: &mut K,
+    notices: &mut N,
     files: Files<B::Store>,
     names: Names,
     answers: Answers,
 ) -> Status
     requires mount { IsMount given.now.mount.now }
     requires stores { AreStores given.now.mount.now (stores_of given.now.mount.now) }
-    requires begun { (olds : List FileSeen) × (begun : List TowerSeen) × AreFiles given.now.mount.now olds × OpensEach given.now.mount.now olds begun × ArePlayed given.now.mount.now given.now.script.now begun files.towers.items names (map (λ v. v.items) answers.said.items) answers.closing.items }
+    requires begun { (olds : List FileSeen) × (begun : List TowerSeen) × AreFiles given.now.mount.now olds × OpensEach given.now.mount.now olds begun × AreMade given.now.mount.now olds begun (map (λ m. m.items) files.made.items) × ArePlayed given.now.mount.now given.now.script.now begun files.towers.items names (map (λ v. v.items) answers.said.items) answers.closing.items }
     requires towers { AreOfStack given.now.mount.now files.towers.items }
+    requires made { length files.made.items ≡ length files.towers.items }
     requires said { length answers.said.items ≡ length given.now.script.now.clients }
     requires closing { length answers.closing.items ≡ length given.now.mount.now.files }
     requires closed { IsRoom (length given.now.mount.now.files) files.closed }
     requires trails { IsRoom (length given.now.mount.now.files) files.trails }
+    requires told { IsRoom (length given.now.mount.now.files) files.notices }
     requires back { IsRoom (length (stores_of given.now.mount.now)) files.back }
     requires lost { IsRoom (length (stores_of given.now.mount.now)) files.lost }
     ensures ended { (before : BaySeen) (olds : List FileSeen) (begun : List TowerSeen) → IsTaken given.now.mount.now before (B.told bay.old) (stores_of given.now.mount.now) (stores_in olds) → AreFiles given.now.mount.now olds → OpensEach given.now.mount.now olds begun
-        → ArePlayed given.now.mount.now given.now.script.now begun files.towers.items names (map (λ v. v.items) answers.said.items) answers.closing.items
-        → Written (SaysRun given.now.mount.now given.now.script.now (traced_by given.now.ops.now given.now.trace) before (B.told bay.new)) (K.told sink.old) (K.told sink.new) result }
+        → AreMade given.now.mount.now olds begun (map (λ m. m.items) files.made.items) → ArePlayed given.now.mount.now given.now.script.now begun files.towers.items names (map (λ v. v.items) answers.said.items) answers.closing.items
+        → WrittenBeside (SaysRun given.now.mount.now given.now.script.now (traced_by given.now.ops.now given.now.trace) before (B.told bay.new)) (K.told sink.old) (K.told sink.new) (N.told notices.old) (N.told notices.new) result }
 {
     let Files {
         towers,
+        made,
         mut closed,
         mut trails,
+        notices: mut told,
         back,
         mut lost,
         ..
     } = files;
-    close_towers(towers, &mut closed, &mut trails);
+    close_towers(towers, made, &mut closed, &mut trails, &mut told);
     give_files(given.mount, bay, closed, back, &mut lost);
+    // That the sink of notices fails changes nothing else.
+    let _ = tell_notices(notices, given.mount, &told);
     let run = Run {
         mount: given.mount,
         script: given.script,
@@ -150,8 +185,10 @@ fn return_all<B: Bay, K: Sink>(
     requires mount { IsMount mount.now }
     requires stores { AreStores mount.now (stores_of mount.now) }
     requires halts { (olds : List FileSeen) × AreFiles mount.now olds × Halts mount.now olds files.towers.items files.rest.items stop }
+    requires made { length files.made.items ≡ length files.towers.items }
     requires closed { IsRoom (length mount.now.files) files.closed }
     requires trails { IsRoom (length mount.now.files) files.trails }
+    requires told { IsRoom (length mount.now.files) files.notices }
     requires back { IsRoom (length (stores_of mount.now)) files.back }
     requires lost { IsRoom (length (stores_of mount.now)) files.lost }
     ensures ended { (before : BaySeen) (olds : List FileSeen) → IsTaken mount.now before (B.told bay.old) (stores_of mount.now) (stores_in olds) → AreFiles mount.now olds
@@ -159,13 +196,15 @@ fn return_all<B: Bay, K: Sink>(
 {
     let Files {
         towers,
+        made,
         rest,
         mut closed,
         mut trails,
+        notices: mut told,
         back,
         mut lost,
     } = files;
-    close_towers(towers, &mut closed, &mut trails);
+    close_towers(towers, made, &mut closed, &mut trails, &mut told);
     put_rest(&mut closed, rest);
     give_files(mount, bay, closed, back, &mut lost);
     stopped(sink, mount, stop, &lost)
@@ -173,12 +212,13 @@ fn return_all<B: Bay, K: Sink>(
 
 /// Runs the script over the open files, closes them and gives their stores back, and writes the report. If memory runs out before
 /// that, the script is not run.
-fn run_open<R: Threads + Wait + Sync, B: Bay, K: Sink, T: Gate>(
+fn run_open<R: Threads + Wait + Sync, B: Bay, K: Sink, N: Sink, T: Gate>(
     rt: &R,
     alloc: Global,
     given: &Given<'_>,
     bay: &mut B,
     sink: &mut K,
+    notices: &mut N,
     files: Files<B::Store>,
     asked: Asked,
     gate: &T,
@@ -188,20 +228,25 @@ fn run_open<R: Threads + Wait + Sync, B: Bay, K: Sink, T: Gate>(
     requires calls { AllByRecursion (AreCalls given.now.mount.now) given.now.script.now.phases }
     requires answers { HasAnswerRoom given.now.mount.now given.now.script.now asked }
     requires stores { AreStores given.now.mount.now (stores_of given.now.mount.now) }
-    requires opened { (olds : List FileSeen) × AreFiles given.now.mount.now olds × OpensEach given.now.mount.now olds files.towers.items }
+    requires opened { (olds : List FileSeen) × AreFiles given.now.mount.now olds × OpensEach given.now.mount.now olds files.towers.items × AreMade given.now.mount.now olds files.towers.items (map (λ m. m.items) files.made.items) }
+    requires made { length files.made.items ≡ length files.towers.items }
     requires rest { files.rest.items ≡ [] }
     requires closed { IsRoom (length given.now.mount.now.files) files.closed }
     requires trails { IsRoom (length given.now.mount.now.files) files.trails }
+    requires told { IsRoom (length given.now.mount.now.files) files.notices }
     requires back { IsRoom (length (stores_of given.now.mount.now)) files.back }
     requires lost { IsRoom (length (stores_of given.now.mount.now)) files.lost }
     ensures ended { (before : BaySeen) (olds : List FileSeen) → IsTaken given.now.mount.now before (B.told bay.old) (stores_of given.now.mount.now) (stores_in olds) → AreFiles given.now.mount.now olds
-        → OpensEach given.now.mount.now olds files.towers.items → Written (SaysRun given.now.mount.now given.now.script.now (traced_by given.now.ops.now given.now.trace) before (B.told bay.new)) (K.told sink.old) (K.told sink.new) result }
+        → OpensEach given.now.mount.now olds files.towers.items → AreMade given.now.mount.now olds files.towers.items (map (λ m. m.items) files.made.items)
+        → WrittenBeside (SaysRun given.now.mount.now given.now.script.now (traced_by given.now.ops.now given.now.trace) before (B.told bay.new)) (K.told sink.old) (K.told sink.new) (N.told notices.old) (N.told notices.new) result }
 {
     let Files {
         towers,
+        made,
         rest,
         closed,
         trails,
+        notices: told,
         back,
         lost,
     } = files;
@@ -218,20 +263,24 @@ fn run_open<R: Threads + Wait + Sync, B: Bay, K: Sink, T: Gate>(
         Ok((towers, names, answers)) => {
             let files = Files {
                 towers,
+                made,
                 rest,
                 closed,
                 trails,
+                notices: told,
                 back,
                 lost,
             };
-            end_run(alloc, given, bay, sink, files, names, answers)
+            end_run(alloc, given, bay, sink, notices, files, names, answers)
         }
         Err(towers) => {
             let files = Files {
                 towers,
+                made,
                 rest,
                 closed,
                 trails,
+                notices: told,
                 back,
                 lost,
             };
@@ -241,12 +290,13 @@ fn run_open<R: Threads + Wait + Sync, B: Bay, K: Sink, T: Gate>(
 }
 
 /// Opens the files over the stores that were taken, runs the script over them, gives the stores back, and writes how that ended.
-fn run_taken<R: Threads + Wait + Sync, B: Bay, K: Sink, T: Gate>(
+fn run_taken<R: Threads + Wait + Sync, B: Bay, K: Sink, N: Sink, T: Gate>(
     rt: &R,
     alloc: Global,
     given: &Given<'_>,
     bay: &mut B,
     sink: &mut K,
+    notices: &mut N,
     parts: Vec<FileStores<B::Store>>,
     files: Files<B::Store>,
     asked: Asked,
@@ -259,12 +309,14 @@ fn run_taken<R: Threads + Wait + Sync, B: Bay, K: Sink, T: Gate>(
     requires stores { AreStores given.now.mount.now (stores_of given.now.mount.now) }
     requires parts { AreFiles given.now.mount.now parts.items }
     requires towers { IsRoom (length given.now.mount.now.files) files.towers }
+    requires made { IsRoom (length given.now.mount.now.files) files.made }
     requires rest { IsRoom (length given.now.mount.now.files) files.rest }
     requires closed { IsRoom (length given.now.mount.now.files) files.closed }
     requires trails { IsRoom (length given.now.mount.now.files) files.trails }
+    requires told { IsRoom (length given.now.mount.now.files) files.notices }
     requires back { IsRoom (length (stores_of given.now.mount.now)) files.back }
     requires lost { IsRoom (length (stores_of given.now.mount.now)) files.lost }
-    ensures ended { (before : BaySeen) → IsTaken given.now.mount.now before (B.told bay.old) (stores_of given.now.mount.now) (stores_in parts.items) → Written (SaysRun given.now.mount.now given.now.script.now (traced_by given.now.ops.now given.now.trace) before (B.told bay.new)) (K.told sink.old) (K.told sink.new) result }
+    ensures ended { (before : BaySeen) → IsTaken given.now.mount.now before (B.told bay.old) (stores_of given.now.mount.now) (stores_in parts.items) → WrittenBeside (SaysRun given.now.mount.now given.now.script.now (traced_by given.now.ops.now given.now.trace) before (B.told bay.new)) (K.told sink.old) (K.told sink.new) (N.told notices.old) (N.told notices.new) result }
 {
     let mut files = files;
     match open_files(
@@ -273,20 +325,22 @@ fn run_taken<R: Threads + Wait + Sync, B: Bay, K: Sink, T: Gate>(
         given.ops,
         parts,
         &mut files.towers,
+        &mut files.made,
         &mut files.rest,
     ) {
-        Ok(()) => run_open(rt, alloc, given, bay, sink, files, asked, gate),
+        Ok(()) => run_open(rt, alloc, given, bay, sink, notices, files, asked, gate),
         Err(stop) => return_all(given.mount, bay, sink, files, stop),
     }
 }
 
 /// Takes the stores of the files, opens them and runs the script over them, gives the stores back, and writes how that ended.
-fn run_all<R: Threads + Wait + Sync, B: Bay, K: Sink, T: Gate>(
+fn run_all<R: Threads + Wait + Sync, B: Bay, K: Sink, N: Sink, T: Gate>(
     rt: &R,
     alloc: Global,
     given: &Given<'_>,
     bay: &mut B,
     sink: &mut K,
+    notices: &mut N,
     shelves: Shelves<B::Store>,
     asked: Asked,
     gate: &T,
@@ -301,12 +355,14 @@ fn run_all<R: Threads + Wait + Sync, B: Bay, K: Sink, T: Gate>(
     requires empty { EachAt (λ at room. IsRoom (length given.now.mount.now.disks) room) shelves.rooms.items }
     requires parts { IsRoom (length given.now.mount.now.files) shelves.parts }
     requires towers { IsRoom (length given.now.mount.now.files) shelves.files.towers }
+    requires made { IsRoom (length given.now.mount.now.files) shelves.files.made }
     requires rest { IsRoom (length given.now.mount.now.files) shelves.files.rest }
     requires closed { IsRoom (length given.now.mount.now.files) shelves.files.closed }
     requires trails { IsRoom (length given.now.mount.now.files) shelves.files.trails }
+    requires told { IsRoom (length given.now.mount.now.files) shelves.files.notices }
     requires back { IsRoom (length shelves.keys.items) shelves.files.back }
     requires lost { IsRoom (length shelves.keys.items) shelves.files.lost }
-    ensures { Written (SaysRun given.now.mount.now given.now.script.now (traced_by given.now.ops.now given.now.trace) (B.told bay.old) (B.told bay.new)) (K.told sink.old) (K.told sink.new) result }
+    ensures { WrittenBeside (SaysRun given.now.mount.now given.now.script.now (traced_by given.now.ops.now given.now.trace) (B.told bay.old) (B.told bay.new)) (K.told sink.old) (K.told sink.new) (N.told notices.old) (N.told notices.new) result }
 {
     let Shelves {
         keys,
@@ -318,7 +374,9 @@ fn run_all<R: Threads + Wait + Sync, B: Bay, K: Sink, T: Gate>(
     match take_stores(given.mount, bay, &keys, &mut taken) {
         Ok(()) => {
             by_file(given.mount, taken, rooms, &mut parts);
-            run_taken(rt, alloc, given, bay, sink, parts, files, asked, gate)
+            run_taken(
+                rt, alloc, given, bay, sink, notices, parts, files, asked, gate,
+            )
         }
         Err(stop) => {
             let mut lost = files.lost;
@@ -331,8 +389,11 @@ fn run_all<R: Threads + Wait + Sync, B: Bay, K: Sink, T: Gate>(
 /// Runs a script over the files of a stack: takes their stores, opens the files, runs the phases and the closing syncs, gives the
 /// stores back, and writes the report and the status. All room for that but the report's is made first.
 ///
+/// A run of the script writes to the sink of notices a line for each disk in a mirror of which something is told. If that sink
+/// fails, nothing else changes.
+///
 /// The order of the steps and the texts are this project's own.
-pub fn run_files<R: Threads + Wait + Sync, B: Bay, K: Sink, T: Gate>(
+pub fn run_files<R: Threads + Wait + Sync, B: Bay, K: Sink, N: Sink, T: Gate>(
     rt: &R,
     alloc: Global,
     mount: &Mounted,
@@ -341,11 +402,12 @@ pub fn run_files<R: Threads + Wait + Sync, B: Bay, K: Sink, T: Gate>(
     trace: bool,
     bay: &mut B,
     sink: &mut K,
+    notices: &mut N,
     gate: &T,
 ) -> Status
     requires script { IsScript script.now }
     requires calls { AllByRecursion (AreCalls mount.now) script.now.phases }
-    ensures says { Written (SaysRun mount.now script.now (traced_by ops.now trace) (B.told bay.old) (B.told bay.new)) (K.told sink.old) (K.told sink.new) result }
+    ensures says { WrittenBeside (SaysRun mount.now script.now (traced_by ops.now trace) (B.told bay.old) (B.told bay.new)) (K.told sink.old) (K.told sink.new) (N.told notices.old) (N.told notices.new) result }
 {
     let Ok(asked) = room_for_answers(alloc, mount, script) else {
         return stopped(sink, mount, Stop::Memory, &[]);
@@ -359,5 +421,5 @@ pub fn run_files<R: Threads + Wait + Sync, B: Bay, K: Sink, T: Gate>(
         ops,
         trace,
     };
-    run_all(rt, alloc, &given, bay, sink, shelves, asked, gate)
+    run_all(rt, alloc, &given, bay, sink, notices, shelves, asked, gate)
 }

@@ -21,3 +21,9 @@ returns-clause-closed g c = (c.in_ok-room_for_files.ensures.closed.0, (let room 
 
 pub returns-clause-trails : goal.returns-clause-trails
 returns-clause-trails g c = (c.in_ok-room_for_files.ensures.trails.0, (let room = c.in_ok-room_for_files.ensures.trails.1 in let same = ap length c.files-number.ensures.value in omega (arith, room, same)))
+
+pub returns-clause-made : goal.returns-clause-made
+returns-clause-made g c = (c.in_ok-room_for_files.ensures.made.0, (let room = c.in_ok-room_for_files.ensures.made.1 in let same = ap length c.files-number.ensures.value in omega (arith, room, same)))
+
+pub returns-clause-notices : goal.returns-clause-notices
+returns-clause-notices g c = (c.in_ok-room_for_files.ensures.notices.0, (let room = c.in_ok-room_for_files.ensures.notices.1 in let same = ap length c.files-number.ensures.value in omega (arith, room, same)))

@@ -35,6 +35,14 @@ close_towers-requires-clause-trails g c κs within =
     let room = c.requires.trails.1 in
     (c.requires.trails.0, omega (arith, count, number, room))
 
+pub close_towers-requires-clause-notices : goal.close_towers-requires-clause-notices
+close_towers-requires-clause-notices g c κs within =
+    let h = c.requires.halts in
+    let count = halts-count c.args.mount.now h.0 c.args.files.towers.items c.args.files.rest.items c.args.stop h.2 in
+    let number = h.1.number in
+    let room = c.requires.told.1 in
+    (c.requires.told.0, omega (arith, count, number, room))
+
 pub put_rest-requires-after_bounds : goal.put_rest-requires-after_bounds
 put_rest-requires-after_bounds g c κs within =
     let h = c.requires.halts in

@@ -13,13 +13,13 @@ pub open_files-requires-clause-rest : goal.open_files-requires-clause-rest
 open_files-requires-clause-rest g c κs within = let number = c.requires.parts.number in let room = c.requires.rest.1 in (c.requires.rest.0, omega (arith, number, room))
 
 pub run_open-requires-clause-opened : goal.run_open-requires-clause-opened
-run_open-requires-clause-opened g c κs within = (c.args.parts.items, c.requires.parts, c.in-Ok.ensures.opened)
+run_open-requires-clause-opened g c κs within = (c.args.parts.items, c.requires.parts, c.in-Ok.ensures.opened, c.in-Ok.ensures.made)
 
 pub return_all-requires-clause-halts : goal.return_all-requires-clause-halts
 return_all-requires-clause-halts g c κs within = (c.args.parts.items, c.requires.parts, inl c.in-Err.ensures.stopped)
 
 pub returns-in-Ok : goal.returns-in-Ok
-returns-in-Ok g c = record { ended = λ before taken. c.run_open.ensures.ended before c.args.parts.items taken c.requires.parts c.in-Ok.ensures.opened }
+returns-in-Ok g c = record { ended = λ before taken. c.run_open.ensures.ended before c.args.parts.items taken c.requires.parts c.in-Ok.ensures.opened c.in-Ok.ensures.made }
 
 pub returns-in-Err : goal.returns-in-Err
 returns-in-Err g c =
@@ -27,6 +27,9 @@ returns-in-Err g c =
     let after = g.B.Bay.told c.return_all.new.bay in
     record {
       ended = λ before taken.
-          run-stopped mount c.args.given.now.script.now (traced_by c.args.given.now.ops.now c.args.given.now.trace) before after (g.K.Sink.told c.args.sink.now) (g.K.Sink.told c.return_all.new.sink) c.return_all.result
+          run-stopped mount c.args.given.now.script.now (traced_by c.args.given.now.ops.now c.args.given.now.trace) before after (g.K.Sink.told c.args.sink.now) (g.K.Sink.told c.return_all.new.sink) (g.N.Sink.told c.args.notices.now) c.return_all.result
           (c.return_all.ensures.ended before c.args.parts.items taken c.requires.parts (inl c.in-Err.ensures.stopped));
     }
+
+pub open_files-requires-clause-made : goal.open_files-requires-clause-made
+open_files-requires-clause-made g c κs within = let number = c.requires.parts.number in let room = c.requires.made.1 in (c.requires.made.0, omega (arith, number, room))
