@@ -1,1 +1,4 @@
 pub mod SoundLaws
+pub mod NumberLaws
+pub mod SittingLaws
+pub mod LastingLaws

@@ -93,6 +93,7 @@ use Rattle.file_stores.specs.declared.stop.Stop.TheVariants as stops
 use Rattle.file_stores.proofs.FileLaws.{file-number}
 use Rattle.run_files.specs.Ended.{any_lost, has_fault, is_done, is_fault, is_memory, lacks_memory, status_by, status_of}
 use Rattle.run_files.specs.Held.{IsUnheld}
+use Rattle.mirror_layer.specs.declared.came.Notice.{Notice}
 use Rattle.run_files.specs.Run.{IsOfDisks, IsOfFile, LeavesFile, NotRun, Played, Store, before_all, leaves_many, leaves_one, ran_out, reported, stopped, unopened, untaken}
 use Rattle.run_laws.specs.Sound.{AreNotFull, AreStoresSound, HadImages, HoldImages, IsBaySound, SoundRunEndsWell}
 use Rattle.run_files.proofs.TurnLaws.{file-key}
@@ -471,19 +472,19 @@ only-disk : (xs : List StoreSeen) (x : StoreSeen) (disk : ℕ) → xs ≡ x ∷ 
 only-disk xs x disk is inside = let one : length xs ≡ 1 = ap length is in omega (arith, one, inside)
 
 -- no count of a note of a file whose stores had no fault
-file-counts : (mount : Mount) (closing : List Reply) (log : List Logged) (f g : FileSeen) → IsFile mount f → length g.stores ≡ length f.stores → LeavesFile mount closing log f g
+file-counts : (mount : Mount) (closing : List Reply) (log : List Logged) (f g : FileSeen) → {notices : List (Option Notice)} → IsFile mount f → length g.stores ≡ length f.stores → LeavesFile mount closing log f g notices
     → ((disk : ℕ) (old new : StoreSeen) → Store f g disk old new → new.state.faults ≡ old.state.faults) → (disk : ℕ) → disk < length f.stores → counts_of disk log ≡ []
-file-counts mount closing log f g is many (leaves_one {old} {new} was after_it leaves) sound disk inside =
+file-counts mount closing log f g is many (leaves_one {old} {new} was after_it leaves silent) sound disk inside =
     let key : old.key.disk ≡ disk = ap (λ (k : StoreKey). k.disk) (file-key mount f is old was) ∙ sym (only-disk f.stores old disk was inside) in
     subst (λ n. counts_of n log ≡ []) key
     (still-counts old.state.faults new.state.faults (counts_of old.key.disk log) leaves.rises (sound 0 old new (first-is f.stores old was, first-is g.stores new after_it)))
-file-counts mount closing log f g is many (leaves_many some run) sound disk inside =
+file-counts mount closing log f g is many (leaves_many some run told) sound disk inside =
     let old = there f.stores disk inside in
     let new = there g.stores disk (omega (arith, inside, many)) in
     still-counts old.0.state.faults new.0.state.faults (counts_of disk log) (run.rises disk old.0 new.0 (old.1, new.1)) (sound disk old.0 new.0 (old.1, new.1))
 
 -- THE SCRIPT WAS RUN
-module _ (mount : Mount) (script : Script) (before after : BaySeen) (h : Histories) (said : List (List Said)) (closing : List Reply) (lost : List StoreKey) (played : Played mount script before after h said closing lost)
+module _ (mount : Mount) (script : Script) (before after : BaySeen) (h : Histories) (said : List (List Said)) (closing : List Reply) (lost : List StoreKey) (notices : List ℕ) (played : Played mount script before after h said closing lost notices)
     (sound : AreStoresSound played.olds played.news) (room : AreNotFull h) where
   quiet-file : (file : ℕ) → file < length mount.files → AreQuiet (items (log_at h file))
   quiet-file file inside =
@@ -607,7 +608,7 @@ stop-well : (status : Status) (stop : Stop) → status ≡ stop_status stop → 
 stop-well status stop is memory = inr (is ∙ ap stop_status memory)
 
 pub sound-ends-well : SoundRunEndsWell
-sound-ends-well mount script traced before after text status (stopped stop lost (untaken why) says how) bay sound = stop-well status stop how (untaken-well mount before after (stores_of mount) lost stop bay why)
-sound-ends-well mount script traced before after text status (stopped stop lost (unopened halt) says how) bay sound = stop-well status stop how (halted-well mount before after lost stop halt sound.0 sound.1)
-sound-ends-well mount script traced before after text status (reported h said closing lost played says how) bay sound = played-well mount script before after h said closing lost played sound.0 sound.1 bay status how
-sound-ends-well mount script traced before after text status (ran_out h said closing lost played says how) bay sound = inr how
+sound-ends-well mount script traced before after notices text status (stopped stop lost (untaken why) quiet says how) bay sound = stop-well status stop how (untaken-well mount before after (stores_of mount) lost stop bay why)
+sound-ends-well mount script traced before after notices text status (stopped stop lost (unopened halt) quiet says how) bay sound = stop-well status stop how (halted-well mount before after lost stop halt sound.0 sound.1)
+sound-ends-well mount script traced before after notices text status (reported h said closing lost played says how) bay sound = played-well mount script before after h said closing lost notices played sound.0 sound.1 bay status how
+sound-ends-well mount script traced before after notices text status (ran_out h said closing lost played says how) bay sound = inr how

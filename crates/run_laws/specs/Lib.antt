@@ -1,1 +1,3 @@
 pub mod Sound
+pub mod Sittings
+pub mod Lasting

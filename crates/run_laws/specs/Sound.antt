@@ -49,14 +49,14 @@ AreNotFull h = (file : ℕ) → place_of (log_at h file) < MAX_EVENTS
 
 -- Nothing under the run failed, by what it says: where the stores were taken none had a fault; where the script was not run over them they
 -- had had images; and where it was, no history got full.
-abbrev pub NothingFailed : {mount : Mount} {script : Script} {traced : Option Ops} {before after : BaySeen} {text : List ℕ} {status : Status} → SaysRun mount script traced before after text status → Type 0
-NothingFailed (stopped stop lost (untaken why) says ends) = Unit {0}
-NothingFailed {mount = mount} (stopped stop lost (unopened halt) says ends) = AreStoresSound halt.olds halt.news × HadImages mount halt.olds
+abbrev pub NothingFailed : {mount : Mount} {script : Script} {traced : Option Ops} {before after : BaySeen} {notices text : List ℕ} {status : Status} → SaysRun mount script traced before after notices text status → Type 0
+NothingFailed (stopped stop lost (untaken why) quiet says ends) = Unit {0}
+NothingFailed {mount = mount} (stopped stop lost (unopened halt) quiet says ends) = AreStoresSound halt.olds halt.news × HadImages mount halt.olds
 NothingFailed (reported h said closing lost played says ends) = AreStoresSound played.olds played.news × AreNotFull h
 NothingFailed (ran_out h said closing lost played says ends) = Unit {0}
 
 -- NO FAILURE IS MADE UP: if neither the bay nor a store failed, each store that was taken had an image and no history got full, the run ends
 -- well, or memory ran out
 abbrev pub SoundRunEndsWell : Type 0
-SoundRunEndsWell = (mount : Mount) (script : Script) (traced : Option Ops) (before after : BaySeen) (text : List ℕ) (status : Status) (says : SaysRun mount script traced before after text status)
+SoundRunEndsWell = (mount : Mount) (script : Script) (traced : Option Ops) (before after : BaySeen) (notices text : List ℕ) (status : Status) (says : SaysRun mount script traced before after notices text status)
     → IsBaySound before after → NothingFailed says → (status ≡ Good) ⊎ (status ≡ Memory)
