@@ -10,7 +10,7 @@ use Rattle.spr_report.specs.declared.status.Status.TheVariants as statuses
 use Rattle.spr_run.specs.declared.words.Asked.TheVariants.{Run, Check, Format, Dump, Disks, Idl}
 use Rattle.spr_run.specs.Asked.{asked}
 use Rattle.file_stores.specs.Keys.{stores_of}
-use Rattle.file_stores.specs.Written.{Written}
+use Rattle.file_stores.specs.Written.{WrittenBeside}
 use Rattle.image_looks.specs.Disks.{SaysDisks}
 use Rattle.image_commands.specs.Says.{SaysFormat, SaysDump}
 use Rattle.run_texts.specs.declared.refusal.Refusal.{Refusal}
@@ -69,10 +69,10 @@ pub data SaysFormatted (stack : List ℕ) (o : Outside) (text : List ℕ) (statu
 
 -- `dump`: the pages of the stack's file of the name were printed, or could not be; or the stack is refused, or has
 -- no such file
-pub data SaysDumped (stack name : List ℕ) (o : Outside) (text : List ℕ) (status : Status) : Type 0 where
+pub data SaysDumped (stack name : List ℕ) (o : Outside) (notices text : List ℕ) (status : Status) : Type 0 where
   dumps : (mount : Mount) (file : ℕ) → HasFile o.shelf stack name mount file → o.shelf_after.faults ≡ o.shelf.faults
-      → SaysDump mount o.bay o.bay_after file text status → SaysDumped stack name o text status
-  undumped : IsIdle o → Refuses (IsFileCause o.shelf o.shelf_after stack name) (only_stack stack) text status → SaysDumped stack name o text status
+      → SaysDump mount o.bay o.bay_after file notices text status → SaysDumped stack name o notices text status
+  undumped : IsIdle o → notices ≡ [] → Refuses (IsFileCause o.shelf o.shelf_after stack name) (only_stack stack) text status → SaysDumped stack name o notices text status
 
 -- `disks`: what lies on each disk of each file of the stack was told, and no store's blocks changed; or memory ran out. Or the
 -- stack is refused
@@ -83,26 +83,40 @@ pub data SaysListed (stack : List ℕ) (o : Outside) (text : List ℕ) (status :
 
 -- `run`: the interfaces have each operation, and the script was run over the files of the stack, or they could not be opened; or
 -- a text is refused, or could not be read. The report has the page messages if they are asked for
-pub data SaysRan (names : Names) (trace : Bool) (o : Outside) (text : List ℕ) (status : Status) : Type 0 where
+pub data SaysRan (names : Names) (trace : Bool) (o : Outside) (notices text : List ℕ) (status : Status) : Type 0 where
   runs : (mount : Mount) (script : Script) (ops : Ops) → IsPrepared o.shelf names mount script ops → o.shelf_after.faults ≡ o.shelf.faults
-      → SaysRun mount script (traced_by ops trace) o.bay o.bay_after text status → SaysRan names trace o text status
-  unrun : IsIdle o → Refuses (IsCause o.shelf o.shelf_after names) names text status → SaysRan names trace o text status
+      → SaysRun mount script (traced_by ops trace) o.bay o.bay_after notices text status → SaysRan names trace o notices text status
+  unrun : IsIdle o → notices ≡ [] → Refuses (IsCause o.shelf o.shelf_after names) names text status → SaysRan names trace o notices text status
 
 abbrev pub usage_text : List ℕ
 usage_text = codes "usage: spring run, gen, check, format, dump or idl\n"
 
--- The ways in which a command ends: memory ran out before the words were read; the words ask for no command; or they ask for
--- one, which ends in one of its own ways.
-pub data Says (words : List (List ℕ)) (o : Outside) (text : List ℕ) (status : Status) : Type 0 where
-  unread : IsUntouched o → text ≡ [] → status ≡ statuses.Memory → Says words o text status
-  usage : asked words ≡ None → IsUntouched o → text ≡ usage_text → status ≡ statuses.Usage → Says words o text status
-  checked : (stack : List ℕ) → asked words ≡ Some (Check stack) → IsIdle o → SaysCheck stack o.shelf o.shelf_after text status → Says words o text status
-  tabled : (idl : List ℕ) → asked words ≡ Some (Idl idl) → IsIdle o → SaysTables idl o.shelf o.shelf_after text status → Says words o text status
-  formatted : (stack : List ℕ) → asked words ≡ Some (Format stack) → SaysFormatted stack o text status → Says words o text status
-  dumped : (stack name : List ℕ) → asked words ≡ Some (Dump stack name) → SaysDumped stack name o text status → Says words o text status
-  listed : (stack : List ℕ) → asked words ≡ Some (Disks stack) → SaysListed stack o text status → Says words o text status
-  ran : (names : Names) (trace : Bool) → asked words ≡ Some (Run trace names.idl names.stack names.script) → SaysRan names trace o text status → Says words o text status
+-- The ways in which a command ends that tells nothing of disks in mirrors: memory ran out before the words were read; the words ask for no
+-- command; or they ask for one, which ends in one of its own ways.
+pub data SaysQuietly (words : List (List ℕ)) (o : Outside) (text : List ℕ) (status : Status) : Type 0 where
+  unread : IsUntouched o → text ≡ [] → status ≡ statuses.Memory → SaysQuietly words o text status
+  usage : asked words ≡ None → IsUntouched o → text ≡ usage_text → status ≡ statuses.Usage → SaysQuietly words o text status
+  checked : (stack : List ℕ) → asked words ≡ Some (Check stack) → IsIdle o → SaysCheck stack o.shelf o.shelf_after text status → SaysQuietly words o text status
+  tabled : (idl : List ℕ) → asked words ≡ Some (Idl idl) → IsIdle o → SaysTables idl o.shelf o.shelf_after text status → SaysQuietly words o text status
+  formatted : (stack : List ℕ) → asked words ≡ Some (Format stack) → SaysFormatted stack o text status → SaysQuietly words o text status
+  listed : (stack : List ℕ) → asked words ≡ Some (Disks stack) → SaysListed stack o text status → SaysQuietly words o text status
 
--- How a command ends: in one of the ways, whose text and status are written; or the sink failed.
-abbrev pub Ends : List (List ℕ) → Outside → SinkSeen → SinkSeen → Status → Type 0
-Ends words o before after result = Written (Says words o) before after result
+-- The ways in which a command ends, each with its notices, its text and its status.
+pub data Says (words : List (List ℕ)) (o : Outside) (notices text : List ℕ) (status : Status) : Type 0 where
+  quiet : notices ≡ [] → SaysQuietly words o text status → Says words o notices text status
+  dumped : (stack name : List ℕ) → asked words ≡ Some (Dump stack name) → SaysDumped stack name o notices text status → Says words o notices text status
+  ran : (names : Names) (trace : Bool) → asked words ≡ Some (Run trace names.idl names.stack names.script) → SaysRan names trace o notices text status → Says words o notices text status
+
+-- what the sinks of a command were told before it, and after it: of its text and status, and of notices
+pub record Sinks : Type 0 where
+  pub sink : SinkSeen
+  pub sink_after : SinkSeen
+  pub notices : SinkSeen
+  pub notices_after : SinkSeen
+
+abbrev pub sinks : SinkSeen → SinkSeen → SinkSeen → SinkSeen → Sinks
+sinks sink sink_after notices notices_after = record { sink = sink; sink_after = sink_after; notices = notices; notices_after = notices_after }
+
+-- How a command ends: in one of the ways, whose text and status are written, or the sink failed; its notices are offered to the sink of notices.
+abbrev pub Ends : List (List ℕ) → Outside → Sinks → Status → Type 0
+Ends words o s result = WrittenBeside (Says words o) s.sink s.sink_after s.notices s.notices_after result

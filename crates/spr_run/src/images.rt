@@ -2,7 +2,7 @@
 //! on each disk.
 
 ghost use Rattle.std.specs.Prelude.{◌≡◌, ◌<◌, IfOk, IfErr, OnOk, length};
-ghost use Rattle.file_stores.specs.Written.{Written};
+ghost use Rattle.file_stores.specs.Written.{Written, WrittenBeside};
 ghost use Rattle.run_texts.specs.Refusal.{HasFile, IsFileCause};
 ghost use Rattle.spr_run.specs.Ways.{outside, SaysFormatted, SaysDumped, SaysListed};
 
@@ -71,18 +71,19 @@ fn read_file<H: Shelf>(
 }
 
 /// Prints the pages of a file of a name, of the stack of another.
-pub(crate) fn dump_named<H: Shelf, B: Bay, K: Sink>(
+pub(crate) fn dump_named<H: Shelf, B: Bay, K: Sink, N: Sink>(
     alloc: Global,
     stack: &Text,
     name: &Text,
     shelf: &mut H,
     bay: &mut B,
     sink: &mut K,
+    notices: &mut N,
 ) -> Status
-    ensures ends { Written (SaysDumped stack.now name.now (outside (H.told shelf.old) (H.told shelf.new) (B.told bay.old) (B.told bay.new))) (K.told sink.old) (K.told sink.new) result }
+    ensures ends { WrittenBeside (SaysDumped stack.now name.now (outside (H.told shelf.old) (H.told shelf.new) (B.told bay.old) (B.told bay.new))) (K.told sink.old) (K.told sink.new) (N.told notices.old) (N.told notices.new) result }
 {
     match read_file(alloc, shelf, stack, name) {
-        Ok((mount, file)) => dump_file(alloc, &mount, file, bay, sink),
+        Ok((mount, file)) => dump_file(alloc, &mount, file, bay, sink, notices),
         Err(refusal) => refuse(sink, &only_stack(stack), refusal),
     }
 }

@@ -3,8 +3,8 @@
 ghost use Rattle.std.specs.Prelude.{◌≡◌, None};
 ghost use Rattle.std.specs.List.{AllByRecursion};
 ghost use Rattle.script_text.specs.Grammar.{IsScript};
-ghost use Rattle.file_stores.specs.Written.{Written};
-ghost use Rattle.spr_run.specs.Ways.{outside, SaysRan, Ends};
+ghost use Rattle.file_stores.specs.Written.{WrittenBeside};
+ghost use Rattle.spr_run.specs.Ways.{outside, sinks, SaysRan, Ends};
 
 use crate::check::check_stack;
 use crate::images::{dump_named, format_stack, list_named};
@@ -24,7 +24,7 @@ const USAGE: &[u8] = b"usage: spring run, gen, check, format, dump or idl\n";
 
 /// Runs the script of a name over the files of the stack of a name, where the interfaces of a name fit together and have
 /// each operation, and writes how that ended; with the page messages, if they are asked for.
-fn run_named<R: Threads + Wait + Sync, H: Shelf, B: Bay, K: Sink, G: Gate>(
+fn run_named<R: Threads + Wait + Sync, H: Shelf, B: Bay, K: Sink, N: Sink, G: Gate>(
     rt: &R,
     alloc: Global,
     idl: &Text,
@@ -34,13 +34,14 @@ fn run_named<R: Threads + Wait + Sync, H: Shelf, B: Bay, K: Sink, G: Gate>(
     shelf: &mut H,
     bay: &mut B,
     sink: &mut K,
+    notices: &mut N,
     gate: &G,
 ) -> Status
-    ensures ends { Written (SaysRan (record { idl = idl.now; stack = stack.now; script = name.now }) trace (outside (H.told shelf.old) (H.told shelf.new) (B.told bay.old) (B.told bay.new))) (K.told sink.old) (K.told sink.new) result }
+    ensures ends { WrittenBeside (SaysRan (record { idl = idl.now; stack = stack.now; script = name.now }) trace (outside (H.told shelf.old) (H.told shelf.new) (B.told bay.old) (B.told bay.new))) (K.told sink.old) (K.told sink.new) (N.told notices.old) (N.told notices.new) result }
 {
     match read_run(alloc, shelf, idl, stack, name) {
         Ok((mount, script, ops)) => run_files(
-            rt, alloc, &mount, &script, &ops, trace, bay, sink, gate,
+            rt, alloc, &mount, &script, &ops, trace, bay, sink, notices, gate,
         ),
         Err(refusal) => {
             let names = TextNames {
@@ -53,23 +54,25 @@ fn run_named<R: Threads + Wait + Sync, H: Shelf, B: Bay, K: Sink, G: Gate>(
     }
 }
 
-/// Runs the program: a command of these words over the shelf, the bay and the sink.
+/// Runs the program: a command of these words over the shelf, the bay and the sink. A run and a `dump` tell a second sink what
+/// they made of the disks in mirrors, a line for each disk of which something is told; if that sink fails, nothing else changes.
 ///
 /// Headline: for every accepted stack and interleaving, each access within one page, by file call, mapping or any stacked
 /// view, unless a store failed in it or memory lacked, answers what one plain file answers at its place in the file's one
 /// history, which begins with all its caller had seen and holds its calls once each; after a successful sync every live store
 /// holds that history's bytes. So far a run builds stacks of coherency layers and virtual memory managers over a disk or over disks
 /// in mirrors. What is said of bytes is said where a store tells what it holds; a file of the host does not.
-pub fn spring<R: Threads + Wait + Sync, H: Shelf, B: Bay, K: Sink, G: Gate>(
+pub fn spring<R: Threads + Wait + Sync, H: Shelf, B: Bay, K: Sink, N: Sink, G: Gate>(
     rt: &R,
     alloc: Global,
     words: &[Text],
     shelf: &mut H,
     bay: &mut B,
     sink: &mut K,
+    notices: &mut N,
     gate: &G,
 ) -> Status
-    ensures ends { Ends words.now (outside (H.told shelf.old) (H.told shelf.new) (B.told bay.old) (B.told bay.new)) (K.told sink.old) (K.told sink.new) result }
+    ensures ends { Ends words.now (outside (H.told shelf.old) (H.told shelf.new) (B.told bay.old) (B.told bay.new)) (sinks (K.told sink.old) (K.told sink.new) (N.told notices.old) (N.told notices.new)) result }
 {
     match read_words(alloc, words) {
         Ok(
@@ -80,12 +83,14 @@ pub fn spring<R: Threads + Wait + Sync, H: Shelf, B: Bay, K: Sink, G: Gate>(
                 script,
             },
         ) => run_named(
-            rt, alloc, &idl, &stack, &script, trace, shelf, bay, sink, gate,
+            rt, alloc, &idl, &stack, &script, trace, shelf, bay, sink, notices, gate,
         ),
         Ok(Asked::Idl { idl }) => put_tables(alloc, shelf, &idl, sink),
         Ok(Asked::Check { stack }) => check_stack(alloc, shelf, &stack, sink),
         Ok(Asked::Format { stack }) => format_stack(alloc, &stack, shelf, bay, sink),
-        Ok(Asked::Dump { stack, file }) => dump_named(alloc, &stack, &file, shelf, bay, sink),
+        Ok(Asked::Dump { stack, file }) => {
+            dump_named(alloc, &stack, &file, shelf, bay, sink, notices)
+        }
         Ok(Asked::Disks { stack }) => list_named(alloc, &stack, shelf, bay, sink),
         Err(WordsErr::Usage) => finish(sink, &[USAGE], Status::Usage),
         Err(WordsErr::Memory) => finish(sink, &[], Status::Memory),

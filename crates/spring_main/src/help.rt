@@ -18,7 +18,10 @@ usage: spring format STACK
                          client's answers and each file's one history; with --trace also each page
                          message, with the heads of its two frames
   dump STACK FILE        writes the pages of a file of the stack, as its image has them; over disks
-                         in mirrors it mends them first, as a run does
+                         in mirrors it mends them first, as a run does. Both name on standard error
+                         each disk of a mirror that has no image and is left as it is, that is left
+                         out, that was made, or that got a page or a generation:
+                         'mirror FILE DISK' and the word bad, out, made or copied
   disks STACK            writes what lies on each disk of each file: the generation of its image and
                          whether a run would take that one, or that it is missing, blank or damaged;
                          no image changes, and none is made

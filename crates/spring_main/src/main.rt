@@ -1,9 +1,11 @@
-//! The command `spring`: the program over the host's files and the standard output.
+//! The command `spring`: the program over the host's files, the standard output and the standard error.
 #![tactic(auto)]
 
 mod help;
+mod notices;
 
 use crate::help::{HELP, VERSION, asks_help, asks_version};
+use crate::notices::ErrSink;
 use hist_plain::OpenGate;
 use seen_values::Text;
 use spr_io::{HostBay, HostShelf, StdSink};
@@ -11,7 +13,7 @@ use spr_run::spring;
 use std::alloc::{AllocError, Global};
 use std::fs::File;
 use std::process::ExitCode;
-use std::rt::Runtime;
+use std::rt::{Runtime, Stderr};
 use std::sync::Wait;
 use std::thread::Threads;
 use std::{env, io};
@@ -28,16 +30,27 @@ fn words(alloc: Global, args: env::Args<Global>) -> Result<Vec<Text>, AllocError
     Ok(words)
 }
 
-/// Runs a command of these words, and answers its status.
+/// Runs a command of these words, which tells its notices to the standard error, and answers its status.
 fn run<R: Runtime<File = File> + Threads + Wait + Sync>(
     rt: &R,
     alloc: Global,
+    stderr: Stderr,
     words: &[Text],
 ) -> io::Result<u8> {
     let mut shelf = HostShelf::new(rt.clone()?);
     let mut bay = HostBay::new(rt.clone()?, alloc);
     let mut sink = StdSink::new(rt.clone()?);
-    let status = spring(rt, alloc, words, &mut shelf, &mut bay, &mut sink, &OpenGate);
+    let mut notices = ErrSink::new(stderr);
+    let status = spring(
+        rt,
+        alloc,
+        words,
+        &mut shelf,
+        &mut bay,
+        &mut sink,
+        &mut notices,
+        &OpenGate,
+    );
     Ok(status.number())
 }
 
@@ -56,7 +69,7 @@ fn main(rt: HostRuntime) -> ExitCode {
         let _ = println!(rt; "{VERSION}");
         return ExitCode::from(0);
     }
-    match run(&rt, rt.alloc(), &words) {
+    match run(&rt, rt.alloc(), rt.stderr(), &words) {
         Ok(status) => ExitCode::from(status),
         Err(_) => ExitCode::from(NO_MEMORY),
     }
