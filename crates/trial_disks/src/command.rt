@@ -8,7 +8,7 @@ use stack_accept::Mounted;
 use std::alloc::Global;
 use trial_words::{Halt, number};
 
-/// Prints the pages of a file.
+/// Prints the pages of a file. What it tells of the disks in mirrors goes nowhere.
 fn dump(
     alloc: Global,
     mount: &Mounted,
@@ -19,7 +19,8 @@ fn dump(
     if file as usize >= mount.files().len() {
         return Err(Halt::Impossible);
     }
-    Ok(dump_file(alloc, mount, file, bay, sink))
+    let mut notices = MemSink::new(alloc, 1, &[])?;
+    Ok(dump_file(alloc, mount, file, bay, sink, &mut notices))
 }
 
 /// `command format` or `command dump FILE` over the bay. What is written goes to the sink, and the status is appended.

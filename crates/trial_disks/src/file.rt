@@ -5,11 +5,12 @@ ghost use Rattle.file_stores.specs.Under.{seen_under};
 ghost use Rattle.file_stores.specs.Files.{IsFile};
 ghost use Rattle.run_defs.specs.Stack.{pages_of};
 
-use crate::say::{say_bytes, say_called};
+use crate::say::{say_bytes, say_called, say_notices};
 use crate::stop::say_stop;
 use file_stores::{
     FileGround, FileStores, Unopened, as_file, close_file, open_file, stores_of_one, take_stores,
 };
+use mirror_layer::Notice;
 use page_ground::Ground;
 use run_defs::{disk_name, file_name, pages_of};
 use spr_io::{Bay, MemBay, MemStore};
@@ -21,6 +22,8 @@ use trial_words::{Halt, byte, number, say};
 #[derive(Drop)]
 struct OpenFile {
     under: FileGround<MemStore>,
+    /// What the opening made of each disk.
+    came: Vec<Option<Notice>>,
     file: u32,
     pages: u32,
     ghost size: { (seen_under under).page_size ≡ 64 },
@@ -83,7 +86,12 @@ fn opened(
     let file = stores.file;
     let pages = pages_of(mount, file);
     match open_file(alloc, mount, stores) {
-        Ok(under) => Ok(OpenFile { under, file, pages }),
+        Ok((under, came)) => Ok(OpenFile {
+            under,
+            came,
+            file,
+            pages,
+        }),
         Err(refused) => Err(refused),
     }
 }
@@ -122,6 +130,7 @@ impl OpenFile {
             ["read", page] => self.read(number(page)?, answer),
             ["write", page, filled] => self.write(number(page)?, byte(filled)?, answer),
             ["flush"] => self.flush(answer),
+            ["came"] => Ok(say_notices(answer, &self.came)?),
             _ => Err(Halt::Unread),
         }
     }

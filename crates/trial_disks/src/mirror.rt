@@ -6,12 +6,12 @@ ghost use Rattle.mirror_rules.specs.Claims.{Every};
 ghost use Rattle.stack_accept.specs.Plan.{OnDisk, OnMirror, plan_of};
 
 use crate::disk::Ram;
-use crate::say::{say_bad, say_bytes, say_called};
+use crate::say::{say_bad, say_bytes, say_called, say_notices};
 use crate::shape::{fits, shape};
 use crate::store::{block_of, new_store};
 use disk_format::check_image;
 use disk_layer::Disk;
-use mirror_layer::{AnyGround, OpenAll, Refusal};
+use mirror_layer::{AnyGround, Notice, OpenAll, Refusal};
 use page_ground::Ground;
 use spr_io::{MemStore, Store};
 use stack_accept::GroundPlan;
@@ -29,6 +29,8 @@ struct Mirror {
 #[derive(Drop)]
 pub struct MirrorCase {
     stores: Vec<MemStore>,
+    /// What the last opening that was done made of each disk.
+    came: [Option<Notice>; 2],
     mirror: Option<Mirror>,
 }
 
@@ -52,18 +54,20 @@ fn are_two(stores: &[MemStore]) -> bool
     }
 }
 
-/// Opens a mirror over two stores.
+/// Opens a mirror over two stores. `came` gets what that made of each disk.
 fn opened(
     alloc: Global,
     stores: Vec<MemStore>,
+    came: &mut [Option<Notice>],
 ) -> Result<Result<AnyGround<MemStore>, OpenAll<MemStore>>, Halt>
+    requires { length came.old ≡ 2 }
     ensures { IfOk result (λ answer. IfOk answer (λ disks. disks.shape ≡ record { page_size = 64; pages = 2 })) }
 {
     let plan = plan(alloc)?;
     if !are_two(stores.as_slice()) {
         return Err(Halt::Impossible);
     }
-    Ok(AnyGround::open(alloc, &plan, stores, &shape()))
+    Ok(AnyGround::open(alloc, &plan, stores, &shape(), came))
 }
 
 /// Appends why a mirror was not opened.
@@ -174,6 +178,7 @@ impl MirrorCase {
     pub fn new(alloc: Global) -> MirrorCase {
         MirrorCase {
             stores: Vec::new(alloc),
+            came: [None; 2],
             mirror: None,
         }
     }
@@ -206,7 +211,7 @@ impl MirrorCase {
     fn open(&mut self, alloc: Global, answer: &mut String) -> Result<(), Halt> {
         let mut stores = Vec::new(alloc);
         stores.append(&mut self.stores)?;
-        match opened(alloc, stores)? {
+        match opened(alloc, stores, &mut self.came)? {
             Ok(disks) => {
                 self.mirror = Some(Mirror { disks });
                 Ok(say(answer, "done")?)
@@ -229,12 +234,14 @@ impl MirrorCase {
         }
     }
 
-    /// Does a step: a store is added, the mirror is opened, called or closed, or what a disk's store holds is told.
+    /// Does a step: a store is added, the mirror is opened, called or closed, or what its opening made of the disks or what a disk's
+    /// store holds is told.
     pub fn step(&mut self, alloc: Global, words: &[&str], answer: &mut String) -> Result<(), Halt> {
         match words {
             ["disk", rest @ ..] => self.add(alloc, rest),
             ["open"] => self.open(alloc, answer),
             ["close"] => self.close(),
+            ["came"] => Ok(say_notices(answer, &self.came)?),
             ["holds", disk] => match self.stores.get(number(disk)? as usize) {
                 Some(store) => say_held(alloc, store, answer),
                 None => Err(Halt::Impossible),

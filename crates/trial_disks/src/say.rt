@@ -1,6 +1,7 @@
 //! Lines of answers.
 
 use disk_format::BadImage;
+use mirror_layer::Notice;
 use page_ground::StoreFault;
 use std::alloc::AllocError;
 use trial_words::{say, without_zeros};
@@ -38,4 +39,17 @@ pub fn say_bytes(answer: &mut String, bytes: &[u8]) -> Result<(), AllocError> {
         write!(answer, "{byte:02x}")?;
     }
     say(answer, "")
+}
+
+/// Appends a line for each disk of which a word is told.
+pub fn say_notices(answer: &mut String, notices: &[Option<Notice>]) -> Result<(), AllocError> {
+    let mut disk = 0u32;
+    for notice in notices {
+        if let Some(notice) = notice {
+            let word = notice.word();
+            writeln!(answer, "disk {disk}: {word}")?;
+        }
+        disk = disk.saturating_add(1);
+    }
+    Ok(())
 }

@@ -1,9 +1,10 @@
-//! The trial of whole runs: what a command writes over texts and stores in memory whose calls fail where a case says so, and what
-//! the stores keep afterwards.
+//! The trial of whole runs: what a command writes, and tells of the disks in mirrors, over texts and stores in memory whose calls
+//! fail where a case says so, and what the stores keep afterwards.
 #![tactic(auto)]
 
 mod meeting;
 mod runs;
+mod sinks;
 mod stores;
 mod texts;
 mod written;

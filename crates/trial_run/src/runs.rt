@@ -1,21 +1,19 @@
 //! The steps of a case: its texts and stores, the commands over them, and what these wrote.
 
 use crate::meeting::MeetingGate;
+use crate::sinks::SinkCase;
 use crate::stores::{count_faults, look, put_store};
 use crate::texts::Texts;
 use crate::written::Written;
 use hist_plain::{Gate, OpenGate};
 use seen_values::Text;
-use spr_io::{MemBay, MemSink};
+use spr_io::MemBay;
 use spr_report::{Status, finish};
 use spr_run::spring;
 use std::alloc::{AllocError, Global};
 use std::sync::Wait;
 use std::thread::Threads;
 use trial_words::{Failing, Halt, end_step, number, say_text, say_whether};
-
-/// The most bytes that a sink takes at once, if a case says nothing else.
-const WIDTH: u32 = 7;
 
 /// What the steps of a case have made so far.
 #[derive(Drop)]
@@ -24,12 +22,13 @@ pub struct Runs {
     texts: Texts,
     /// The reads of each command's shelf that fail, counted from 1.
     reads: Vec<u64>,
-    /// The most bytes that each command's sink takes at once.
-    width: u32,
-    /// The writes of each command's sink that fail, counted from 1.
-    writes: Vec<u64>,
+    sink: SinkCase,
+    /// The sink of notices.
+    beside: SinkCase,
     bay: MemBay,
     written: Written,
+    /// What the last command told of the disks in mirrors.
+    notices: Vec<u8>,
 }
 
 /// The words of a command.
@@ -50,10 +49,11 @@ impl Runs {
             alloc,
             texts: Texts::new(alloc),
             reads: Vec::new(alloc),
-            width: WIDTH,
-            writes: Vec::new(alloc),
+            sink: SinkCase::new(alloc),
+            beside: SinkCase::new(alloc),
             bay: MemBay::new(alloc, &[], &[])?,
             written: Written::new(alloc),
+            notices: Vec::new(alloc),
         })
     }
 
@@ -88,6 +88,7 @@ impl Runs {
                 Ok(writeln!(answer, "status {status}")?)
             }
             ("meeting", words) => self.meeting(rt, words, answer),
+            ("notices", []) => self.say_told(&self.notices, answer),
             ("next" | "end" | "times" | "some" | "later" | "digits", words) => {
                 self.looked(what, words, body, answer)
             }
@@ -135,7 +136,9 @@ impl Runs {
         match (what, words) {
             ("text", [name]) => self.set_text(name, body),
             ("more", [name, times]) => Ok(self.texts.add(name, body, number(times)?)?),
-            ("shelf" | "sink" | "bay", words) => self.failing(what, words),
+            ("sink", words) => self.sink.set(alloc, words),
+            ("beside", words) => self.beside.set(alloc, words),
+            ("shelf" | "bay", words) => self.failing(what, words),
             ("store", words) => put_store(alloc, &mut self.bay, words, body),
             ("kept", words) => look(alloc, &self.bay, words, answer),
             ("faults", words) => count_faults(&self.bay, words, answer),
@@ -151,20 +154,12 @@ impl Runs {
         Ok(())
     }
 
-    /// `shelf`, `sink` or `bay`: which calls fail from here on. A bay is empty.
+    /// `shelf` or `bay`: which calls fail from here on. A bay is empty.
     fn failing(&mut self, what: &str, words: &[&str]) -> Result<(), Halt> {
         let alloc = self.alloc;
         match what {
             "shelf" => {
                 self.reads = Failing::of(words, &["reads"])?.ordinals(alloc, "reads")?;
-            }
-            "sink" => {
-                let failing = Failing::of(words, &["width", "writes"])?;
-                self.width = match words {
-                    ["width", width, ..] => number(width)?,
-                    _ => WIDTH,
-                };
-                self.writes = failing.ordinals(alloc, "writes")?;
             }
             _ => {
                 let failing = Failing::of(words, &["takes", "gives"])?;
@@ -174,14 +169,6 @@ impl Runs {
             }
         }
         Ok(())
-    }
-
-    /// A sink for a command.
-    fn sink(&self) -> Result<MemSink, Halt> {
-        if self.width == 0 {
-            return Err(Halt::Impossible);
-        }
-        Ok(MemSink::new(self.alloc, self.width, &self.writes)?)
     }
 
     /// Runs a command of these words: the number of its status.
@@ -194,7 +181,8 @@ impl Runs {
         let alloc = self.alloc;
         let words = words_of(alloc, words)?;
         let mut shelf = self.texts.shelf(&self.reads)?;
-        let mut sink = self.sink()?;
+        let mut sink = self.sink.sink(alloc)?;
+        let mut notices = self.beside.sink(alloc)?;
         let status = spring(
             rt,
             alloc,
@@ -202,9 +190,11 @@ impl Runs {
             &mut shelf,
             &mut self.bay,
             &mut sink,
+            &mut notices,
             gate,
         );
         self.written.set(sink.bytes())?;
+        self.notices = Vec::from_slice(alloc, notices.bytes())?;
         Ok(status.number())
     }
 
@@ -217,6 +207,15 @@ impl Runs {
         Ok(())
     }
 
+    /// Appends what a sink got, and `..` if its last line was cut.
+    fn say_told(&self, text: &[u8], answer: &mut String) -> Result<(), Halt> {
+        say_text(self.alloc, answer, text)?;
+        if !text.is_empty() && !text.ends_with(b"\n") {
+            answer.push_str("..\n")?;
+        }
+        Ok(())
+    }
+
     /// `spring WORD ..`: what the command writes.
     fn told<R: Threads + Wait + Sync>(
         &mut self,
@@ -225,11 +224,7 @@ impl Runs {
         answer: &mut String,
     ) -> Result<(), Halt> {
         let status = self.command(rt, words, &OpenGate)?;
-        let text = self.written.text();
-        say_text(self.alloc, answer, text)?;
-        if !text.is_empty() && !text.ends_with(b"\n") {
-            answer.push_str("..\n")?;
-        }
+        self.say_told(self.written.text(), answer)?;
         self.say_status(status, answer)
     }
 
@@ -283,7 +278,7 @@ impl Runs {
             "memory" => Status::Memory,
             _ => return Err(Halt::Unread),
         };
-        let mut sink = self.sink()?;
+        let mut sink = self.sink.sink(self.alloc)?;
         let pieces: Vec<&[u8]> = body.split(|byte| *byte == b'/').collect(self.alloc)?;
         let status = finish(&mut sink, &pieces, status).number();
         self.written.set(sink.bytes())?;
