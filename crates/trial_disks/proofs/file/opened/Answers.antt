@@ -18,8 +18,8 @@ seen-number (Many g) = refl
 
 pub invariant_of-result-clause-size : goal.invariant_of-result-clause-size
 invariant_of-result-clause-size c =
-    seen-size c.in-Ok.under ∙ (ap (λ (s : ImageShape). s.page_size) (shape-opened c.args.mount.now c.args.stores c.in-Ok.under c.requires.file c.in-Ok.ensures.opened) ∙ c.requires.size)
+    seen-size c.in-Ok.under ∙ (ap (λ (s : ImageShape). s.page_size) (shape-opened c.args.mount.now c.args.stores c.in-Ok.came.items c.in-Ok.under c.requires.file c.in-Ok.ensures.opened) ∙ c.requires.size)
 
 pub invariant_of-result-clause-many : goal.invariant_of-result-clause-many
 invariant_of-result-clause-many c =
-    seen-number c.in-Ok.under ∙ (ap (λ (s : ImageShape). s.pages) (shape-opened c.args.mount.now c.args.stores c.in-Ok.under c.requires.file c.in-Ok.ensures.opened) ∙ (ap (λ (f : FileSeen). pages_of c.args.mount.now f.file) (sym c.stores.view_is) ∙ sym c.pages_of-pages.ensures))
+    seen-number c.in-Ok.under ∙ (ap (λ (s : ImageShape). s.pages) (shape-opened c.args.mount.now c.args.stores c.in-Ok.came.items c.in-Ok.under c.requires.file c.in-Ok.ensures.opened) ∙ (ap (λ (f : FileSeen). pages_of c.args.mount.now f.file) (sym c.stores.view_is) ∙ sym c.pages_of-pages.ensures))
