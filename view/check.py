@@ -207,10 +207,13 @@ class FileCheck:
 
 
 class Check:
-    """A report over its stack, checked. `findings` has what is wrong, in the order of the report's lines."""
+    """A report over its stack, checked. `findings` has what is wrong, in the order of the report's lines.
 
-    def __init__(self, stack, report):
-        self.stack, self.report, self.findings = stack, report, []
+    `notices` is what was told of the disks in mirrors beside the report; nothing of it is checked.
+    """
+
+    def __init__(self, stack, report, notices=()):
+        self.stack, self.report, self.notices, self.findings = stack, report, list(notices), []
         self.traced = report.is_traced()
         self.numbers = heads.Numbers(report)
         self.files = []

@@ -161,10 +161,14 @@ function jump(fileAt, index) {
 // ---- The top of the page.
 
 function drawVerdict() {
-  byId("verdict").innerHTML = data.found ? brokenWords() : data.traced
+  byId("verdict").innerHTML = (data.found ? brokenWords() : data.traced
     ? `<span class="good">✓ The history agrees with itself.</span> ` + filesWords()
-    : `<span class="note">Not traced: page messages, rights and copies are not known.</span> ` + filesWords();
+    : `<span class="note">Not traced: page messages, rights and copies are not known.</span> ` + filesWords()) +
+    noticeWords();
 }
+
+// What became of the disks in mirrors, which no history tells.
+const noticeWords = () => data.notices.map((words) => `<p class="notice">${escapeText(words)}</p>`).join("");
 
 const filesWords = () => `<span class="note">${escapeText(data.files.map((one) => one.said).join("; "))}</span>`;
 

@@ -140,6 +140,7 @@ def pack(check, name, page):
         "columns": [node.number for node in stack.columns()],
         "nodes": [pack_node(node) for node in stack.nodes],
         "files": files, "findings": pack_findings(check), "found": len(check.findings),
+        "notices": [notice.words() for notice in check.notices],
         "texts": texts.texts, "file": at, "page": page}
 
 

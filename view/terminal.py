@@ -68,7 +68,8 @@ def file_lines(check, file, page):
     wrong = {finding.index for finding in check.findings if finding.part == "file %s" % file.part.name}
     lines = heading(columns) + event_lines(file, columns, page, wrong)
     head = "file %s, pages of %d bytes%s" % (file.part.name, file.stack.page_size, "" if file.whole else ", not traced")
-    return [head] + ([LEGEND] if file.whole else []) + table(lines, 3 + len(columns))
+    told = [notice.words() for notice in check.notices if notice.file == file.part.name]
+    return [head] + told + ([LEGEND] if file.whole else []) + table(lines, 3 + len(columns))
 
 
 def draw(check, name, page):

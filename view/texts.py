@@ -27,4 +27,4 @@ def verdict(check):
     said = [finding.words() for finding in check.findings[:MOST_TOLD]]
     if len(check.findings) > MOST_TOLD:
         said.append("and %d more, which may follow from the first" % (len(check.findings) - MOST_TOLD))
-    return said or [file.words() for file in check.files]
+    return (said or [file.words() for file in check.files]) + [notice.words() for notice in check.notices]
