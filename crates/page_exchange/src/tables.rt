@@ -84,7 +84,7 @@ impl Tables {
         &self.tree
     }
 
-    /// The file.
+    /// The file: its number, its pages and their size.
     pub fn file(&self) -> PagedFile
         ensures value { result ≡ paged_of self.now }
         ensures paged { IsPagedFile result }

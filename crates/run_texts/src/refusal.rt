@@ -18,7 +18,7 @@ use stack_text::StackWhy;
 /// Why a command ends before a store is taken. Lines are counted from 1.
 #[derive(Clone, Copy, Debug, PartialEq, Eq)]
 pub enum Refusal {
-    /// A place of the text of the interfaces is none of the language.
+    /// The text of the interfaces does not parse.
     Idl {
         /// The place, as its offset in the text in bytes.
         place: u32,
@@ -37,9 +37,9 @@ pub enum Refusal {
         /// The first that is missing.
         which: Operation,
     },
-    /// A line of the stack is none.
+    /// A line of the stack does not parse.
     Stack {
-        /// The line.
+        /// The number of the line, from 1.
         line: u32,
         /// The first reason on it.
         why: StackWhy,
@@ -53,24 +53,24 @@ pub enum Refusal {
     },
     /// A line of the stack asks for a layer that a run does not build yet.
     StackLater {
-        /// The line.
+        /// The number of the line, from 1.
         line: u32,
     },
-    /// A line of the script is none.
+    /// A line of the script does not parse.
     Script {
-        /// The line.
+        /// The number of the line, from 1.
         line: u32,
         /// The first reason on it.
         why: ScriptWhy,
     },
     /// A line of the script is a call that the program does not make.
     ScriptLater {
-        /// The line.
+        /// The number of the line, from 1.
         line: u32,
     },
     /// A line of the script names a machine, a view, a layer or a file that the stack does not have.
     ScriptUnknown {
-        /// The line.
+        /// The number of the line, from 1.
         line: u32,
     },
     /// The stack has no file of the name.

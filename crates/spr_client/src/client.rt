@@ -32,7 +32,7 @@ pub struct Common<'a, G: Ground, T: Gate> {
     pub mount: &'a Mounted,
     /// The numbers of the operations of a file.
     pub ops: &'a Ops,
-    /// The gate.
+    /// What is called between two steps of a caller.
     pub gate: &'a T,
 }
 

@@ -22,7 +22,7 @@ const CHANNEL: u16 = 2;
 pub struct Heads {
     /// The operation, as the answer names it.
     pub which: Operation,
-    /// The page.
+    /// The number of the page in its file, from 0.
     pub page: u32,
     /// The head of the question or the order.
     pub first: Head,

@@ -24,7 +24,7 @@ pub(crate) fn only_stack(name: &Text) -> TextNames<'_>
     }
 }
 
-/// The lines of the tree that the stack of a name makes.
+/// Reads a stack, and gives the lines of the tree that it makes.
 fn tree_text<H: Shelf>(alloc: Global, shelf: &mut H, name: &Text) -> Result<Vec<u8>, Refusal>
     ensures ok { IfOk result (λ text. IsTreeOf (H.told shelf.old) name.now text.items) }
     ensures err { IfErr result (IsStackCause (H.told shelf.old) (H.told shelf.new) name.now) }
@@ -38,7 +38,7 @@ fn tree_text<H: Shelf>(alloc: Global, shelf: &mut H, name: &Text) -> Result<Vec<
     }
 }
 
-/// Writes the tree of the stack of a name, which may have layers that a run does not build yet.
+/// Reads a stack, which may have layers that a run does not build yet, and writes its tree.
 pub(crate) fn check_stack<H: Shelf, K: Sink>(
     alloc: Global,
     shelf: &mut H,

@@ -17,8 +17,8 @@ use spr_report::Status;
 use stack_accept::Mounted;
 use std::alloc::Global;
 
-/// Writes a fresh image on each store of the stack of a name, which may have layers that a run does not build yet: by file, and
-/// then by disk.
+/// Reads a stack, which may have layers that a run does not build yet, and writes a fresh image on each of its stores: by file,
+/// and then by disk.
 pub(crate) fn format_stack<H: Shelf, B: Bay, K: Sink>(
     alloc: Global,
     name: &Text,
@@ -34,8 +34,8 @@ pub(crate) fn format_stack<H: Shelf, B: Bay, K: Sink>(
     }
 }
 
-/// Tells what lies on each disk of each file of the stack of a name, which may have layers that a run does not build yet. No block
-/// is written, and nothing is made.
+/// Reads a stack, which may have layers that a run does not build yet, and tells what lies on each disk of each of its files. No
+/// block is written, and nothing is made.
 pub(crate) fn list_named<H: Shelf, B: Bay, K: Sink>(
     alloc: Global,
     name: &Text,
@@ -51,7 +51,7 @@ pub(crate) fn list_named<H: Shelf, B: Bay, K: Sink>(
     }
 }
 
-/// Reads the stack of a name, and finds its file of another name.
+/// Reads a stack, and finds the file `name` in it.
 fn read_file<H: Shelf>(
     alloc: Global,
     shelf: &mut H,
@@ -70,7 +70,7 @@ fn read_file<H: Shelf>(
     }
 }
 
-/// Prints the pages of a file of a name, of the stack of another.
+/// Prints the pages of the file `name` of a stack.
 pub(crate) fn dump_named<H: Shelf, B: Bay, K: Sink, N: Sink>(
     alloc: Global,
     stack: &Text,

@@ -22,7 +22,7 @@ fn only_idl(name: &Text) -> TextNames<'_>
     }
 }
 
-/// Writes the tables of the interfaces of a name.
+/// Reads a text of interfaces, and writes their tables.
 pub(crate) fn put_tables<H: Shelf, K: Sink>(
     alloc: Global,
     shelf: &mut H,

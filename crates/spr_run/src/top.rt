@@ -22,8 +22,8 @@ use std::thread::Threads;
 
 const USAGE: &[u8] = b"usage: spring run, gen, check, format, dump or idl\n";
 
-/// Runs the script of a name over the files of the stack of a name, where the interfaces of a name fit together and have
-/// each operation, and writes how that ended; with the page messages, if they are asked for.
+/// Reads the three texts, runs the script over the files of the stack, if the interfaces fit together and have each operation, and
+/// writes how that ended; with the page messages, if they are asked for.
 fn run_named<R: Threads + Wait + Sync, H: Shelf, B: Bay, K: Sink, N: Sink, G: Gate>(
     rt: &R,
     alloc: Global,

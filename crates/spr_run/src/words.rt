@@ -196,7 +196,7 @@ fn idl_in(alloc: Global, found: &ArgMatches<'_>) -> Result<Asked, WordsErr>
     Ok(Asked::Idl { idl })
 }
 
-/// The command of a name.
+/// What the words behind a command's name ask for.
 fn asked_by(alloc: Global, name: &str, found: &ArgMatches<'_>) -> Result<Asked, WordsErr>
     ensures ok { IfOk result (λ a. asked_by name.now (rows_of (found_of found.now)) ≡ Some a) }
     ensures usage { result ≡ Err WordsErr.Usage → asked_by name.now (rows_of (found_of found.now)) ≡ None }
