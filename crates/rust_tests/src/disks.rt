@@ -74,6 +74,33 @@ fn a_taken_store_is_locked(rt: HostRuntime) -> Result<(), Fail> {
     Ok(())
 }
 
+/// A file that is cut short while its store is out: what is gone is refused, and the block that is left is read.
+#[test]
+fn a_file_that_is_cut(rt: HostRuntime) -> Result<(), Fail> {
+    let path = "spr_io_cut.f.img";
+    let _ = fs::remove_file(&rt, path);
+    let mut bay = HostBay::new(rt.clone()?, rt.alloc());
+    let mut store = bay.take("spr_io_cut", "f", 4, 2)?;
+    assert_eq!(rt; store.write(0, b"abcd"), Ok(()));
+    assert_eq!(rt; store.write(1, b"efgh"), Ok(()));
+    let mut how = fs::OpenOptions::new();
+    how.write(true);
+    how.open(&rt, path)?.set_len(4)?;
+    let mut out = [0u8; 4];
+    assert_eq!(rt; store.read(1, &mut out), Err(Failed));
+    assert_eq!(rt; store.count(), 1);
+    assert_eq!(rt; store.read(0, &mut out), Ok(()));
+    assert_eq!(rt; out.as_slice(), b"abcd".as_slice());
+    assert_eq!(rt; bay.give("spr_io_cut", "f", store), Ok(()));
+    assert_eq!(rt;
+        bay.take("spr_io_cut", "f", 4, 2).err(),
+        Some(BayErr::Failed),
+        "it has two blocks"
+    );
+    fs::remove_file(&rt, path)?;
+    Ok(())
+}
+
 /// A file that reads three bytes at most, and refuses its first sync: the store reads whole blocks, and is never flushed well.
 #[test]
 fn a_refused_sync_spoils(rt: HostRuntime) -> Result<(), Fail> {
