@@ -17,7 +17,7 @@ use std::vec::IntoIter;
 /// The stores of a file while they are out of the bay, in the order of the disks.
 #[derive(Drop)]
 pub struct FileStores<S: Store> {
-    /// The number of the file in its stack, from 0.
+    /// The file.
     pub file: u32,
     /// The stores.
     pub stores: Vec<S>,

@@ -117,7 +117,7 @@ pub fn hold<D: Side>(disk: D) -> Held<D>
     Held { disk }
 }
 
-/// Asks the disk for what the call says. It answers whether the disk took it.
+/// Asks it.
 pub fn ask<D: Side>(held: &mut Held<D>, call: Call) -> Result<bool, StoreFault>
     requires { Suits call held.old }
     ensures passes { steps.Passes (act_of call.entry) (leaf_of held.old) (said result) (leaf_of held.new) }

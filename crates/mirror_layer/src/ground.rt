@@ -101,7 +101,7 @@ impl<D: Side + Send, H: Unopened + Send> MirrorGround<D, H> {
         &self.node
     }
 
-    /// Gives the tree of its disks back.
+    /// What it is made of.
     pub fn into_node(self) -> Node<D, H>
         ensures row { machine.seats (tree_of result) ≡ self.row }
         ensures beside { beside_in result ≡ self.beside }

@@ -127,7 +127,7 @@ pub fn is_live<D: Side, H: Unopened>(node: &Node<D, H>) -> bool
     }
 }
 
-/// Leaves the disks of this part of the tree out from now on.
+/// It becomes stale.
 pub fn leave_out<D: Side, H: Unopened>(node: &mut Node<D, H>)
     ensures tree { tree_of node.new ≡ machine.stale (tree_of node.old) }
     ensures beside { beside_in node.new ≡ beside_in node.old }

@@ -150,10 +150,9 @@ fn sync_folder<R: Files<File = File>>(rt: &R) -> io::Result<()> {
     fs::open(rt, ".")?.sync_all()
 }
 
-/// Has the host keep a file's bytes and its name, and read its pages from the disk from now on.
+/// Has the host keep a file's bytes and its name.
 fn keep_image<R: Files<File = File>>(rt: &R, file: &mut HostFile) -> Result<(), Failed> {
     file.sync()?;
-    file.forget_pages()?;
     match sync_folder(rt) {
         Ok(()) => Ok(()),
         Err(_) => Err(Failed),

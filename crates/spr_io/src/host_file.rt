@@ -8,7 +8,6 @@ ghost use Rattle.std.specs.Prelude.{None};
 use crate::outside::Failed;
 use crate::raw::RawFile;
 use std::fs::File;
-use std::os::fd::AsRawFd;
 use std::os::unix::fs::FileExt;
 
 /// An open file of the host.
@@ -21,15 +20,6 @@ impl HostFile {
     /// The file that is open here.
     pub fn new(file: File) -> HostFile {
         HostFile { file }
-    }
-
-    /// Has the host forget the pages of the file that it keeps in memory, so that the next read asks the disk. Behind a sync that
-    /// was refused to an earlier program these may be other than the disk has them.
-    pub fn forget_pages(&self) -> Result<(), Failed> {
-        match libc::posix_fadvise(self.file.as_raw_fd(), 0, 0, libc::POSIX_FADV_DONTNEED) {
-            0 => Ok(()),
-            _ => Err(Failed),
-        }
     }
 }
 
