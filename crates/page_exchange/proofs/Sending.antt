@@ -145,8 +145,8 @@ called_given shape node Called.Destroy sides ground = refl
 
 -- WHAT NEEDS NO GROUND: no page is asked for that the node has not, and nothing comes up
 none_up : (up : Option (List ℕ)) → (IsSome up → ⊥) → up ≡ None
-none_up None no = refl
-none_up (Some bytes) no = absurd (no refl)
+none_up None needless = refl
+none_up (Some bytes) needless = absurd (needless refl)
 
 asked_given : (shape : TreeShape) (node : ℕ) (what : Asked) (sides : ℕ → Side) → parent shape node ≡ 0 → asked_up (sides node) what ≡ given_up shape (step_asked what node) sides
 asked_given shape node Asked.PageInRead sides ground = refl
@@ -157,24 +157,24 @@ asked_given shape node Asked.Sync sides ground = rw (eq-eqb (parent shape node) 
 asked_given shape node Asked.Done sides ground = refl
 
 pub asked_has : (shape : TreeShape) (node : ℕ) (what : Asked) (sides : ℕ → Side) → parent shape node ≡ 0 → (NeedsGround shape (step_asked what node) sides → ⊥) → IsForPage what → (sides node).right ≢ Right.Nothing
-asked_has shape node Asked.PageInRead sides ground no asks none = no (ground, none)
-asked_has shape node Asked.PageInWrite sides ground no asks none = no (ground, none)
-asked_has shape node Asked.PageOut sides ground no asks none = asks
-asked_has shape node Asked.WriteOut sides ground no asks none = asks
-asked_has shape node Asked.Sync sides ground no asks none = asks
-asked_has shape node Asked.Done sides ground no asks none = asks
+asked_has shape node Asked.PageInRead sides ground needless asks none = needless (ground, none)
+asked_has shape node Asked.PageInWrite sides ground needless asks none = needless (ground, none)
+asked_has shape node Asked.PageOut sides ground needless asks none = asks
+asked_has shape node Asked.WriteOut sides ground needless asks none = asks
+asked_has shape node Asked.Sync sides ground needless asks none = asks
+asked_has shape node Asked.Done sides ground needless asks none = asks
 
 pub asked_nothing : (shape : TreeShape) (node : ℕ) (what : Asked) (sides : ℕ → Side) → parent shape node ≡ 0 → (NeedsGround shape (step_asked what node) sides → ⊥) → asked_up (sides node) what ≡ None
-asked_nothing shape node Asked.PageInRead sides ground no = refl
-asked_nothing shape node Asked.PageInWrite sides ground no = refl
-asked_nothing shape node Asked.PageOut sides ground no = asked_given shape node Asked.PageOut sides ground ∙ none_up (up_from shape node sides) no
-asked_nothing shape node Asked.WriteOut sides ground no = asked_given shape node Asked.WriteOut sides ground ∙ none_up (up_from shape node sides) no
-asked_nothing shape node Asked.Sync sides ground no = asked_given shape node Asked.Sync sides ground ∙ none_up (up_from shape node sides) no
-asked_nothing shape node Asked.Done sides ground no = refl
+asked_nothing shape node Asked.PageInRead sides ground needless = refl
+asked_nothing shape node Asked.PageInWrite sides ground needless = refl
+asked_nothing shape node Asked.PageOut sides ground needless = asked_given shape node Asked.PageOut sides ground ∙ none_up (up_from shape node sides) needless
+asked_nothing shape node Asked.WriteOut sides ground needless = asked_given shape node Asked.WriteOut sides ground ∙ none_up (up_from shape node sides) needless
+asked_nothing shape node Asked.Sync sides ground needless = asked_given shape node Asked.Sync sides ground ∙ none_up (up_from shape node sides) needless
+asked_nothing shape node Asked.Done sides ground needless = refl
 
 pub called_nothing : (shape : TreeShape) (node : ℕ) (what : Called) (sides : ℕ → Side) → parent shape node ≡ 0 → (NeedsGround shape (step_called what node) sides → ⊥) → called_up (sides node) what ≡ None
-called_nothing shape node Called.FlushBack sides ground no = called_given shape node Called.FlushBack sides ground ∙ none_up (up_from shape node sides) no
-called_nothing shape node Called.DenyWrites sides ground no = called_given shape node Called.DenyWrites sides ground ∙ none_up (up_from shape node sides) no
-called_nothing shape node Called.WriteBack sides ground no = called_given shape node Called.WriteBack sides ground ∙ none_up (up_from shape node sides) no
-called_nothing shape node Called.DeleteRange sides ground no = refl
-called_nothing shape node Called.Destroy sides ground no = refl
+called_nothing shape node Called.FlushBack sides ground needless = called_given shape node Called.FlushBack sides ground ∙ none_up (up_from shape node sides) needless
+called_nothing shape node Called.DenyWrites sides ground needless = called_given shape node Called.DenyWrites sides ground ∙ none_up (up_from shape node sides) needless
+called_nothing shape node Called.WriteBack sides ground needless = called_given shape node Called.WriteBack sides ground ∙ none_up (up_from shape node sides) needless
+called_nothing shape node Called.DeleteRange sides ground needless = refl
+called_nothing shape node Called.Destroy sides ground needless = refl

@@ -46,10 +46,10 @@ spares_err node life op old new err h = record {
 }
 
 pub spares_hit : {A : Type 0} (caller number node life : ℕ) (op : Op) (old new : EngineSeen) (r : Result A StepErr) → IsNext old (events.Access caller number node life op) → SparesRead node life op old new r → SparesTry caller number node life op old new r
-spares_hit caller number node life op old new r next h = record { allowed = λ next'. h; others = λ no. absurd (no next) }
+spares_hit caller number node life op old new r next h = record { allowed = λ next'. h; others = λ needless. absurd (needless next) }
 
 pub spares_missed : {A : Type 0} (caller number node life : ℕ) (op : Op) (old new : EngineSeen) (r : Result A StepErr) (missed : Missed) → IsMissed old node life op missed → new.trail.spare ≡ old.trail.spare → SparesTry caller number node life op old new r
-spares_missed caller number node life op old new r missed m same = record { allowed = λ next. absurd (missed_not_next old caller number node life op missed m next); others = λ no. same }
+spares_missed caller number node life op old new r missed m same = record { allowed = λ next. absurd (missed_not_next old caller number node life op missed m next); others = λ needless. same }
 
 -- ONE STEP, after room was made
 lowers_same : {A : Type 0} (node life : ℕ) (op : Op) (old new : EngineSeen) (room : ℕ) (r : Result A StepErr) → LowersSpare node life op (roomy old room) new r → LowersSpare node life op old new r
@@ -71,4 +71,4 @@ lowers_err node life op old new err (Err e) is h = record { one = λ current som
 -- nothing was entered
 pub lowers_none : {A : Type 0} (node life : ℕ) (op : Op) (old new : EngineSeen) (err : StepErr) (r : Result A StepErr) → IsErrAnd r (λ e. e ≡ err) → new.trail.spare ≡ old.trail.spare → LowersSpare node life op old new r
 lowers_none node life op old new err (Ok b) is same = absurd is
-lowers_none node life op old new err (Err e) is same = record { one = λ current some. tt; none = λ zero. same ∙ zero; others = λ no. same }
+lowers_none node life op old new err (Err e) is same = record { one = λ current some. tt; none = λ zero. same ∙ zero; others = λ needless. same }

@@ -51,8 +51,8 @@ returns-clause-ground g c =
     (ap (λ (s : Side). called_up s c.args.what) (sym (singles.at_own c.args.self.now.tree c.args.self.now.file _ _ c.args.node _ _ c.args.self.now.tables one c.args.page)) ∙ called_given c.args.self.now.tree c.args.node c.args.what (sides_in c.args.self.now.nodes.items c.args.page) c.requires.on_ground)) c.order_by_ground.ensures.ground
 
 pub returns-clause-idle : goal.returns-clause-idle
-returns-clause-idle g c = λ no.
+returns-clause-idle g c = λ needless.
     let one = singles.one_is c.args.self.now.tree c.args.self.now.file c.args.self.now.nodes.items c.args.node c.index_mut-own.result.now c.index_mut-own.result.now c.args.self.now.tables c.requires.upper c.index_mut-own.ensures.value in
     c.order_by_ground.ensures.idle (subst (λ (s : Side). called_up s c.args.what ≡ None)
     (singles.at_own c.args.self.now.tree c.args.self.now.file _ _ c.args.node _ _ c.args.self.now.tables one c.args.page)
-    (called_nothing c.args.self.now.tree c.args.node c.args.what (sides_in c.args.self.now.nodes.items c.args.page) c.requires.on_ground no))
+    (called_nothing c.args.self.now.tree c.args.node c.args.what (sides_in c.args.self.now.nodes.items c.args.page) c.requires.on_ground needless))

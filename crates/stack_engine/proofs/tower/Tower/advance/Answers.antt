@@ -16,9 +16,9 @@ returns-in-None-clause-spare g c =
     spares_hit c.args.caller c.args.number c.args.node c.args.life c.args.op.now _ _ _ next c.hit.ensures.spare
 
 pub returns-in-Some-clause-idle : goal.returns-in-Some-clause-idle
-returns-in-Some-clause-idle g c = λ no.
+returns-in-Some-clause-idle g c = λ needless.
     let is = subst (λ (t : TowerSeen). IsMissed t.engine c.args.node c.args.life c.args.op.now c.in-Some.missed) c.self.view_is c.in-Some.ensures.missed in
-    c.miss.ensures.idle (λ needs. no (record { missed = c.in-Some.missed; is = is; needs = needs }))
+    c.miss.ensures.idle (λ needs. needless (record { missed = c.in-Some.missed; is = is; needs = needs }))
 
 pub returns-in-Some-clause-spare : goal.returns-in-Some-clause-spare
 returns-in-Some-clause-spare g c =

@@ -39,29 +39,29 @@ returns-clause-advances g c = record {
 }
 
 pub returns-in_err-make_room-clause-idle : goal.returns-in_err-make_room-clause-idle
-returns-in_err-make_room-clause-idle g c = λ no. ap (λ (e : EngineSeen). e.ground) c.make_room.ensures.same ∙ ap (λ (t : TowerSeen). t.engine.ground) c.self.view_is
+returns-in_err-make_room-clause-idle g c = λ needless. ap (λ (e : EngineSeen). e.ground) c.make_room.ensures.same ∙ ap (λ (t : TowerSeen). t.engine.ground) c.self.view_is
 
 pub returns-in_err-make_room-clause-spare : goal.returns-in_err-make_room-clause-spare
 returns-in_err-make_room-clause-spare g c = ap (λ (e : EngineSeen). e.trail.spare) c.make_room.ensures.same ∙ ap (λ (t : TowerSeen). t.engine.trail.spare) c.self.view_is
 
 pub returns-in_err-take_turn-clause-idle : goal.returns-in_err-take_turn-clause-idle
-returns-in_err-take_turn-clause-idle g c = λ no. ap (λ (e : EngineSeen). e.ground) c.make_room.ensures.same ∙ ap (λ (t : TowerSeen). t.engine.ground) c.self.view_is
+returns-in_err-take_turn-clause-idle g c = λ needless. ap (λ (e : EngineSeen). e.ground) c.make_room.ensures.same ∙ ap (λ (t : TowerSeen). t.engine.ground) c.self.view_is
 
 pub returns-in_err-take_turn-clause-spare : goal.returns-in_err-take_turn-clause-spare
 returns-in_err-take_turn-clause-spare g c = ap (λ (e : EngineSeen). e.trail.spare) c.make_room.ensures.same ∙ ap (λ (t : TowerSeen). t.engine.trail.spare) c.self.view_is
 
 pub returns-in_err-event-clause-idle : goal.returns-in_err-event-clause-idle
-returns-in_err-event-clause-idle g c = λ no.
+returns-in_err-event-clause-idle g c = λ needless.
     rooms.idle_room c.self.inside.engine c.make_room.new.self c.make_room.new.self c.make_room.new.self.trail.room c.make_room.ensures.same c.args.missed.event c.message.new.self.ground c.in_err-event.ensures.idle
-    (λ needs. no (subst (λ (t : TowerSeen). NeedsDisks t.engine c.args.missed.event) c.self.view_is needs)) ∙ ap (λ (t : TowerSeen). t.engine.ground) c.self.view_is
+    (λ needs. needless (subst (λ (t : TowerSeen). NeedsDisks t.engine c.args.missed.event) c.self.view_is needs)) ∙ ap (λ (t : TowerSeen). t.engine.ground) c.self.view_is
 
 pub returns-in_err-event-clause-spare : goal.returns-in_err-event-clause-spare
 returns-in_err-event-clause-spare g c = c.in_err-event.ensures.refused.spare ∙ ap (λ (e : EngineSeen). e.trail.spare) c.make_room.ensures.same ∙ ap (λ (t : TowerSeen). t.engine.trail.spare) c.self.view_is
 
 pub returns-clause-idle : goal.returns-clause-idle
-returns-clause-idle g c = λ no.
+returns-clause-idle g c = λ needless.
     rooms.idle_room c.self.inside.engine c.make_room.new.self c.make_room.new.self c.make_room.new.self.trail.room c.make_room.ensures.same c.args.missed.event c.message.new.self.ground c.in_ok-event.ensures.idle
-    (λ needs. no (subst (λ (t : TowerSeen). NeedsDisks t.engine c.args.missed.event) c.self.view_is needs)) ∙ ap (λ (t : TowerSeen). t.engine.ground) c.self.view_is
+    (λ needs. needless (subst (λ (t : TowerSeen). NeedsDisks t.engine c.args.missed.event) c.self.view_is needs)) ∙ ap (λ (t : TowerSeen). t.engine.ground) c.self.view_is
 
 pub returns-clause-spare : goal.returns-clause-spare
 returns-clause-spare g c = c.in_ok-event.ensures.sends.spare ∙ ap (λ (e : EngineSeen). e.trail.spare) c.make_room.ensures.same ∙ ap (λ (t : TowerSeen). t.engine.trail.spare) c.self.view_is

@@ -14,8 +14,8 @@ returns-in-Ok-clause-advances g c = λ number.
     (ap (λ (t : TowerSeen). t.turns) c.self.view_is)
 
 pub returns-in-Ok-clause-idle : goal.returns-in-Ok-clause-idle
-returns-in-Ok-clause-idle g c = λ no.
-    c.in-Ok.ensures.idle (λ needs. no (record {
+returns-in-Ok-clause-idle g c = λ needless.
+    c.in-Ok.ensures.idle (λ needs. needless (record {
       page = c.args.page;
       event = c.next_push-event.result;
       lowest = c.requires.lowest;
@@ -27,8 +27,8 @@ pub returns-in-Ok-clause-spare : goal.returns-in-Ok-clause-spare
 returns-in-Ok-clause-spare g c = c.in-Ok.ensures.sends.spare ∙ ap (λ (t : TowerSeen). t.engine.trail.spare) c.self.view_is
 
 pub returns-in-Err-clause-idle : goal.returns-in-Err-clause-idle
-returns-in-Err-clause-idle g c = λ no.
-    c.in-Err.ensures.idle (λ needs. no (record {
+returns-in-Err-clause-idle g c = λ needless.
+    c.in-Err.ensures.idle (λ needs. needless (record {
       page = c.args.page;
       event = c.next_push-event.result;
       lowest = c.requires.lowest;
