@@ -1,6 +1,6 @@
 -- An exchange of a node and the ground: what was written, and what was read of it.
 use Rattle.std.specs.Prelude.{IsErrAnd, IfErr}
-use Rattle.std.proofs.Common.{◌⊎◌, inl, inr, Result, Ok, Err, ◌≡◌, ℕ, ◌<◌, sym, ◌∙◌, ap, subst, refl, true, List, length, Option, Some, None}
+use Rattle.std.proofs.Common.{◌⊎◌, inl, inr, Result, Ok, Err, ◌≡◌, ◌≢◌, ℕ, ◌<◌, sym, ◌∙◌, ap, subst, refl, true, List, length, Option, Some, None}
 use Rattle.page_ground.specs.Seen.{Seen}
 use Rattle.tower_core.specs.declared.right.Right.{Right}
 use Rattle.layer_laws.specs.Side.{Side}
@@ -92,17 +92,21 @@ module _ (ops : Ops) (own : Table) (page : ℕ) (what : Asked) (first : List ℕ
   q_up : bytes_up q ≡ asked_up (side own page) what
   q_up = ap bytes_up q_is ∙ meant.question_up ops (file_of own) page (side own page) what
 
-  pub asked_once : (before mid after : Seen) → IsOneCall before mid → ((IsForPage what → ⊥) → mid ≡ before) → IsOneCall mid after → (bytes_up q ≡ None → after ≡ mid) → IsOneCall before after
+  pub asked_once : (before mid after : Seen) → IsOneCall before mid → ((IsForPage what → (side own page).right ≢ Right.Nothing) → mid ≡ before) → IsOneCall mid after → (bytes_up q ≡ None → after ≡ mid) → IsOneCall before after
   asked_once before mid after one idle two still = elim (asks_or_gives (side own page) what) [
     | inl none ↦ subst (IsOneCall before) (sym (still (q_up ∙ none))) one
-    | inr other ↦ subst (λ (s : Seen). IsOneCall s after) (idle other) two
+    | inr other ↦ subst (λ (s : Seen). IsOneCall s after) (idle (λ h. absurd (other h))) two
   ]
 
-  pub asked_calm : (before mid after : Seen) → IsCalmCall before mid → ((IsForPage what → ⊥) → mid ≡ before) → IsCalmCall mid after → (bytes_up q ≡ None → after ≡ mid) → IsCalmCall before after
+  pub asked_calm : (before mid after : Seen) → IsCalmCall before mid → ((IsForPage what → (side own page).right ≢ Right.Nothing) → mid ≡ before) → IsCalmCall mid after → (bytes_up q ≡ None → after ≡ mid) → IsCalmCall before after
   asked_calm before mid after one idle two still = elim (asks_or_gives (side own page) what) [
     | inl none ↦ subst (IsCalmCall before) (sym (still (q_up ∙ none))) one
-    | inr other ↦ subst (λ (s : Seen). IsCalmCall s after) (idle other) two
+    | inr other ↦ subst (λ (s : Seen). IsCalmCall s after) (idle (λ h. absurd (other h))) two
   ]
+
+  -- nothing is asked for and nothing comes up
+  pub asked_idle : (before mid after : Seen) → ((IsForPage what → (side own page).right ≢ Right.Nothing) → mid ≡ before) → (bytes_up q ≡ None → after ≡ mid) → (IsForPage what → (side own page).right ≢ Right.Nothing) → asked_up (side own page) what ≡ None → after ≡ before
+  asked_idle before mid after idle still has none = still (q_up ∙ none) ∙ idle has
 
   pub asked_given : (pages pages' new : Option (List (List ℕ))) → pages ≡ pages' → new ≡ pages_given page (bytes_up q) pages → new ≡ pages_given page (asked_up (side own page) what) pages'
   asked_given pages pages' new e is = given_pages page (bytes_up q) (asked_up (side own page) what) pages pages' new q_up e is
@@ -152,6 +156,9 @@ module _ (ops : Ops) (own : Table) (page : ℕ) (what : Called) (first : List �
 
       pub reply_is_page : has_data r.head.flags ≡ true → r.head.size ≡ (file_of own).page_size
       reply_is_page = subst (λ (f : FrameSeen). has_data f.head.flags ≡ true → f.head.size ≡ (file_of own).page_size) (sym r_is) (reply_sized ops (file_of own) page (side own page) what)
+
+      pub reply_idle : (before after : Seen) → (bytes_up r ≡ None → after ≡ before) → called_up (side own page) what ≡ None → after ≡ before
+      reply_idle before after still none = still (ap bytes_up r_is ∙ meant.reply_up ops (file_of own) page (side own page) what ∙ none)
 
       pub reply_given : (pages new : Option (List (List ℕ))) → new ≡ pages_given page (bytes_up r) pages → new ≡ pages_given page (called_up (side own page) what) pages
       reply_given pages new is = given_pages page (bytes_up r) (called_up (side own page) what) pages pages new (ap bytes_up r_is ∙ meant.reply_up ops (file_of own) page (side own page) what) refl is

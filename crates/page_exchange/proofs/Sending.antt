@@ -23,7 +23,7 @@ use Rattle.page_messages.specs.Rights.{IsForPage, asked_right, called_right}
 use Rattle.page_messages.specs.Rules.{MayAsk}
 use Rattle.page_exchange.specs.Ground.{Tells}
 use Rattle.page_exchange.specs.Moved.{AreExchangedAt}
-use Rattle.page_exchange.specs.Steps.{AreLike, AreSentAt, IsSent, up_from, given_up, step_asked, step_called}
+use Rattle.page_exchange.specs.Steps.{AreLike, AreSentAt, IsSent, NeedsGround, up_from, given_up, step_asked, step_called}
 use Rattle.page_exchange.proofs.Telling.{told_read}
 
 -- what a grant brings, where the bytes are those of the page above
@@ -142,3 +142,39 @@ called_given shape node Called.DenyWrites sides ground = rw (eq-eqb (parent shap
 called_given shape node Called.WriteBack sides ground = rw (eq-eqb (parent shape node) 0 ground) refl
 called_given shape node Called.DeleteRange sides ground = refl
 called_given shape node Called.Destroy sides ground = refl
+
+-- WHAT NEEDS NO GROUND: no page is asked for that the node has not, and nothing comes up
+none_up : (up : Option (List ℕ)) → (IsSome up → ⊥) → up ≡ None
+none_up None needless = refl
+none_up (Some bytes) needless = absurd (needless refl)
+
+asked_given : (shape : TreeShape) (node : ℕ) (what : Asked) (sides : ℕ → Side) → parent shape node ≡ 0 → asked_up (sides node) what ≡ given_up shape (step_asked what node) sides
+asked_given shape node Asked.PageInRead sides ground = refl
+asked_given shape node Asked.PageInWrite sides ground = refl
+asked_given shape node Asked.PageOut sides ground = rw (eq-eqb (parent shape node) 0 ground) refl
+asked_given shape node Asked.WriteOut sides ground = rw (eq-eqb (parent shape node) 0 ground) refl
+asked_given shape node Asked.Sync sides ground = rw (eq-eqb (parent shape node) 0 ground) refl
+asked_given shape node Asked.Done sides ground = refl
+
+pub asked_has : (shape : TreeShape) (node : ℕ) (what : Asked) (sides : ℕ → Side) → parent shape node ≡ 0 → (NeedsGround shape (step_asked what node) sides → ⊥) → IsForPage what → (sides node).right ≢ Right.Nothing
+asked_has shape node Asked.PageInRead sides ground needless asks none = needless (ground, none)
+asked_has shape node Asked.PageInWrite sides ground needless asks none = needless (ground, none)
+asked_has shape node Asked.PageOut sides ground needless asks none = asks
+asked_has shape node Asked.WriteOut sides ground needless asks none = asks
+asked_has shape node Asked.Sync sides ground needless asks none = asks
+asked_has shape node Asked.Done sides ground needless asks none = asks
+
+pub asked_nothing : (shape : TreeShape) (node : ℕ) (what : Asked) (sides : ℕ → Side) → parent shape node ≡ 0 → (NeedsGround shape (step_asked what node) sides → ⊥) → asked_up (sides node) what ≡ None
+asked_nothing shape node Asked.PageInRead sides ground needless = refl
+asked_nothing shape node Asked.PageInWrite sides ground needless = refl
+asked_nothing shape node Asked.PageOut sides ground needless = asked_given shape node Asked.PageOut sides ground ∙ none_up (up_from shape node sides) needless
+asked_nothing shape node Asked.WriteOut sides ground needless = asked_given shape node Asked.WriteOut sides ground ∙ none_up (up_from shape node sides) needless
+asked_nothing shape node Asked.Sync sides ground needless = asked_given shape node Asked.Sync sides ground ∙ none_up (up_from shape node sides) needless
+asked_nothing shape node Asked.Done sides ground needless = refl
+
+pub called_nothing : (shape : TreeShape) (node : ℕ) (what : Called) (sides : ℕ → Side) → parent shape node ≡ 0 → (NeedsGround shape (step_called what node) sides → ⊥) → called_up (sides node) what ≡ None
+called_nothing shape node Called.FlushBack sides ground needless = called_given shape node Called.FlushBack sides ground ∙ none_up (up_from shape node sides) needless
+called_nothing shape node Called.DenyWrites sides ground needless = called_given shape node Called.DenyWrites sides ground ∙ none_up (up_from shape node sides) needless
+called_nothing shape node Called.WriteBack sides ground needless = called_given shape node Called.WriteBack sides ground ∙ none_up (up_from shape node sides) needless
+called_nothing shape node Called.DeleteRange sides ground needless = refl
+called_nothing shape node Called.Destroy sides ground needless = refl

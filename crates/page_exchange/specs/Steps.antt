@@ -1,6 +1,7 @@
 -- A step on one page of a file: which message makes it, and what it makes of all nodes' tables and of the ground's pages.
 use Rattle.std.specs.Prelude.{◌≡◌, ◌≢◌, ℕ, ◌==◌, if◌then◌else◌, true, false, List, Option, None, IsSome}
 use Rattle.tower_core.specs.TreeShape.{TreeShape, parent}
+use Rattle.tower_core.specs.declared.right.Right.{Right}
 use Rattle.tower_core.specs.declared.step.Step.{Step}
 use Rattle.tower_core.specs.declared.step.Step.TheVariants.{Untouched, Grants, PagesOut, Denies, Pushes, Flushes, Deletes}
 use Rattle.layer_laws.specs.Side.{Side}
@@ -38,6 +39,11 @@ given_up shape (Denies node) sides = up_from shape node sides
 given_up shape (Pushes node) sides = up_from shape node sides
 given_up shape (Flushes node) sides = up_from shape node sides
 given_up shape step sides = None
+
+-- THE MESSAGE NEEDS THE GROUND: a node that stands on it asks for a page of which it has nothing, or bytes come up to it
+abbrev pub NeedsGround : TreeShape → Step → (ℕ → Side) → Type 0
+NeedsGround shape (Grants node write) sides = (parent shape node ≡ 0) × ((sides node).right ≡ Right.Nothing)
+NeedsGround shape step sides = IsSome (given_up shape step sides)
 
 -- each node keeps what its table of the page became
 abbrev pub AreLike : (ℕ → Side) → (ℕ → Side) → Type 0

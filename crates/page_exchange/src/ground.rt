@@ -70,7 +70,7 @@ fn read_for<G: Ground>(
     ensures call { IsOneCall (G.seen ground.old) (G.seen ground.new) }
     ensures calm { OnOk result (IsCalmCall (G.seen ground.old) (G.seen ground.new)) }
     ensures fault { IfErr result (IsFault (G.seen ground.old) (G.seen ground.new)) }
-    ensures idle { (IsForPage what → ⊥) → G.seen ground.new ≡ G.seen ground.old }
+    ensures idle { (IsForPage what → (side table.now page).right ≢ Right.Nothing) → G.seen ground.new ≡ G.seen ground.old }
 {
     let for_page = matches!(what, Asked::PageInRead | Asked::PageInWrite);
     if for_page && table.right(page) == Right::Nothing {
@@ -99,9 +99,9 @@ fn write_for<G: Ground>(ground: &mut G, frame: &Frame<'_>, page: u32) -> Result<
 
 impl Wire {
     /// A node whose parent is the ground asks, and takes the answer. The ground is read before it answers a node that has
-    /// nothing of the page, and it is written once both frames were read. `scratch` has room for a page. An error leaves
-    /// the node's table and the ground's pages; memory may lack only for a page of which the node has nothing and kept no
-    /// copy.
+    /// nothing of the page, it is written once both frames were read, and for nothing else it is called. `scratch` has room
+    /// for a page. An error leaves the node's table and the ground's pages; memory may lack only for a page of which the node
+    /// has nothing and kept no copy.
     pub fn ask_ground<G: Ground>(
         &mut self,
         own: &mut Table,
@@ -121,6 +121,8 @@ impl Wire {
         ensures call { IsOneCall (G.seen ground.old) (G.seen ground.new) }
         ensures calm { UnlessFault result (IsCalmCall (G.seen ground.old) (G.seen ground.new)) }
         ensures scratch { length scratch.new ≡ length scratch.old }
+        ensures idle { (IsForPage what → (side own.old page).right ≢ Right.Nothing) → asked_up (side own.old page) what ≡ None →
+            G.seen ground.new ≡ G.seen ground.old }
     {
         ask(own, &self.ops, what, page, &mut self.first);
         let question = sent(&self.ops, &self.first);
@@ -132,8 +134,8 @@ impl Wire {
         Ok(())
     }
 
-    /// The ground orders a node whose parent it is, and takes its answer; it is written once both frames were read. An
-    /// error leaves the node's table and the ground's pages.
+    /// The ground orders a node whose parent it is, and takes its answer; it is written once both frames were read, if bytes
+    /// came up, and else it is not called. An error leaves the node's table and the ground's pages.
     pub fn order_by_ground<G: Ground>(
         &mut self,
         own: &mut Table,
@@ -151,6 +153,7 @@ impl Wire {
         ensures ground_left { OnErr result ((G.seen ground.new).pages ≡ (G.seen ground.old).pages) }
         ensures call { IsOneCall (G.seen ground.old) (G.seen ground.new) }
         ensures calm { OnOk result (IsCalmCall (G.seen ground.old) (G.seen ground.new)) }
+        ensures idle { called_up (side own.old page) what ≡ None → G.seen ground.new ≡ G.seen ground.old }
     {
         order_of_ground(own, &self.ops, what, page, &mut self.first);
         let order = sent(&self.ops, &self.first);

@@ -49,7 +49,7 @@ impl Tables {
     ghost use Rattle.tower_core.specs.declared.step.Step.TheVariants.{Reads};
     ghost use Rattle.page_exchange.specs.Allowed.{AllowAsking, AllowCalling, AllowsReading, AllowsWriting};
     ghost use Rattle.page_exchange.specs.Ground.{IsCalmCall, IsOneCall, UnlessFault, pages_given};
-    ghost use Rattle.page_exchange.specs.Steps.{AreSentAt, IsSent, given_up, step_asked, step_called};
+    ghost use Rattle.page_exchange.specs.Steps.{AreSentAt, IsSent, NeedsGround, given_up, step_asked, step_called};
     ghost use Rattle.page_exchange.specs.Listed.{LacksRoom};
     ghost use Rattle.page_exchange.specs.Tables.{tree_of, paged_of, sides, uses, AreLeft, Follow, IsCause, IsSameFile, IsUnderFile, MayAskFrames};
 
@@ -171,6 +171,7 @@ impl Tables {
         ensures call { IsOneCall (G.seen ground.old) (G.seen ground.new) }
         ensures calm { UnlessFault result (IsCalmCall (G.seen ground.old) (G.seen ground.new)) }
         ensures same { IsSameFile self.old self.new }
+        ensures idle { (NeedsGround (tree_of self.old) (step_asked what node) (sides self.old page) → ⊥) → G.seen ground.new ≡ G.seen ground.old }
     {
         let own = &mut self.nodes[node as usize];
         self.wire
@@ -209,8 +210,8 @@ impl Tables {
     }
 
     /// A node asks its parent, which is a node or the ground, and takes the answer. The ground is read before it answers a
-    /// node that has nothing of the page, and it is written once both frames were read. An error leaves every table and
-    /// the ground's pages. Memory may lack only for a page of which the node has nothing.
+    /// node that has nothing of the page, it is written once both frames were read, and for nothing else it is called. An
+    /// error leaves every table and the ground's pages. Memory may lack only for a page of which the node has nothing.
     pub fn ask<G: Ground>(
         &mut self,
         ground: &mut G,
@@ -236,6 +237,7 @@ impl Tables {
         ensures call { IsOneCall (G.seen ground.old) (G.seen ground.new) }
         ensures calm { UnlessFault result (IsCalmCall (G.seen ground.old) (G.seen ground.new)) }
         ensures same { IsSameFile self.old self.new }
+        ensures idle { (NeedsGround (tree_of self.old) (step_asked what node) (sides self.old page) → ⊥) → G.seen ground.new ≡ G.seen ground.old }
     {
         if self.tree.parent(node) == 0 {
             self.ask_ground(ground, node, what, page)
@@ -268,6 +270,7 @@ impl Tables {
         ensures call { IsOneCall (G.seen ground.old) (G.seen ground.new) }
         ensures calm { OnOk result (IsCalmCall (G.seen ground.old) (G.seen ground.new)) }
         ensures same { IsSameFile self.old self.new }
+        ensures idle { (NeedsGround (tree_of self.old) (step_called what node) (sides self.old page) → ⊥) → G.seen ground.new ≡ G.seen ground.old }
     {
         let own = &mut self.nodes[node as usize];
         self.wire.order_by_ground(own, ground, what, page)
@@ -297,7 +300,8 @@ impl Tables {
     }
 
     /// A node's parent, which is a node or the ground, gives it an order, and takes its answer. The ground is written once
-    /// both frames were read. An error leaves every table and the ground's pages.
+    /// both frames were read, if bytes came up to it, and else it is not called. An error leaves every table and the
+    /// ground's pages.
     pub fn order<G: Ground>(
         &mut self,
         ground: &mut G,
@@ -320,6 +324,7 @@ impl Tables {
         ensures call { IsOneCall (G.seen ground.old) (G.seen ground.new) }
         ensures calm { OnOk result (IsCalmCall (G.seen ground.old) (G.seen ground.new)) }
         ensures same { IsSameFile self.old self.new }
+        ensures idle { (NeedsGround (tree_of self.old) (step_called what node) (sides self.old page) → ⊥) → G.seen ground.new ≡ G.seen ground.old }
     {
         if self.tree.parent(node) == 0 {
             self.order_by_ground(ground, node, what, page)

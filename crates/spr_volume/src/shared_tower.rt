@@ -8,6 +8,7 @@ ghost use Rattle.hist_plain.specs.Plain.{asked_by};
 ghost use Rattle.tower_core.specs.TreeShape.{IsUpper, nodes};
 ghost use Rattle.tower_log.specs.Log.{place_of};
 ghost use Rattle.stack_engine.specs.Engine.{IsSound, events_in, file_in, tree_in};
+ghost use Rattle.stack_engine.specs.Plans.{AccessNeedsDisks, SyncNeedsDisks};
 ghost use Rattle.stack_engine.specs.Tower.{Advances, AdvancesSync, Fails, IsDone};
 ghost use Rattle.spr_volume.specs.TowerCalls.{Tries, access_of, sync_of};
 ghost use Rattle.spr_volume.specs.Later.{IsLater};
@@ -127,6 +128,7 @@ impl<G: Ground> SharedTower<G> {
         ensures tries { Tries caller (access_of caller node life op.now) (log_of self.old) (log_of self.new) out.new result }
         ensures advances { IfOk result (Advances caller (length (mine (events_in self.old.tower.engine) caller)) node life op.now self.old.tower self.new.tower) }
         ensures fails { IfErr result (Fails caller self.old.tower self.new.tower) }
+        ensures idle { (AccessNeedsDisks self.old.tower.engine node life op.now → ⊥) → self.new.tower.engine.ground ≡ self.old.tower.engine.ground }
     {
         let number = self.tower.number(caller);
         self.tower.sound();
@@ -153,6 +155,7 @@ impl<G: Ground> SharedTower<G> {
         ensures done { IfOk result (λ moved. (answer : _) → IsDone answer moved → answer ≡ ADone) }
         ensures advances { IfOk result (AdvancesSync caller (length (mine (events_in self.old.tower.engine) caller)) node from keep self.old.tower self.new.tower) }
         ensures fails { IfErr result (Fails caller self.old.tower self.new.tower) }
+        ensures idle { (SyncNeedsDisks self.old.tower.engine node from keep → ⊥) → self.new.tower.engine.ground ≡ self.old.tower.engine.ground }
     {
         let number = self.tower.number(caller);
         self.tower.sound();

@@ -9,4 +9,6 @@ pub mod Refusing
 pub mod Sending
 pub mod Making
 pub mod Granting
+pub mod Needs
+pub mod Sparing
 pub mod Driving

@@ -19,6 +19,7 @@ use Rattle.tower_log.specs.Trail.{TrailSeen}
 use Rattle.stack_engine.specs.declared.refusal.StepErr.{StepErr}
 use Rattle.stack_engine.specs.declared.refusal.StepErr.TheVariants as errors
 use Rattle.stack_engine.specs.Engine.{EngineSeen, IsSheetOf, events_in, log_in, tree_in}
+use Rattle.stack_engine.specs.Messages.{NeedsDisks}
 use Rattle.stack_engine.specs.Moves.{Enters, IsRefused, IsWhy, Makes, Sends, StandsFor}
 use Rattle.stack_engine.specs.Opened.{IsOf}
 use Rattle.stack_engine.specs.Start.{IsFullOrNoMemory}
@@ -69,10 +70,11 @@ module _ (old mid new : EngineSeen) (r : ℕ) (is : mid ≡ roomy old r) where
         stands = stands_room (events.PageIn node page write) event h.stands;
         enters = record { goes = record { file = h.enters.goes.file; call = h.enters.goes.call; of = λ opening of. h.enters.goes.of opening (of_roomy opening old r of) }; log = h.enters.log; calm = h.enters.calm };
         spare = h.spare;
+        idle = h.idle;
       }
-      by (events.ZeroFill node page write) h = record { stands = h.stands; enters = record { goes = record { file = h.enters.goes.file; call = h.enters.goes.call; of = λ opening of. h.enters.goes.of opening (of_roomy opening old r of) }; log = h.enters.log; calm = h.enters.calm }; spare = h.spare }
-      by (events.Access caller number node life op) h = record { stands = h.stands; enters = record { goes = record { file = h.enters.goes.file; call = h.enters.goes.call; of = λ opening of. h.enters.goes.of opening (of_roomy opening old r of) }; log = h.enters.log; calm = h.enters.calm }; spare = h.spare }
-      by _ h = record { stands = h.stands; enters = record { goes = record { file = h.enters.goes.file; call = h.enters.goes.call; of = λ opening of. h.enters.goes.of opening (of_roomy opening old r of) }; log = h.enters.log; calm = h.enters.calm }; spare = h.spare }
+      by (events.ZeroFill node page write) h = record { stands = h.stands; enters = record { goes = record { file = h.enters.goes.file; call = h.enters.goes.call; of = λ opening of. h.enters.goes.of opening (of_roomy opening old r of) }; log = h.enters.log; calm = h.enters.calm }; spare = h.spare; idle = h.idle }
+      by (events.Access caller number node life op) h = record { stands = h.stands; enters = record { goes = record { file = h.enters.goes.file; call = h.enters.goes.call; of = λ opening of. h.enters.goes.of opening (of_roomy opening old r of) }; log = h.enters.log; calm = h.enters.calm }; spare = h.spare; idle = h.idle }
+      by _ h = record { stands = h.stands; enters = record { goes = record { file = h.enters.goes.file; call = h.enters.goes.call; of = λ opening of. h.enters.goes.of opening (of_roomy opening old r of) }; log = h.enters.log; calm = h.enters.calm }; spare = h.spare; idle = h.idle }
 
   pub makes_room : (caller number node life : ℕ) (op : Op) (answer : Answer) → Makes caller number node life op mid new answer → Makes caller number node life op old new answer
   makes_room caller number node life op answer = subst (λ (e : EngineSeen). Makes caller number node life op e new answer → Makes caller number node life op old new answer) (sym is) (λ h. by op h)
@@ -80,6 +82,10 @@ module _ (old mid new : EngineSeen) (r : ℕ) (is : mid ≡ roomy old r) where
       by : (op : Op) → Makes caller number node life op (roomy old r) new answer → Makes caller number node life op old new answer
       by (Op.Read page off len) h = record { is = h.is; enters = record { goes = record { file = h.enters.goes.file; call = h.enters.goes.call; of = λ opening of. h.enters.goes.of opening (of_roomy opening old r of) }; log = h.enters.log; calm = h.enters.calm }; ground = h.ground }
       by _ h = record { is = h.is; enters = record { goes = record { file = h.enters.goes.file; call = h.enters.goes.call; of = λ opening of. h.enters.goes.of opening (of_roomy opening old r of) }; log = h.enters.log; calm = h.enters.calm }; ground = h.ground }
+
+  -- what a message that needs no disk leaves
+  pub idle_room : (event : Event) (after : Seen) → ((NeedsDisks mid event → ⊥) → after ≡ mid.ground) → (NeedsDisks old event → ⊥) → after ≡ old.ground
+  idle_room event after = subst (λ (e : EngineSeen). ((NeedsDisks e event → ⊥) → after ≡ e.ground) → (NeedsDisks old event → ⊥) → after ≡ old.ground) (sym is) (λ h. h)
 
   why_room : (caller : ℕ) (err : StepErr) → IsWhy caller (roomy old r) new err → IsWhy caller old new err
   why_room caller (errors.StoreFault disk count) h = h

@@ -35,7 +35,7 @@ use Rattle.tower_shows.proofs.Rights.{rights_step}
 use Rattle.tower_shows.proofs.Bytes.{bytes_step}
 use Rattle.tower_shows.proofs.Firsts.{grant_kept, grant_others, grant_zeros}
 use Rattle.stack_engine.specs.Engine.{EngineSeen, IsEngine, IsNext, IsSound, column_in, events_in, file_in, log_in, sides_in, tree_in, uses_in}
-use Rattle.stack_engine.specs.Messages.{IsPush, event_asked, event_called, event_granted}
+use Rattle.stack_engine.specs.Messages.{IsPush, NeedsDisks, event_asked, event_called, event_granted}
 use Rattle.stack_engine.specs.Moves.{Enters, FindsZeros, Sends, StandsFor, bytes_kept}
 use Rattle.stack_engine.specs.Opened.{IsOf, from_after, last_from}
 use Rattle.stack_engine.proofs.Rooms.{roomy}
@@ -150,13 +150,14 @@ order_brings Called.WriteBack node shape brings sides base next' next'' h = h
 order_brings Called.DeleteRange node shape brings sides base next' next'' h = h
 order_brings Called.Destroy node shape brings sides base next' next'' h = h
 
-pub plain_sends : (old new : EngineSeen) (event : Event) (page : ℕ) (step : Step) → IsSound old → IsPlain event → IsMessage old new event [] page step → (event' : Event) → event' ≡ event → new.trail.spare ≡ old.trail.spare → Sends event old new event'
-plain_sends old new event page step sound plain m event' is spare = subst (λ (e : Event). Sends event old new e) (sym is) (record {
+pub plain_sends : (old new : EngineSeen) (event : Event) (page : ℕ) (step : Step) → IsSound old → IsPlain event → IsMessage old new event [] page step → (event' : Event) → event' ≡ event → new.trail.spare ≡ old.trail.spare → ((NeedsDisks old event → ⊥) → new.ground ≡ old.ground) → Sends event old new event'
+plain_sends old new event page step sound plain m event' is spare idle = subst (λ (e : Event). Sends event old new e) (sym is) (record {
   stands = plain.stands old new;
   enters = subst (λ (bytes : List ℕ). Enters (record { event = event; answer = None; bytes = bytes }) old new) (sym (plain.no_bytes old new))
       (sent_enters old new event [] page step sound m (λ opening of. plain.filled (tree_in old) (file_in old).page_size opening (events_in old))
       (λ opening of p none grant. absurd (let both : true ≡ false = sym grant ∙ plain.no_grant p in cc)));
   spare = spare;
+  idle = idle;
 })
 
 -- A GRANT
@@ -212,12 +213,13 @@ module _ (old new : EngineSeen) (sound : IsSound old) (node page : ℕ) (write z
   stands true e = ((λ f. refl), (λ no'. absurd (no' (found (sym e)))))
   stands false e = ((λ f. absurd (missed (sym e) f)), (λ no'. refl))
 
-  pub grant_sends : (event : Event) → event ≡ event_granted zeros node page write → new.trail.spare ≡ old.trail.spare → Sends (events.PageIn node page write) old new event
-  grant_sends event is spare = subst (λ (e : Event). Sends (events.PageIn node page write) old new e) (sym is) (record {
+  pub grant_sends : (event : Event) → event ≡ event_granted zeros node page write → new.trail.spare ≡ old.trail.spare → ((NeedsDisks old (events.PageIn node page write) → ⊥) → new.ground ≡ old.ground) → Sends (events.PageIn node page write) old new event
+  grant_sends event is spare idle = subst (λ (e : Event). Sends (events.PageIn node page write) old new e) (sym is) (record {
     stands = stands zeros refl;
     enters = subst (λ (b : List ℕ). Enters (record { event = event_granted zeros node page write; answer = None; bytes = b }) old new) bytes_are
         (sent_enters old new (event_granted zeros node page write) bytes page (Grants node write) sound m (λ opening of. filled opening of zeros refl) kept);
     spare = spare;
+    idle = idle;
   })
 
 -- FROM WHAT THE CODE DID

@@ -1,17 +1,20 @@
 -- The page messages that an engine sends, as events.
-use Rattle.std.specs.Prelude.{◌≡◌, ℕ, Bool, true, false, if◌then◌else◌, [], ◌∷◌, ◌++◌}
+use Rattle.std.specs.Prelude.{◌≡◌, ℕ, Bool, true, false, if◌then◌else◌, [], ◌∷◌, ◌++◌, IsSomeAnd}
 use Rattle.hist_plain.specs.declared.event.Event.{Event}
 use Rattle.hist_plain.specs.declared.event.Event.TheVariants as events
+use Rattle.hist_plain.specs.Event.{page_of}
+use Rattle.tower_core.specs.Trail.{step_of}
 use Rattle.page_messages.specs.declared.kinds.Asked.{Asked}
 use Rattle.page_messages.specs.declared.kinds.Called.{Called}
 use Rattle.page_exchange.specs.declared.ground.GroundErr.{GroundErr}
 use Rattle.page_exchange.specs.declared.ground.GroundErr.TheVariants as causes
+use Rattle.page_exchange.specs.Steps.{NeedsGround}
 use Rattle.tower_log.specs.declared.logged.Logged.TheVariants.{Noted}
 use Rattle.tower_log.specs.Trail.{TrailSeen}
 use Rattle.layer_laws.specs.Granted.{is_granted_in}
 use Rattle.stack_engine.specs.declared.refusal.StepErr.{StepErr}
 use Rattle.stack_engine.specs.declared.refusal.StepErr.TheVariants as errors
-use Rattle.stack_engine.specs.Engine.{EngineSeen, events_in, file_in}
+use Rattle.stack_engine.specs.Engine.{EngineSeen, events_in, file_in, sides_in, state_in, tree_in}
 
 -- a message that a plan may name. A grant is asked for as a PageIn, whatever it finds
 abbrev pub IsPageMessage : Event → Type 0
@@ -24,6 +27,10 @@ IsPageMessage (events.DenyWrites node page) = Unit {0}
 IsPageMessage (events.WriteBack node page) = Unit {0}
 IsPageMessage (events.DeleteRange node page) = Unit {0}
 IsPageMessage event = ⊥
+
+-- THE EVENT NEEDS THE DISKS: it is a message that needs the ground
+abbrev pub NeedsDisks : EngineSeen → Event → Type 0
+NeedsDisks e event = IsSomeAnd (page_of event) (λ page. NeedsGround (tree_in e) (step_of (state_in e).life page event) (sides_in e page))
 
 -- a question that sends a copy up where it is changed: a page that goes out of a leaf, or one of which a right is kept
 abbrev pub IsPush : Asked → Type 0

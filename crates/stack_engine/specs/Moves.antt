@@ -19,6 +19,7 @@ use Rattle.tower_log.specs.Log.{place_of}
 use Rattle.stack_engine.specs.declared.refusal.StepErr.{StepErr}
 use Rattle.stack_engine.specs.declared.refusal.StepErr.TheVariants as errors
 use Rattle.stack_engine.specs.Engine.{EngineSeen, column_in, events_in, file_in, log_in, sides_in, state_in}
+use Rattle.stack_engine.specs.Messages.{NeedsDisks}
 use Rattle.stack_engine.specs.Opened.{IsOf}
 
 -- the engine is of the same file, and called its ground once at most
@@ -49,11 +50,12 @@ abbrev pub bytes_kept : EngineSeen → EngineSeen → Event → List ℕ
 bytes_kept old new (events.PageIn node page write) = if is_granted_in page (events_in old) then [] else (sides_in new page node).copy
 bytes_kept old new asked = []
 
--- a page message was sent, and stands in the log
+-- a page message was sent, and stands in the log. It calls the ground only if it needs it
 pub record Sends (asked : Event) (old new : EngineSeen) (event : Event) : Type 0 where
   pub stands : StandsFor old new asked event
   pub enters : Enters (record { event = event; answer = None; bytes = bytes_kept old new asked }) old new
   pub spare : new.trail.spare ≡ old.trail.spare
+  pub idle : (NeedsDisks old asked → ⊥) → new.ground ≡ old.ground
 
 -- why a call entered no event
 abbrev pub IsWhy : ℕ → EngineSeen → EngineSeen → StepErr → Type 0

@@ -1,16 +1,16 @@
 -- Which event comes next, and how many are left.
-use Rattle.std.specs.Prelude.{◌≡◌, ℕ, ◌+◌, ◌<◌, Option, Some, None}
+use Rattle.std.specs.Prelude.{◌≡◌, ◌⊎◌, ℕ, ◌+◌, ◌<◌, Option, Some, None}
 use Rattle.hist_plain.specs.declared.event.Event.{Event}
 use Rattle.hist_plain.specs.declared.event.Keep.{Keep}
 use Rattle.hist_plain.specs.declared.event.Op.{Op}
 use Rattle.hist_plain.specs.declared.event.Op.TheVariants as ops
 use Rattle.hist_plain.specs.Event.{page_of_op}
 use Rattle.tower_core.specs.declared.right.Right.{Right}
-use Rattle.tower_core.specs.Trail.{IsSettled, State, state_after}
+use Rattle.tower_core.specs.Trail.{IsAllSettled, IsSettled, State, state_after}
 use Rattle.tower_plan.specs.Plan.{IsNext as IsNextOfPlan, MayAccessFor, cost_of}
 use Rattle.tower_plan.specs.Sync.{IsNextOfSync, IsOneLess, IsSyncCost, IsUnsettled}
 use Rattle.stack_engine.specs.declared.plans.Missed.{Missed}
-use Rattle.stack_engine.specs.Messages.{IsPageMessage}
+use Rattle.stack_engine.specs.Messages.{IsPageMessage, NeedsDisks}
 use Rattle.stack_engine.specs.Engine.{EngineSeen, IsNext, column_in, file_in, state_in, tree_in}
 
 -- TOWARDS AN ACCESS that is not allowed yet: the event is the plan's, and then one less is left
@@ -58,3 +58,21 @@ pub record IsMissed (e : EngineSeen) (node life : ℕ) (op : Op) (missed : Misse
   pub steps : StepsTo e node missed.page want missed.event
   pub kind : IsPageMessage missed.event
   pub next : IsNext e missed.event
+
+-- THE ACCESS NEEDS THE DISKS: it is not allowed yet, and the message that comes next for it needs them
+pub record AccessNeedsDisks (e : EngineSeen) (node life : ℕ) (op : Op) : Type 0 where
+  pub missed : Missed
+  pub is : IsMissed e node life op missed
+  pub needs : NeedsDisks e missed.event
+
+-- the push of the lowest page that is not settled needs the disks
+pub record PushNeedsDisks (e : EngineSeen) (node from : ℕ) (keep : Keep) : Type 0 where
+  pub page : ℕ
+  pub event : Event
+  pub lowest : IsLowestUnsettled e from page
+  pub settles : SettlesBy e page node from keep event
+  pub needs : NeedsDisks e event
+
+-- THE SYNC NEEDS THE DISKS: every page is settled, so that they are made to keep them, or the push needs them
+abbrev pub SyncNeedsDisks : EngineSeen → ℕ → ℕ → Keep → Type 0
+SyncNeedsDisks e node from keep = IsAllSettled (file_in e).pages from (state_in e) ⊎ PushNeedsDisks e node from keep

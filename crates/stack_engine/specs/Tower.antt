@@ -1,5 +1,5 @@
 -- What contracts see of a tower, and what its calls do.
-use Rattle.std.specs.Prelude.{◌≡◌, ℕ, ◌<◌, List, [], length, Some, None}
+use Rattle.std.specs.Prelude.{◌≡◌, ℕ, ◌<◌, List, [], length, Result, Some, None}
 use Rattle.hist_plain.specs.declared.event.Answer.{Answer}
 use Rattle.hist_plain.specs.declared.event.Event.{Event}
 use Rattle.hist_plain.specs.declared.event.Event.TheVariants as events
@@ -13,8 +13,9 @@ use Rattle.stack_engine.specs.declared.moved.Moved.{Moved}
 use Rattle.stack_engine.specs.declared.moved.Moved.TheVariants.{Busy, Done, Stepped}
 use Rattle.stack_engine.specs.declared.refusal.StepErr.{StepErr}
 use Rattle.stack_engine.specs.declared.turns.Turn.{Turn}
+use Rattle.stack_engine.specs.Accesses.{LowersSpare}
 use Rattle.stack_engine.specs.Engine.{EngineSeen, IsNext, column_in, events_in, file_in}
-use Rattle.stack_engine.specs.Messages.{IsPageMessage}
+use Rattle.stack_engine.specs.Messages.{IsPageMessage, NeedsDisks}
 use Rattle.stack_engine.specs.Moves.{Enters, IsRefused, Makes, Sends}
 use Rattle.stack_engine.specs.Plans.{IsLowestUnsettled, SettlesBy, StepsTo, Wants}
 use Rattle.stack_engine.specs.Turns.{blocker, with_turn, without_turns}
@@ -102,3 +103,13 @@ abbrev pub IsStepOf : EngineSeen → ℕ → Event → Type 0
 IsStepOf e caller (events.Access by number node life op) = (by ≡ caller) × (number ≡ length (mine (events_in e) caller))
 IsStepOf e caller (events.Synced by number node from keep) = (by ≡ caller) × (number ≡ length (mine (events_in e) caller))
 IsStepOf e caller event = IsPageMessage event
+
+-- THE STEP NEEDS THE DISKS: a completed sync makes them keep their pages, and a message may need them
+abbrev pub StepNeedsDisks : EngineSeen → Event → Type 0
+StepNeedsDisks e (events.Synced caller number node from keep) = Unit {0}
+StepNeedsDisks e event = NeedsDisks e event
+
+-- the spare room after a step: only a read lowers it
+abbrev pub SparesStep : {A : Type 0} → EngineSeen → EngineSeen → Event → Result A StepErr → Type 0
+SparesStep old new (events.Access caller number node life op) r = LowersSpare node life op old new r
+SparesStep old new event r = new.trail.spare ≡ old.trail.spare

@@ -67,7 +67,7 @@ fn copy_op(alloc: Global, op: &Op) -> Result<Op, AllocError>
 }
 
 impl<G: Ground> Engine<G> {
-    /// Makes an access that is allowed. The bytes that it reads are then in `out`.
+    /// Makes an access that is allowed. The bytes that it reads are then in `out`. The ground is not called.
     pub(crate) fn access(&mut self, at: Place, op: &Op, out: &mut [u8]) -> Result<Answer, StepErr>
         requires next { IsNext self.old (AnEvent.Access at.caller at.number at.node at.life op.now) }
         requires number { at.number ≡ length (mine (events_in self.old) at.caller) }
@@ -76,6 +76,7 @@ impl<G: Ground> Engine<G> {
         ensures bytes { IfOk result (λ answer. answer ≡ ABytes → out.new ≡ bytes_to self.old at.node at.life op.now) }
         ensures refused { IfErr result (IsRefused at.caller self.old self.new) }
         ensures spare { SparesRead at.node at.life op.now self.old self.new result }
+        ensures ground { self.new.ground ≡ self.old.ground }
     {
         let now = self.book.sheet.life(at.node);
         match op {
@@ -96,6 +97,7 @@ impl<G: Ground> Engine<G> {
         ensures is { IfOk result (λ a. a ≡ answer) }
         ensures refused { IfErr result (IsRefused at.caller self.old self.new) }
         ensures spare { self.new.trail.spare ≡ self.old.trail.spare }
+        ensures ground { self.new.ground ≡ self.old.ground }
     {
         self.make_room()?;
         let copy = copy_op(self.alloc, op)?;
@@ -125,6 +127,7 @@ impl<G: Ground> Engine<G> {
         ensures bytes { IfOk result (λ _. out.new ≡ bytes_to self.old at.node at.life (AnOp.Read page off len)) }
         ensures refused { IfErr result (IsRefused at.caller self.old self.new) }
         ensures spare { SparesRead at.node at.life (AnOp.Read page off len) self.old self.new result }
+        ensures ground { self.new.ground ≡ self.old.ground }
     {
         if self.book.trail.len() >= MAX_EVENTS {
             return Err(StepErr::TrailFull);
@@ -152,6 +155,7 @@ impl<G: Ground> Engine<G> {
         ensures is { IfOk result (λ a. a ≡ Answer.Done) }
         ensures refused { IfErr result (IsRefused at.caller self.old self.new) }
         ensures spare { self.new.trail.spare ≡ self.old.trail.spare }
+        ensures ground { self.new.ground ≡ self.old.ground }
     {
         self.make_room()?;
         let copy = Bytes::of(self.alloc, bytes.as_slice())?;
@@ -178,6 +182,7 @@ impl<G: Ground> Engine<G> {
         ensures is { IfOk result (λ a. a ≡ Answer.Done) }
         ensures refused { IfErr result (IsRefused at.caller self.old self.new) }
         ensures spare { self.new.trail.spare ≡ self.old.trail.spare }
+        ensures ground { self.new.ground ≡ self.old.ground }
     {
         self.make_room()?;
         self.tables.blank(at.node, page);

@@ -8,7 +8,7 @@ ghost use Rattle.tower_core.specs.TreeShape.{IsUpper};
 ghost use Rattle.page_exchange.specs.Allowed.{AllowsReading, grant_asked};
 ghost use Rattle.page_exchange.specs.Tables.{paged_of, sides, tree_of};
 ghost use Rattle.stack_engine.specs.Engine.{IsNext, file_in};
-ghost use Rattle.stack_engine.specs.Messages.{IsPageMessage, IsPush, Refuses, event_asked, event_called, event_granted, kept_size};
+ghost use Rattle.stack_engine.specs.Messages.{IsPageMessage, IsPush, NeedsDisks, Refuses, event_asked, event_called, event_granted, kept_size};
 ghost use Rattle.stack_engine.specs.Moves.{IsRefused, Sends};
 ghost use Rattle.tower_log.specs.declared.logged.Logged.{Logged as ALogged};
 
@@ -137,12 +137,14 @@ fn keep_page(tables: &Tables, room: Vec<u8>, node: u32, page: u32) -> Bytes
 }
 
 impl<G: Ground> Engine<G> {
-    /// Sends a page message that the plan names, for a caller, and gives the event that stands in the log for it.
+    /// Sends a page message that the plan names, for a caller, and gives the event that stands in the log for it. The ground
+    /// is called only if the message needs the disks.
     pub(crate) fn message(&mut self, caller: u32, event: Event) -> Result<Event, StepErr>
         requires kind { IsPageMessage event }
         requires next { IsNext self.old event }
         ensures sends { IfOk result (Sends event self.old self.new) }
         ensures refused { IfErr result (IsRefused caller self.old self.new) }
+        ensures idle { (NeedsDisks self.old event → ⊥) → self.new.ground ≡ self.old.ground }
     {
         match event {
             Event::PageIn { node, page, write } => self.grant(caller, node, page, write),
@@ -165,6 +167,7 @@ impl<G: Ground> Engine<G> {
         requires next { IsNext self.old (event_asked what node page) }
         ensures sends { IfOk result (Sends (event_asked what node page) self.old self.new) }
         ensures refused { IfErr result (IsRefused caller self.old self.new) }
+        ensures idle { (NeedsDisks self.old (event_asked what node page) → ⊥) → self.new.ground ≡ self.old.ground }
     {
         self.make_room()?;
         match self.tables.ask(&mut self.ground, node, what, page) {
@@ -182,6 +185,7 @@ impl<G: Ground> Engine<G> {
         requires next { IsNext self.old (event_called what node page) }
         ensures sends { IfOk result (Sends (event_called what node page) self.old self.new) }
         ensures refused { IfErr result (IsRefused caller self.old self.new) }
+        ensures idle { (NeedsDisks self.old (event_called what node page) → ⊥) → self.new.ground ≡ self.old.ground }
     {
         self.make_room()?;
         match self.tables.order(&mut self.ground, node, what, page) {
@@ -211,6 +215,7 @@ impl<G: Ground> Engine<G> {
         requires next { IsNext self.old (AnEvent.PageIn node page write) }
         ensures sends { IfOk result (Sends (AnEvent.PageIn node page write) self.old self.new) }
         ensures refused { IfErr result (IsRefused caller self.old self.new) }
+        ensures idle { (NeedsDisks self.old (AnEvent.PageIn node page write) → ⊥) → self.new.ground ≡ self.old.ground }
     {
         self.make_room()?;
         let room = self.first_room(page)?;

@@ -7,9 +7,10 @@ ghost use Rattle.hist_plain.specs.Plain.{asked_by};
 ghost use Rattle.hist_plain.specs.declared.event.Event.{Event as AnEvent};
 ghost use Rattle.hist_plain.specs.History.{mine};
 ghost use Rattle.page_ground.specs.Seen.{AllKept};
+ghost use Rattle.stack_engine.specs.Accesses.{LowersSpare};
 ghost use Rattle.stack_engine.specs.Engine.{IsNext, events_in};
 ghost use Rattle.stack_engine.specs.Moves.{Enters, IsRefused, Makes};
-ghost use Rattle.stack_engine.specs.Tower.{IsStepOf, TakesStep};
+ghost use Rattle.stack_engine.specs.Tower.{IsStepOf, SparesStep, StepNeedsDisks, TakesStep};
 
 use crate::accesses::Place;
 use crate::engine::Engine;
@@ -66,6 +67,8 @@ impl<G: Ground> Engine<G> {
         requires kind { IsStepOf self.old caller event }
         ensures takes { OnOk result (TakesStep self.old self.new event) }
         ensures refused { IfErr result (IsRefused caller self.old self.new) }
+        ensures idle { (StepNeedsDisks self.old event → ⊥) → self.new.ground ≡ self.old.ground }
+        ensures spare { SparesStep self.old self.new event result }
     {
         match event {
             Event::Access {
@@ -106,6 +109,8 @@ impl<G: Ground> Engine<G> {
         requires number { at.number ≡ length (mine (events_in self.old) at.caller) }
         ensures makes { OnOk result ((answer : AnAnswer) × Makes at.caller at.number at.node at.life op.now self.old self.new answer) }
         ensures refused { IfErr result (IsRefused at.caller self.old self.new) }
+        ensures ground { self.new.ground ≡ self.old.ground }
+        ensures spare { LowersSpare at.node at.life op.now self.old self.new result }
     {
         self.make_room()?;
         let mut out = vec![in self.alloc; 0u8; asked(op) as usize]?;

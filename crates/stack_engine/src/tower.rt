@@ -14,12 +14,14 @@ ghost use Rattle.tower_log.specs.Log.{place_of};
 ghost use Rattle.tower_shows.specs.Began.{ArePagesOf};
 ghost use Rattle.page_exchange.specs.Tables.{IsUnderFile};
 ghost use Rattle.tower_core.specs.Trail.{IsSettled};
+ghost use Rattle.stack_engine.specs.Accesses.{SparesRead, SparesTry};
 ghost use Rattle.stack_engine.specs.Engine.{IsNext, IsSound, column_in, events_in, file_in, log_in, sides_in, state_in, tree_in, uses_in};
+ghost use Rattle.stack_engine.specs.Messages.{NeedsDisks};
 ghost use Rattle.stack_engine.specs.Moves.{IsRefused, bytes_to};
 ghost use Rattle.stack_engine.specs.Opened.{IsOf};
-ghost use Rattle.stack_engine.specs.Plans.{IsLowestUnsettled, IsMissed};
+ghost use Rattle.stack_engine.specs.Plans.{AccessNeedsDisks, IsLowestUnsettled, IsMissed, PushNeedsDisks, SyncNeedsDisks};
 ghost use Rattle.stack_engine.specs.Start.{Opens};
-ghost use Rattle.stack_engine.specs.Tower.{Advances, AdvancesSync, Fails, IsDone, IsStepOf, TakesStep};
+ghost use Rattle.stack_engine.specs.Tower.{Advances, AdvancesSync, Fails, IsDone, IsStepOf, SparesStep, StepNeedsDisks, TakesStep};
 ghost use Rattle.stack_engine.specs.Turns.{blocker, without_turns};
 
 use crate::accesses::Place;
@@ -184,6 +186,8 @@ impl<G: Ground> Tower<G> {
         ensures takes { OnOk result (TakesStep self.old.engine self.new.engine event) }
         ensures turns { OnOk result (self.new.turns ≡ self.old.turns) }
         ensures fails { IfErr result (Fails caller self.old self.new) }
+        ensures idle { (StepNeedsDisks self.old.engine event → ⊥) → self.new.engine.ground ≡ self.old.engine.ground }
+        ensures spare { SparesStep self.old.engine self.new.engine event result }
     {
         let result = self.engine.step(caller, event);
         if result.is_err() {
@@ -193,7 +197,8 @@ impl<G: Ground> Tower<G> {
     }
 
     /// Tries an access of a caller at a layer, of a life of it. If it is allowed it is made, and the bytes that it reads are
-    /// then in `out`. If not, the message is sent that comes next for it, unless another caller is before this one.
+    /// then in `out`: the ground is not called, and a read takes no memory while there is room of `reserve`. If not, the
+    /// message is sent that comes next for it, unless another caller is before this one.
     pub fn advance(
         &mut self,
         caller: u32,
@@ -210,6 +215,8 @@ impl<G: Ground> Tower<G> {
         ensures advances { IfOk result (Advances caller number node life op.now self.old self.new) }
         ensures bytes { IfOk result (λ moved. IsDone ABytes moved → out.new ≡ bytes_to self.old.engine node life op.now) }
         ensures fails { IfErr result (Fails caller self.old self.new) }
+        ensures idle { (AccessNeedsDisks self.old.engine node life op.now → ⊥) → self.new.engine.ground ≡ self.old.engine.ground }
+        ensures spare { SparesTry caller number node life op.now self.old.engine self.new.engine result }
     {
         let at = Place {
             caller,
@@ -231,6 +238,8 @@ impl<G: Ground> Tower<G> {
         ensures advances { IfOk result (Advances at.caller at.number at.node at.life op.now self.old self.new) }
         ensures bytes { IfOk result (λ moved. IsDone ABytes moved → out.new ≡ bytes_to self.old.engine at.node at.life op.now) }
         ensures fails { IfErr result (Fails at.caller self.old self.new) }
+        ensures ground { self.new.engine.ground ≡ self.old.engine.ground }
+        ensures spare { SparesRead at.node at.life op.now self.old.engine self.new.engine result }
     {
         let result = self.engine.access(at, op, out);
         give_up_turns(at.caller, &mut self.turns);
@@ -246,6 +255,8 @@ impl<G: Ground> Tower<G> {
         ensures advances { IfOk result (Advances at.caller at.number at.node at.life op.now self.old self.new) }
         ensures open { IfOk result (λ moved. IsDone ABytes moved → ⊥) }
         ensures fails { IfErr result (Fails at.caller self.old self.new) }
+        ensures idle { (NeedsDisks self.old.engine missed.event → ⊥) → self.new.engine.ground ≡ self.old.engine.ground }
+        ensures spare { self.new.engine.trail.spare ≡ self.old.engine.trail.spare }
     {
         if let Some(holder) = blocker(at.caller, missed.page, &self.turns) {
             return Ok(Moved::Busy { holder });
@@ -264,6 +275,8 @@ impl<G: Ground> Tower<G> {
         ensures advances { IfOk result (Advances at.caller at.number at.node at.life op.now self.old self.new) }
         ensures open { IfOk result (λ moved. IsDone ABytes moved → ⊥) }
         ensures refused { IfErr result (IsRefused at.caller self.old.engine self.new.engine) }
+        ensures idle { (NeedsDisks self.old.engine missed.event → ⊥) → self.new.engine.ground ≡ self.old.engine.ground }
+        ensures spare { self.new.engine.trail.spare ≡ self.old.engine.trail.spare }
         ensures turns { OnErr result (without_turns at.caller self.new.turns ≡ without_turns at.caller self.old.turns) }
     {
         let Missed { page, event } = missed;
@@ -289,6 +302,8 @@ impl<G: Ground> Tower<G> {
         requires from { from ≤ place_of (log_in self.old.engine) }
         ensures advances { IfOk result (AdvancesSync caller number node from keep self.old self.new) }
         ensures fails { IfErr result (Fails caller self.old self.new) }
+        ensures idle { (SyncNeedsDisks self.old.engine node from keep → ⊥) → self.new.engine.ground ≡ self.old.engine.ground }
+        ensures spare { self.new.engine.trail.spare ≡ self.old.engine.trail.spare }
     {
         match self.engine.lowest_unsettled(from) {
             None => self.complete(caller, number, node, from, keep),
@@ -311,6 +326,7 @@ impl<G: Ground> Tower<G> {
         requires settled { (page : ℕ) → page < (file_in self.old.engine).pages → IsSettled from (column_in self.old.engine page) }
         ensures advances { IfOk result (AdvancesSync caller number node from keep self.old self.new) }
         ensures fails { IfErr result (Fails caller self.old self.new) }
+        ensures spare { self.new.engine.trail.spare ≡ self.old.engine.trail.spare }
     {
         let result = self.engine.synced(caller, number, node, from, keep);
         give_up_turns(caller, &mut self.turns);
@@ -334,6 +350,8 @@ impl<G: Ground> Tower<G> {
         requires lowest { IsLowestUnsettled self.old.engine from page }
         ensures advances { IfOk result (λ moved. (number : ℕ) → AdvancesSync caller number node from keep self.old self.new moved) }
         ensures fails { IfErr result (Fails caller self.old self.new) }
+        ensures idle { (PushNeedsDisks self.old.engine node from keep → ⊥) → self.new.engine.ground ≡ self.old.engine.ground }
+        ensures spare { self.new.engine.trail.spare ≡ self.old.engine.trail.spare }
     {
         let event = self.engine.next_push(page, node, from, keep);
         match self.engine.message(caller, event) {

@@ -1,10 +1,10 @@
-use Rattle.std.proofs.Common.{◌<◌, ◌∙◌, ℕ, sym, ap, subst, List, Option}
+use Rattle.std.proofs.Common.{◌≡◌, ◌<◌, ◌∙◌, ℕ, sym, ap, subst, List, Option, None}
 use Rattle.layer_laws.specs.Side.{Side}
 use Rattle.page_messages.specs.Carried.{called_up}
 use Rattle.page_messages.specs.declared.paged.PagedFile.{PagedFile}
 use Rattle.page_exchange.specs.Ground.{pages_given}
 use Rattle.page_exchange.specs.Listed.{sides_in}
-use Rattle.page_exchange.proofs.Sending.{called_given, on_ok, on_err}
+use Rattle.page_exchange.proofs.Sending.{called_given, called_nothing, on_ok, on_err}
 use Rattle.page_exchange.proofs.Singles as singles
 use Rattle.page_exchange.proofs.tables.Tables.order_by_ground.Goals as goal
 
@@ -49,3 +49,10 @@ returns-clause-ground g c =
     let one = singles.one_is c.args.self.now.tree c.args.self.now.file c.args.self.now.nodes.items c.args.node c.index_mut-own.result.now c.index_mut-own.result.now c.args.self.now.tables c.requires.upper c.index_mut-own.ensures.value in
     on_ok c.order_by_ground.result (λ e. e ∙ ap (λ (u : Option (List ℕ)). pages_given c.args.page u (g.G.Ground.seen c.args.ground.now).pages)
     (ap (λ (s : Side). called_up s c.args.what) (sym (singles.at_own c.args.self.now.tree c.args.self.now.file _ _ c.args.node _ _ c.args.self.now.tables one c.args.page)) ∙ called_given c.args.self.now.tree c.args.node c.args.what (sides_in c.args.self.now.nodes.items c.args.page) c.requires.on_ground)) c.order_by_ground.ensures.ground
+
+pub returns-clause-idle : goal.returns-clause-idle
+returns-clause-idle g c = λ needless.
+    let one = singles.one_is c.args.self.now.tree c.args.self.now.file c.args.self.now.nodes.items c.args.node c.index_mut-own.result.now c.index_mut-own.result.now c.args.self.now.tables c.requires.upper c.index_mut-own.ensures.value in
+    c.order_by_ground.ensures.idle (subst (λ (s : Side). called_up s c.args.what ≡ None)
+    (singles.at_own c.args.self.now.tree c.args.self.now.file _ _ c.args.node _ _ c.args.self.now.tables one c.args.page)
+    (called_nothing c.args.self.now.tree c.args.node c.args.what (sides_in c.args.self.now.nodes.items c.args.page) c.requires.on_ground needless))

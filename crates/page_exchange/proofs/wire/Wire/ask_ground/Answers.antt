@@ -46,3 +46,15 @@ returns-in_err-take-clause-calm g c =
 pub returns-clause-calm : goal.returns-clause-calm
 returns-clause-calm g c =
     grounds.asked_calm c.args.self.now.ops c.args.own.now c.args.page c.args.what c.ask.new.buf.bytes c.sent-question.result c.requires.may c.ask.ensures.sent c.sent-question.ensures _ _ _ c.in_ok-read_for.ensures.calm c.in_ok-read_for.ensures.idle c.in_ok-write_for.ensures.calm c.in_ok-write_for.ensures.idle
+
+pub returns-in_err-write_for-clause-idle : goal.returns-in_err-write_for-clause-idle
+returns-in_err-write_for-clause-idle g c =
+    grounds.asked_idle c.args.self.now.ops c.args.own.now c.args.page c.args.what c.ask.new.buf.bytes c.sent-question.result c.requires.may c.ask.ensures.sent c.sent-question.ensures _ _ _ c.in_ok-read_for.ensures.idle c.in_err-write_for.ensures.idle
+
+pub returns-in_err-take-clause-idle : goal.returns-in_err-take-clause-idle
+returns-in_err-take-clause-idle g c =
+    grounds.asked_idle c.args.self.now.ops c.args.own.now c.args.page c.args.what c.ask.new.buf.bytes c.sent-question.result c.requires.may c.ask.ensures.sent c.sent-question.ensures _ _ _ c.in_ok-read_for.ensures.idle c.in_ok-write_for.ensures.idle
+
+pub returns-clause-idle : goal.returns-clause-idle
+returns-clause-idle g c =
+    grounds.asked_idle c.args.self.now.ops c.args.own.now c.args.page c.args.what c.ask.new.buf.bytes c.sent-question.result c.requires.may c.ask.ensures.sent c.sent-question.ensures _ _ _ c.in_ok-read_for.ensures.idle c.in_ok-write_for.ensures.idle

@@ -25,3 +25,11 @@ returns-clause-own g c =
 pub returns-clause-ground : goal.returns-clause-ground
 returns-clause-ground g c =
     grounds.reply_given c.args.self.now.ops c.args.own.now c.args.page c.args.what c.order_of_ground.new.buf.bytes c.sent-order.result c.requires.page c.requires.obeys c.order_of_ground.ensures.sent c.sent-order.ensures c.obey.new.buf.bytes c.obey.ensures.sent c.sent-reply.result c.sent-reply.ensures _ _ c.in_ok-write_for.ensures.ok
+
+pub returns-in_err-write_for-clause-idle : goal.returns-in_err-write_for-clause-idle
+returns-in_err-write_for-clause-idle g c =
+    grounds.reply_idle c.args.self.now.ops c.args.own.now c.args.page c.args.what c.order_of_ground.new.buf.bytes c.sent-order.result c.requires.page c.requires.obeys c.order_of_ground.ensures.sent c.sent-order.ensures c.obey.new.buf.bytes c.obey.ensures.sent c.sent-reply.result c.sent-reply.ensures _ _ c.in_err-write_for.ensures.idle
+
+pub returns-clause-idle : goal.returns-clause-idle
+returns-clause-idle g c =
+    grounds.reply_idle c.args.self.now.ops c.args.own.now c.args.page c.args.what c.order_of_ground.new.buf.bytes c.sent-order.result c.requires.page c.requires.obeys c.order_of_ground.ensures.sent c.sent-order.ensures c.obey.new.buf.bytes c.obey.ensures.sent c.sent-reply.result c.sent-reply.ensures _ _ c.in_ok-write_for.ensures.idle

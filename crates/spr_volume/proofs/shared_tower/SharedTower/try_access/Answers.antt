@@ -1,9 +1,10 @@
-use Rattle.std.proofs.Common.{IfErr, IfOk, IsTrue, length, subst}
+use Rattle.std.proofs.Common.{◌≡◌, IfErr, IfOk, IsTrue, length, subst}
 use Rattle.hist_plain.specs.Event.{fits_page}
 use Rattle.hist_plain.specs.History.{mine}
 use Rattle.tower_core.specs.TreeShape.{IsUpper, TreeShape}
 use Rattle.page_messages.specs.declared.paged.PagedFile.{PagedFile}
 use Rattle.stack_engine.specs.Engine.{events_in, log_in}
+use Rattle.stack_engine.specs.Plans.{AccessNeedsDisks}
 use Rattle.stack_engine.specs.Tower.{Advances, Fails}
 use Rattle.spr_volume.specs.TowerCalls.{Tries, access_of}
 use Rattle.spr_volume.specs.TowerShared.{SharedSeen, log_of}
@@ -40,3 +41,6 @@ returns-clause-advances g c =
 
 pub returns-clause-fails : goal.returns-clause-fails
 returns-clause-fails g c = subst (λ (s : SharedSeen). IfErr c.advance-result.result (Fails c.args.caller s.tower c.advance-result.new.self)) c.self.view_is c.advance-result.ensures.fails
+
+pub returns-clause-idle : goal.returns-clause-idle
+returns-clause-idle g c = subst (λ (s : SharedSeen). (AccessNeedsDisks s.tower.engine c.args.node c.args.life c.args.op.now → ⊥) → c.advance-result.new.self.engine.ground ≡ s.tower.engine.ground) c.self.view_is c.advance-result.ensures.idle

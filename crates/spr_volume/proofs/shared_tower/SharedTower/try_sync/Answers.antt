@@ -1,9 +1,10 @@
-use Rattle.std.proofs.Common.{◌≤◌, [], IfErr, IfOk, length, subst, sym}
+use Rattle.std.proofs.Common.{◌≡◌, ◌≤◌, [], IfErr, IfOk, length, subst, sym}
 use Rattle.hist_plain.specs.History.{mine}
 use Rattle.tower_core.specs.TreeShape.{IsUpper, TreeShape}
 use Rattle.tower_log.specs.Log.{place_of}
 use Rattle.page_messages.specs.declared.paged.PagedFile.{PagedFile}
 use Rattle.stack_engine.specs.Engine.{events_in, log_in}
+use Rattle.stack_engine.specs.Plans.{SyncNeedsDisks}
 use Rattle.stack_engine.specs.Tower.{AdvancesSync, Fails}
 use Rattle.spr_volume.specs.TowerCalls.{Tries, sync_of}
 use Rattle.spr_volume.specs.TowerShared.{SharedSeen, log_of}
@@ -39,3 +40,6 @@ returns-clause-advances g c =
 
 pub returns-clause-fails : goal.returns-clause-fails
 returns-clause-fails g c = subst (λ (s : SharedSeen). IfErr c.advance_sync-result.result (Fails c.args.caller s.tower c.advance_sync-result.new.self)) c.self.view_is c.advance_sync-result.ensures.fails
+
+pub returns-clause-idle : goal.returns-clause-idle
+returns-clause-idle g c = subst (λ (s : SharedSeen). (SyncNeedsDisks s.tower.engine c.args.node c.args.from c.args.keep → ⊥) → c.advance_sync-result.new.self.engine.ground ≡ s.tower.engine.ground) c.self.view_is c.advance_sync-result.ensures.idle

@@ -1,6 +1,7 @@
 use Rattle.std.proofs.Common.{IfErr, ap, subst, ◌∙◌}
 use Rattle.stack_engine.specs.declared.refusal.StepErr.TheVariants as errors
 use Rattle.stack_engine.specs.Engine.{EngineSeen}
+use Rattle.stack_engine.specs.Messages.{NeedsDisks}
 use Rattle.stack_engine.specs.Moves.{IsRefused, Sends}
 use Rattle.stack_engine.specs.Tower.{TowerSeen}
 use Rattle.stack_engine.specs.Turns.{with_turn, without_turns}
@@ -36,3 +37,31 @@ returns-clause-advances g c = record {
   free = c.requires.free;
   turns = c.in_ok-take_turn.ensures.ok ∙ ap (λ (t : TowerSeen). with_turn c.args.at.caller c.args.missed.page t.turns) c.self.view_is;
 }
+
+pub returns-in_err-make_room-clause-idle : goal.returns-in_err-make_room-clause-idle
+returns-in_err-make_room-clause-idle g c = λ needless. ap (λ (e : EngineSeen). e.ground) c.make_room.ensures.same ∙ ap (λ (t : TowerSeen). t.engine.ground) c.self.view_is
+
+pub returns-in_err-make_room-clause-spare : goal.returns-in_err-make_room-clause-spare
+returns-in_err-make_room-clause-spare g c = ap (λ (e : EngineSeen). e.trail.spare) c.make_room.ensures.same ∙ ap (λ (t : TowerSeen). t.engine.trail.spare) c.self.view_is
+
+pub returns-in_err-take_turn-clause-idle : goal.returns-in_err-take_turn-clause-idle
+returns-in_err-take_turn-clause-idle g c = λ needless. ap (λ (e : EngineSeen). e.ground) c.make_room.ensures.same ∙ ap (λ (t : TowerSeen). t.engine.ground) c.self.view_is
+
+pub returns-in_err-take_turn-clause-spare : goal.returns-in_err-take_turn-clause-spare
+returns-in_err-take_turn-clause-spare g c = ap (λ (e : EngineSeen). e.trail.spare) c.make_room.ensures.same ∙ ap (λ (t : TowerSeen). t.engine.trail.spare) c.self.view_is
+
+pub returns-in_err-event-clause-idle : goal.returns-in_err-event-clause-idle
+returns-in_err-event-clause-idle g c = λ needless.
+    rooms.idle_room c.self.inside.engine c.make_room.new.self c.make_room.new.self c.make_room.new.self.trail.room c.make_room.ensures.same c.args.missed.event c.message.new.self.ground c.in_err-event.ensures.idle
+    (λ needs. needless (subst (λ (t : TowerSeen). NeedsDisks t.engine c.args.missed.event) c.self.view_is needs)) ∙ ap (λ (t : TowerSeen). t.engine.ground) c.self.view_is
+
+pub returns-in_err-event-clause-spare : goal.returns-in_err-event-clause-spare
+returns-in_err-event-clause-spare g c = c.in_err-event.ensures.refused.spare ∙ ap (λ (e : EngineSeen). e.trail.spare) c.make_room.ensures.same ∙ ap (λ (t : TowerSeen). t.engine.trail.spare) c.self.view_is
+
+pub returns-clause-idle : goal.returns-clause-idle
+returns-clause-idle g c = λ needless.
+    rooms.idle_room c.self.inside.engine c.make_room.new.self c.make_room.new.self c.make_room.new.self.trail.room c.make_room.ensures.same c.args.missed.event c.message.new.self.ground c.in_ok-event.ensures.idle
+    (λ needs. needless (subst (λ (t : TowerSeen). NeedsDisks t.engine c.args.missed.event) c.self.view_is needs)) ∙ ap (λ (t : TowerSeen). t.engine.ground) c.self.view_is
+
+pub returns-clause-spare : goal.returns-clause-spare
+returns-clause-spare g c = c.in_ok-event.ensures.sends.spare ∙ ap (λ (e : EngineSeen). e.trail.spare) c.make_room.ensures.same ∙ ap (λ (t : TowerSeen). t.engine.trail.spare) c.self.view_is
