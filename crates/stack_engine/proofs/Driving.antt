@@ -15,9 +15,10 @@ use Rattle.tower_log.specs.declared.logged.Logged.{Logged}
 use Rattle.tower_log.specs.Log.{place_of, trail_of}
 use Rattle.tower_shows.specs.Began.{ArePagesOf, BeganWith}
 use Rattle.tower_shows.proofs.Bytes.{bytes_start}
+use Rattle.stack_engine.specs.Answers.{AreAnswers, KeepsPagesOf}
 use Rattle.stack_engine.specs.Engine.{EngineSeen, IsEngine, IsNext, column_in, events_in, file_in, log_in, sides_in, state_in, tree_in}
 use Rattle.stack_engine.specs.Moves.{Sends, StandsFor}
-use Rattle.stack_engine.specs.Opened.{AreAnswers, IsOf, KeepsPagesOf, last_from}
+use Rattle.stack_engine.specs.Opened.{IsOf, last_from}
 use Rattle.stack_engine.specs.Plans.{IsLowest, IsLowestUnsettled, SettlesBy}
 use Rattle.stack_engine.specs.Start.{Opens}
 use Rattle.stack_engine.specs.Tower.{Settles, TowerSeen}
@@ -38,15 +39,15 @@ sync_next e caller number node from keep upper le settled = record {
 
 -- THE LOWEST PAGE THAT IS NOT SETTLED
 
-pub none_unsettled : (e : EngineSeen) (sheet : Sheet) (granted : List Bool) → IsEngine e sheet granted → (pages from : ℕ) → pages ≡ (file_in e).pages → (found : Option ℕ) → IfNone found ((page : ℕ) → page < pages → IsSettled from ((seen sheet).column page))
+pub none_unsettled : (e : EngineSeen) (sheet : Sheet) → IsEngine e sheet → (pages from : ℕ) → pages ≡ (file_in e).pages → (found : Option ℕ) → IfNone found ((page : ℕ) → page < pages → IsSettled from ((seen sheet).column page))
     → IfNone found ((page : ℕ) → page < (file_in e).pages → IsSettled from (column_in e page))
-none_unsettled e sheet granted is pages from same (Some page) h = tt
-none_unsettled e sheet granted is pages from same None h = λ page inside.
+none_unsettled e sheet is pages from same (Some page) h = tt
+none_unsettled e sheet is pages from same None h = λ page inside.
     subst (λ (s : State). IsSettled from (s.column page)) is.sheet_is.state_is (h page (subst (λ (n : ℕ). page < n) (sym same) inside))
 
-pub some_unsettled : (e : EngineSeen) (sheet : Sheet) (granted : List Bool) → IsEngine e sheet granted → (pages from : ℕ) → pages ≡ (file_in e).pages → (found : Option ℕ) → IfSome found (IsLowest (seen sheet) pages from) → IfSome found (IsLowestUnsettled e from)
-some_unsettled e sheet granted is pages from same None h = tt
-some_unsettled e sheet granted is pages from same (Some page) h = record {
+pub some_unsettled : (e : EngineSeen) (sheet : Sheet) → IsEngine e sheet → (pages from : ℕ) → pages ≡ (file_in e).pages → (found : Option ℕ) → IfSome found (IsLowest (seen sheet) pages from) → IfSome found (IsLowestUnsettled e from)
+some_unsettled e sheet is pages from same None h = tt
+some_unsettled e sheet is pages from same (Some page) h = record {
   inside = subst (λ (n : ℕ). page < n) same h.inside;
   unsettled = subst (λ (s : State). IsUnsettled from (s.column page)) is.sheet_is.state_is h.unsettled;
   lowest = λ lower le. subst (λ (s : State). IsSettled from (s.column lower)) is.sheet_is.state_is (h.lowest lower le);
