@@ -11,3 +11,5 @@ pub mod RowLemmas
 pub mod Passing
 pub mod FilesCrossing
 pub mod NamesStories
+pub mod Unwritten
+pub mod Reading
