@@ -1,5 +1,5 @@
 -- A page message that was sent, and stands in the log.
-use Rattle.std.proofs.Common.{◌≡◌, ◌≢◌, ℕ, ◌<◌, ◌||◌, ◌==◌, Bool, true, false, cond, List, [], ◌∷◌, ◌++◌, length, Option, Some, None, refl, sym, ap, subst, ◌∙◌, arith}
+use Rattle.std.proofs.Common.{◌≡◌, ◌≢◌, ℕ, ◌<◌, ◌&&◌, ◌==◌, not, Bool, true, false, cond, List, [], ◌∷◌, ◌++◌, length, Option, Some, None, refl, sym, ap, subst, ◌∙◌, arith}
 use Rattle.hist_plain.specs.declared.TheConstants.{MAX_EVENTS}
 use Rattle.hist_plain.specs.declared.event.Event.{Event}
 use Rattle.hist_plain.specs.declared.event.Event.TheVariants as events
@@ -13,7 +13,7 @@ use Rattle.tower_core.specs.declared.step.Step.TheVariants.{Grants}
 use Rattle.tower_core.specs.Legal.{IsFilled, file_after, plain_shape}
 use Rattle.tower_core.specs.Sheet.{nodes_of, pages_of, seen}
 use Rattle.tower_core.specs.TreeShape.{TreeShape, frames_of, parent}
-use Rattle.tower_core.specs.Trail.{right_of, state_after, state_of}
+use Rattle.tower_core.specs.Trail.{holds, right_of, state_after, state_of}
 use Rattle.std.proofs.lemmas.Bool.{eq-eqb}
 use Rattle.std.proofs.lemmas.Bool.Decides.{nat_tests}
 use Rattle.layer_laws.specs.Side.{Side}
@@ -26,7 +26,8 @@ use Rattle.page_exchange.specs.Ground.{IsCalmCall, IsOneCall, pages_given}
 use Rattle.page_exchange.specs.Steps.{IsSent, given_up, step_asked, step_called}
 use Rattle.vmm_cache.specs.Used.{AreUses}
 use Rattle.vmm_cache.proofs.TrailLaws.{uses_follow}
-use Rattle.page_exchange.specs.Tables.{Follow, IsSameFile}
+use Rattle.page_exchange.specs.declared.tables.Tables.{Tables}
+use Rattle.page_exchange.specs.Tables.{Follow, IsSameFile, sides, tree_of}
 use Rattle.tower_log.specs.declared.logged.Entry.{Entry}
 use Rattle.tower_log.specs.declared.logged.Logged.TheVariants.{Entered}
 use Rattle.tower_log.specs.Log.{place_of}
@@ -36,7 +37,7 @@ use Rattle.tower_shows.proofs.Bytes.{bytes_step}
 use Rattle.tower_shows.proofs.Firsts.{grant_first, grant_kept, grant_others, grant_zeros}
 use Rattle.tower_shows.proofs.Reads.{FindsShown, began_shown, read_here, sent_shown, told_shown}
 use Rattle.stack_engine.specs.Answers.{FindsPagesOf, ShowsWhatItRead}
-use Rattle.stack_engine.specs.Engine.{EngineSeen, IsEngine, IsNext, IsSound, column_in, events_in, file_in, log_in, sides_in, tree_in, uses_in}
+use Rattle.stack_engine.specs.Engine.{EngineSeen, IsEngine, IsNext, IsSound, column_in, events_in, file_in, log_in, reads_ground, sides_in, tree_in, uses_in}
 use Rattle.stack_engine.specs.Messages.{IsPush, event_asked, event_called, event_granted}
 use Rattle.stack_engine.specs.Moves.{Enters, FindsZeros, Sends, StandsFor, bytes_kept}
 use Rattle.stack_engine.specs.Opened.{IsOf, from_after, last_from}
@@ -226,6 +227,10 @@ pub grant_next : (old : EngineSeen) (zeros : Bool) (node page : ℕ) (write : Bo
 grant_next old false node page write next none = next
 grant_next old true node page write next none = record { fits = next.fits; allowed = record { upper = next.allowed.upper; line = (none refl, next.allowed.line.0, next.allowed.line.1) } }
 
+-- a node that stands on the ground and has nothing reads
+reads_true : (t : Tables) (node page : ℕ) → parent (tree_of t) node ≡ 0 → (sides t page node).right ≡ Right.Nothing → reads_ground t node page ≡ true
+reads_true t node page ground none = ap (λ (r : Right). not (holds r) && (parent (tree_of t) node == 0)) none ∙ eq-eqb (parent (tree_of t) node) 0 ground
+
 grant_of : (zeros : Bool) (node page p : ℕ) (write : Bool) → is_grant_of p (event_granted zeros node page write) ≡ is_grant_of p (events.PageIn node page write)
 grant_of true node page p write = refl
 grant_of false node page p write = refl
@@ -246,7 +251,7 @@ module _ (old new : EngineSeen) (sound : IsSound old) (node page : ℕ) (write z
 
   -- what is kept of a page that was read is the node's copy
   read_bytes : parent (tree_in old) node ≡ 0 → (sides_in old page node).right ≡ Right.Nothing → bytes ≡ (sides_in new page node).copy
-  read_bytes ground none = bytes_are ∙ rw (none, eq-eqb (parent (tree_in old) node) 0 ground) refl
+  read_bytes ground none = bytes_are ∙ ap (λ b. cond b (sides_in new page node).copy []) (reads_true old.tables node page ground none)
 
   finds : (opening : List ℕ) → FindsPagesOf (tree_in old) (file_in old).page_size opening (log_in old ++ Entered (record { event = event_granted zeros node page write; answer = None; bytes = bytes }) ∷ [])
       → FindsShown (tree_in old) (file_in old).pages page (Grants node write) (sides_in old) (sides_in new) (ground_shown (tree_in old) (file_in old).page_size opening (events_in old))

@@ -71,9 +71,12 @@ reads_or shape right node write = elim (eqb_tells (parent shape node) 0) [
 some_is : (a b : List ℕ) → Some a ≡ Some b → a ≡ b
 some_is a b e = cc
 
+abbrev granted_side : Right → (ℕ → Right) → List ℕ → Side
+granted_side right kids copy = record { right = right; copy = copy; changed = false; kids = kids }
+
 -- the copy is what was brought
 own_copy : (right : Right) (down : Option (List ℕ)) (old to : Side) → to ≡ own_after right down old → to ≡ own_after right (Some to.copy) old
-own_copy right down old to is = is ∙ ap (λ (copy : List ℕ). record { right = right; copy = copy; changed = false; kids = old.kids }) (sym (ap (λ (s : Side). s.copy) is))
+own_copy right down old to is = is ∙ ap (granted_side right old.kids) (sym (ap (λ (s : Side). s.copy) is))
 
 module _ (shape : TreeShape) (told : Option (List (List ℕ))) (page pages node : ℕ) (write : Bool) (old new : ℕ → ℕ → Side) (shown : ℕ → List ℕ) (inside : page < pages) (sent : IsSent shape told page (Grants node write) old new) where
   copy_is : (sent.sent.to node).copy ≡ (new page node).copy
