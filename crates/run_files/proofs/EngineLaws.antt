@@ -22,12 +22,13 @@ use Rattle.tower_log.specs.Notes.{Rises, counts_of}
 use Rattle.tower_shows.specs.Began.{ArePagesOf}
 use Rattle.tower_shows.specs.Since.{AreSince}
 use Rattle.tower_shows.proofs.Stays.{told_stays}
-use Rattle.stack_engine.specs.Answers.{ShowsWhatItRead}
+use Rattle.stack_engine.specs.Answers.{KeepsWholePages, ShowsWhatItRead}
 use Rattle.stack_engine.specs.Engine.{EngineSeen, IsSound, events_in, file_in, log_in, sides_in, tree_in}
 use Rattle.stack_engine.specs.Opened.{AreAnswers, IsOf, KeepsPagesOf, KeepsSince, last_from}
 use Rattle.stack_engine.specs.Start as engines
 use Rattle.spr_volume.specs.Needed.{AreNeeded}
 use Rattle.spr_volume.specs.Reads.{StandsByFirst}
+use Rattle.spr_volume.proofs.Kept.{kept_file}
 use Rattle.spr_volume.proofs.Reading.{needed_finds}
 use Rattle.spr_volume.specs.Later.{AreAnswered, AreLater, IsLater, IsNoteOf, IsOnDisk, KeepsFirst, TurnsFirst}
 use Rattle.run_defs.specs.declared.store.StoreKey.{StoreKey}
@@ -131,6 +132,7 @@ module _ (mount : Mount) (file : ℕ) (before after : Seen) (e0 e1 : EngineSeen)
     few = run.sound.few;
     notes = subst (λ n. AllByRecursion (IsOfDisks n) (log_in e1)) same (notes-of (log_in e1) disks-later.notes);
     answers = λ opening. answers-but-bytes mount.tree mount.page_size (pages_of mount file) opening (log_in e1) (at-mount (λ t f. IsRun t f.pages start (events_in e1)) run.sound.true_to.run) answered-is;
+    kept_file = kept_file mount.page_size (pages_of mount file) (log_in e1) (at-mount (λ t f. KeepsWholePages f.page_size f.pages (log_in e1)) run.sound.keeps);
     kept_answers = kept-answers first;
     needed = needed-is;
   }

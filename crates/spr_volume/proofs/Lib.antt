@@ -13,3 +13,4 @@ pub mod FilesCrossing
 pub mod NamesStories
 pub mod Unwritten
 pub mod Reading
+pub mod Kept

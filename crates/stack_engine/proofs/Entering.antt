@@ -38,7 +38,7 @@ use Rattle.tower_shows.proofs.Bytes.{bytes_same}
 use Rattle.tower_shows.proofs.Reads.{began_shown, shown_began, told_shown}
 use Rattle.tower_shows.proofs.Stays.{ground_stays, told_later, told_stays}
 use Rattle.vmm_cache.specs.Used.{AreUses}
-use Rattle.stack_engine.specs.Answers.{AreAnswers, FindsPagesOf, KeepsPagesOf, ShowsWhatItRead}
+use Rattle.stack_engine.specs.Answers.{AreAnswers, FindsPagesOf, KeepsPagesOf, KeepsWholePages, ShowsWhatItRead}
 use Rattle.stack_engine.specs.Engine.{EngineSeen, IsNext, IsSheetOf, IsSound, NotesRise, events_in, file_in, log_in, sides_in, state_in, tree_in, uses_in}
 use Rattle.stack_engine.specs.Opened.{IsOf, IsSynced, KeepsSince, from_after, last_from}
 use Rattle.stack_engine.proofs.Logs.{at-end, at-last, before-end, counts_of-append, counts_of-entered, entries_of-entered, kept-entered, last-there, last_from-entered, length-entries_of, not-kept, numbered-entered, rises-later, rises-more, trail_of-entered}
@@ -232,8 +232,9 @@ module _ (old new : EngineSeen) (entry : Entry) (sound : IsSound old) (file : Is
 
   pub sound_entered : new.trail.page_size ≡ old.trail.page_size → ((c : ℕ) → caller_of entry.event ≡ Some c → number_of entry.event ≡ length (mine (events_in old) c))
       → ((leaf : ℕ) → 0 < leaf → frames_of (tree_in old) leaf ≢ 0 → AreUses (state_of (tree_in old) (events_in old ++ entry.event ∷ [])) leaf (uses_in new leaf))
-      → ShowsWhatItRead (tree_in old) (file_in old).page_size (file_in old).pages (log_in old ++ Entered entry ∷ []) (sides_in new) → IsSound new
-  sound_entered size number listed shows = record {
+      → ShowsWhatItRead (tree_in old) (file_in old).page_size (file_in old).pages (log_in old ++ Entered entry ∷ []) (sides_in new)
+      → ((page : ℕ) → is_granted_in page (events_in old) ≡ false → is_grant_of page entry.event ≡ true → (page < (file_in old).pages) × (length entry.bytes ≡ (file_in old).page_size)) → IsSound new
+  sound_entered size number listed shows whole = record {
     true_to = at_same (λ (t : TreeShape) (f : PagedFile). IsTrueTo t f.page_size f.pages (events_in new) (sides_in new)) old.tables new.tables file
         (subst (λ (es : List Event). IsTrueTo (tree_in old) (file_in old).page_size (file_in old).pages es (sides_in new)) (sym events_are) true_to);
     under = at_same (λ (t : TreeShape) (f : PagedFile). IsUnderFile new.ground f) old.tables new.tables file (once_under old.ground new.ground (file_in old) call sound.under);
@@ -245,6 +246,11 @@ module _ (old new : EngineSeen) (entry : Entry) (sound : IsSound old) (file : Is
     page_size = size ∙ sound.page_size ∙ ap (λ (f : PagedFile). f.page_size) (sym file.file);
     shows = at_same (λ (t : TreeShape) (f : PagedFile). ShowsWhatItRead t f.page_size f.pages (log_in new) (sides_in new)) old.tables new.tables file
         (subst (λ (l : List Logged). ShowsWhatItRead (tree_in old) (file_in old).page_size (file_in old).pages l (sides_in new)) (sym log) shows);
+    keeps = at_same (λ (t : TreeShape) (f : PagedFile). KeepsWholePages f.page_size f.pages (log_in new)) old.tables new.tables file
+        (subst (KeepsWholePages (file_in old).page_size (file_in old).pages) (sym log)
+        (λ page bytes is. kept-entered page (log_in old) entry bytes ((page < (file_in old).pages) × (length bytes ≡ (file_in old).page_size)) is
+        (λ before. sound.keeps page bytes before)
+        (λ none grant are. subst (λ (b : List ℕ). (page < (file_in old).pages) × (length b ≡ (file_in old).page_size)) are (whole page (not-kept page (log_in old) none) grant))));
   }
 
   pub sheet_entered : (sheet sheet' : Sheet) → IsSheetOf old sheet → nodes_of sheet' ≡ nodes_of sheet → pages_of sheet' ≡ pages_of sheet → seen sheet' ≡ state_after (tree_in new) (seen sheet) entry.event → IsSheetOf new sheet'
@@ -374,8 +380,8 @@ module _ (old new : EngineSeen) (sound : IsSound old) (file : IsSameFile old.tab
   left_true : IsTrueTo (tree_in old) (file_in old).page_size (file_in old).pages (events_in old) (sides_in new)
   left_true = rights_same (tree_in old) (file_in old).page_size (file_in old).pages (events_in old) (sides_in old) (sides_in new) sound.true_to left.sides
 
-  pub sound_left : NotesRise new.ground.disks (log_in new) → entries_of (log_in new) ≡ entries_of (log_in old) → IsSound new
-  sound_left notes entries_same = record {
+  pub sound_left : NotesRise new.ground.disks (log_in new) → entries_of (log_in new) ≡ entries_of (log_in old) → ((page : ℕ) → kept_in page (log_in new) ≡ kept_in page (log_in old)) → IsSound new
+  sound_left notes entries_same kept_same = record {
     true_to = at_same (λ (t : TreeShape) (f : PagedFile). IsTrueTo t f.page_size f.pages (events_in new) (sides_in new)) old.tables new.tables file
         (subst (λ (es : List Event). IsTrueTo (tree_in old) (file_in old).page_size (file_in old).pages es (sides_in new)) (sym events_are) left_true);
     under = at_same (λ (t : TreeShape) (f : PagedFile). IsUnderFile new.ground f) old.tables new.tables file (once_under old.ground new.ground (file_in old) call sound.under);
@@ -388,6 +394,8 @@ module _ (old new : EngineSeen) (sound : IsSound old) (file : IsSameFile old.tab
     page_size = size ∙ sound.page_size ∙ ap (λ (f : PagedFile). f.page_size) (sym file.file);
     shows = at_same (λ (t : TreeShape) (f : PagedFile). ShowsWhatItRead t f.page_size f.pages (log_in new) (sides_in new)) old.tables new.tables file
         (shows_left (tree_in old) (file_in old).page_size (file_in old).pages (log_in old) (log_in new) (sides_in old) (sides_in new) events_are entries_same left.sides sound.shows);
+    keeps = at_same (λ (t : TreeShape) (f : PagedFile). KeepsWholePages f.page_size f.pages (log_in new)) old.tables new.tables file
+        (λ page bytes is. sound.keeps page bytes (sym (kept_same page) ∙ is));
   }
 
   pub sheet_left : (sheet : Sheet) → IsSheetOf old sheet → IsSheetOf new sheet

@@ -25,7 +25,7 @@ use Rattle.stack_engine.specs.Moves.{FindsZeros, bytes_kept}
 use Rattle.stack_engine.proofs.Asking.{grant_step}
 use Rattle.stack_engine.proofs.States.{coherent_in}
 use Rattle.stack_engine.proofs.Rooms.{roomy}
-use Rattle.stack_engine.proofs.Sending.{IsMessage, grant_next, grant_no_answer, grant_no_sync, grant_on, grant_quiet}
+use Rattle.stack_engine.proofs.Sending.{IsMessage, grant_next, grant_no_answer, grant_no_sync, grant_on, grant_quiet, reads_true}
 
 granted_some : (write : Bool) → granted write ≢ Right.Nothing
 granted_some true e = cc
@@ -84,6 +84,11 @@ module _ (e : EngineSeen) (sound : IsSound e) (node page : ℕ) (write : Bool) (
       by : (b : Bool) → reads_ground e.tables node page ≡ b → after ≡ bytes_kept e new (events.PageIn node page write)
       by false g = none (len ∙ ap (λ b. cond b (file_in e).page_size 0) g) ∙ sym (ap (λ b. cond b (sides_in new page node).copy []) g)
       by true g = kept (len ∙ ap (λ b. cond b (file_in e).page_size 0) g ∙ sym same) ∙ sym (ap (λ b. cond b (sides_in new page node).copy []) g)
+
+  -- and they are whole
+  pub kept_whole : (size : ℕ) (before after : List ℕ) → size ≡ (file_in e).page_size → length before ≡ kept_size e node page → (length before ≡ size → length after ≡ size)
+      → parent (tree_in e) node ≡ 0 → (sides_in e page node).right ≡ Right.Nothing → length after ≡ (file_in e).page_size
+  kept_whole size before after same len whole ground none = whole (len ∙ ap (λ b. cond b (file_in e).page_size 0) (reads_true e.tables node page ground none) ∙ sym same) ∙ same
 
 -- FROM WHAT THE CODE DID
 

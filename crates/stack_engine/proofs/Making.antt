@@ -99,7 +99,7 @@ module _ (old new : EngineSeen) (entry : Entry) (caller page : ℕ) (step : Step
 
   pub made_engine : (sheet sheet' : Sheet) → IsEngine old sheet → IsBooked new entry.event sheet sheet' → IsEngine new sheet'
   made_engine sheet sheet' is book = record {
-    sound = sound_entered old new entry sound m.file m.log m.next m.few m.call made_true m.size made_number made_listed made_shows;
+    sound = sound_entered old new entry sound m.file m.log m.next m.few m.call made_true m.size made_number made_listed made_shows (λ p none grant. absurd (let both : true ≡ false = sym grant ∙ tells.no_grant p in cc));
     sheet_is = sheet_entered old new entry sound m.file m.log m.next m.few m.call made_true sheet sheet' is.sheet_is book.nodes book.pages book.state;
   }
 

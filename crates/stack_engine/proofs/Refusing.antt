@@ -35,7 +35,7 @@ module _ (caller : ℕ) (old new : EngineSeen) (undone : IsUndone old new) (trai
   lacking_engine sheet is = record {
     sound = sound_left old new is.sound undone.file undone.left undone.call undone.pages (ap (λ (t : TrailSeen). t.page_size) trail) events_are
         (subst (λ (log : List Logged). NotesRise new.ground.disks log) (sym (ap (λ (t : TrailSeen). t.log) trail)) (notes_same old.ground new.ground (log_in old) undone.call is.sound.notes))
-        (ap (λ (t : TrailSeen). entries_of t.log) trail);
+        (ap (λ (t : TrailSeen). entries_of t.log) trail) (λ page. ap (λ (t : TrailSeen). kept_in page t.log) trail);
     sheet_is = sheet_left old new is.sound undone.file undone.left undone.call undone.pages (ap (λ (t : TrailSeen). t.page_size) trail) events_are sheet is.sheet_is;
   }
 
@@ -62,7 +62,8 @@ module _ (caller disk count : ℕ) (old new : EngineSeen) (undone : IsUndone old
   noted_engine sheet is = record {
     sound = sound_left old new is.sound undone.file undone.left undone.call undone.pages size noted_events
         (subst (λ (l : List Logged). NotesRise new.ground.disks l) (sym log) (notes_noted old.ground new.ground (log_in old) caller disk count undone.call fault is.sound.notes))
-        (ap entries_of log ∙ entries_of-noted (log_in old) (record { caller = caller; disk = disk; count = count }));
+        (ap entries_of log ∙ entries_of-noted (log_in old) (record { caller = caller; disk = disk; count = count }))
+        (λ page. ap (kept_in page) log ∙ kept_in-noted page (log_in old) (record { caller = caller; disk = disk; count = count }));
     sheet_is = sheet_left old new is.sound undone.file undone.left undone.call undone.pages size noted_events sheet is.sheet_is;
   }
 

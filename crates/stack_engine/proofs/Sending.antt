@@ -101,9 +101,10 @@ module _ (old new : EngineSeen) (event : Event) (bytes : List ℕ) (page : ℕ) 
         m.no_answer (tree_in old) (file_in old).page_size opening,
       ))
 
-  pub sent_engine : (sheet sheet' : Sheet) → ShowsWhatItRead (tree_in old) (file_in old).page_size (file_in old).pages (log_in old ++ Entered entry ∷ []) (sides_in new) → IsEngine old sheet → IsBooked new event sheet sheet' → IsEngine new sheet'
-  sent_engine sheet sheet' shows is book = record {
-    sound = sound_entered old new entry sound m.file m.log m.next m.few m.call true_to m.size number listed shows;
+  pub sent_engine : (sheet sheet' : Sheet) → ShowsWhatItRead (tree_in old) (file_in old).page_size (file_in old).pages (log_in old ++ Entered entry ∷ []) (sides_in new)
+      → ((p : ℕ) → is_granted_in p (events_in old) ≡ false → is_grant_of p event ≡ true → (p < (file_in old).pages) × (length bytes ≡ (file_in old).page_size)) → IsEngine old sheet → IsBooked new event sheet sheet' → IsEngine new sheet'
+  sent_engine sheet sheet' shows whole is book = record {
+    sound = sound_entered old new entry sound m.file m.log m.next m.few m.call true_to m.size number listed shows whole;
     sheet_is = sheet_entered old new entry sound m.file m.log m.next m.few m.call true_to sheet sheet' is.sheet_is book.nodes book.pages book.state;
   }
 
@@ -193,7 +194,8 @@ plain_shows old new event page step sound plain m found = sent_shows old new eve
 pub plain_engine : (old new : EngineSeen) (event : Event) (page : ℕ) (step : Step) → IsSound old → IsPlain event → IsMessage old new event [] page step
     → ((shape : TreeShape) (pages page : ℕ) (before after : ℕ → ℕ → Side) (shown : ℕ → List ℕ) → FindsShown shape pages page step before after shown)
     → (sheet sheet' : Sheet) → IsEngine old sheet → IsBooked new event sheet sheet' → IsEngine new sheet'
-plain_engine old new event page step sound plain m found sheet sheet' is book = sent_engine old new event [] page step sound m sheet sheet' (plain_shows old new event page step sound plain m found) is book
+plain_engine old new event page step sound plain m found sheet sheet' is book = sent_engine old new event [] page step sound m sheet sheet' (plain_shows old new event page step sound plain m found)
+    (λ p none grant. absurd (let both : true ≡ false = sym grant ∙ plain.no_grant p in cc)) is book
 
 pub plain_sends : (old new : EngineSeen) (event : Event) (page : ℕ) (step : Step) → IsSound old → IsPlain event → IsMessage old new event [] page step → (event' : Event) → event' ≡ event → new.trail.spare ≡ old.trail.spare → Sends event old new event'
 plain_sends old new event page step sound plain m event' is spare = subst (λ (e : Event). Sends event old new e) (sym is) (record {
@@ -228,7 +230,7 @@ grant_next old false node page write next none = next
 grant_next old true node page write next none = record { fits = next.fits; allowed = record { upper = next.allowed.upper; line = (none refl, next.allowed.line.0, next.allowed.line.1) } }
 
 -- a node that stands on the ground and has nothing reads
-reads_true : (t : Tables) (node page : ℕ) → parent (tree_of t) node ≡ 0 → (sides t page node).right ≡ Right.Nothing → reads_ground t node page ≡ true
+pub reads_true : (t : Tables) (node page : ℕ) → parent (tree_of t) node ≡ 0 → (sides t page node).right ≡ Right.Nothing → reads_ground t node page ≡ true
 reads_true t node page ground none = ap (λ (r : Right). not (holds r) && (parent (tree_of t) node == 0)) none ∙ eq-eqb (parent (tree_of t) node) 0 ground
 
 grant_of : (zeros : Bool) (node page p : ℕ) (write : Bool) → is_grant_of p (event_granted zeros node page write) ≡ is_grant_of p (events.PageIn node page write)
@@ -263,20 +265,33 @@ module _ (old new : EngineSeen) (sound : IsSound old) (node page : ℕ) (write z
   grant_shows : ShowsWhatItRead (tree_in old) (file_in old).page_size (file_in old).pages (log_in old ++ Entered (record { event = event_granted zeros node page write; answer = None; bytes = bytes }) ∷ []) (sides_in new)
   grant_shows = sent_shows old new (event_granted zeros node page write) bytes page (Grants node write) sound m (λ opening told began sent. filled opening told began sent zeros refl) finds
 
-  kept : (opening : List ℕ) → IsOf opening old → (p : ℕ) → is_granted_in p (events_in old) ≡ false → is_grant_of p (event_granted zeros node page write) ≡ true → bytes ≡ page_in (file_in old).page_size opening p
-  kept opening of p none grant =
+  own_page : (a b : ℕ) → (a == b) ≡ true → a ≡ b
+  own_page a b e = grind (arith, nat_tests)
+
+  -- a page's first grant is of this page, and reads it
+  record IsFirst (p : ℕ) : Type 0 where
+    same : p ≡ page
+    none : is_granted_in page (events_in old) ≡ false
+    ground : parent (tree_in old) node ≡ 0
+    nothing : (sides_in old page node).right ≡ Right.Nothing
+
+  first_of : (p : ℕ) → is_granted_in p (events_in old) ≡ false → is_grant_of p (event_granted zeros node page write) ≡ true → IsFirst p
+  first_of p none grant =
       let same : p ≡ page = own_page p page (sym (grant_of zeros node page p write) ∙ grant) in
       let none' : is_granted_in page (events_in old) ≡ false = subst (λ (q : ℕ). is_granted_in q (events_in old) ≡ false) same none in
       let first = grant_first (tree_in old) (file_in old).page_size (file_in old).pages (events_in old) node page write (sides_in old) sound.true_to asked none' in
-      read_bytes first.0 (own_right ∙ first.1)
-      ∙ grant_kept (tree_in old) (file_in old).page_size (file_in old).pages opening (events_in old) node page write (sides_in old) (sides_in new) old.ground.pages sound.true_to asked m.sent of.began none'
-      ∙ ap (page_in (file_in old).page_size opening) (sym same)
-    where
-      own_page : (a b : ℕ) → (a == b) ≡ true → a ≡ b
-      own_page a b e = grind (arith, nat_tests)
+      record { same = same; none = none'; ground = first.0; nothing = own_right ∙ first.1 }
 
-  pub grant_engine : (sheet sheet' : Sheet) → IsEngine old sheet → IsBooked new (event_granted zeros node page write) sheet sheet' → IsEngine new sheet'
-  grant_engine sheet sheet' is book = sent_engine old new (event_granted zeros node page write) bytes page (Grants node write) sound m sheet sheet' grant_shows is book
+  kept : (opening : List ℕ) → IsOf opening old → (p : ℕ) → is_granted_in p (events_in old) ≡ false → is_grant_of p (event_granted zeros node page write) ≡ true → bytes ≡ page_in (file_in old).page_size opening p
+  kept opening of p none grant =
+      let first : IsFirst p = first_of p none grant in
+      read_bytes first.ground first.nothing
+      ∙ grant_kept (tree_in old) (file_in old).page_size (file_in old).pages opening (events_in old) node page write (sides_in old) (sides_in new) old.ground.pages sound.true_to asked m.sent of.began first.none
+      ∙ ap (page_in (file_in old).page_size opening) (sym first.same)
+
+  pub grant_engine : (parent (tree_in old) node ≡ 0 → (sides_in old page node).right ≡ Right.Nothing → length bytes ≡ (file_in old).page_size) → (sheet sheet' : Sheet) → IsEngine old sheet → IsBooked new (event_granted zeros node page write) sheet sheet' → IsEngine new sheet'
+  grant_engine whole sheet sheet' is book = sent_engine old new (event_granted zeros node page write) bytes page (Grants node write) sound m sheet sheet' grant_shows
+      (λ p none grant. let first : IsFirst p = first_of p none grant in (subst (λ (q : ℕ). q < (file_in old).pages) (sym first.same) (asked.fits page refl), whole first.ground first.nothing)) is book
 
   stands : (z : Bool) → z ≡ zeros → StandsFor old new (events.PageIn node page write) (event_granted z node page write)
   stands true e = ((λ f. refl), (λ no'. absurd (no' (found (sym e)))))

@@ -1,6 +1,6 @@
 -- What a log has to do with a file that it may have begun with: the pages that it keeps, its answers, and the pages that were read from
 -- the ground.
-use Rattle.std.specs.Prelude.{◌≡◌, ℕ, ◌*◌, List, length, take, slice_get, Some}
+use Rattle.std.specs.Prelude.{◌≡◌, ℕ, ◌*◌, ◌<◌, List, length, take, slice_get, Some}
 use Rattle.hist_plain.specs.History.{page_in}
 use Rattle.hist_plain.specs.Plain.{reply}
 use Rattle.tower_core.specs.Legal.{file_after, plain_shape}
@@ -15,6 +15,10 @@ use Rattle.tower_shows.specs.Reads.{IsRead, Shows}
 -- each page that the log keeps is the file's, as the trail began
 abbrev pub KeepsPagesOf : ℕ → List ℕ → List Logged → Type 0
 KeepsPagesOf size opening log = (page : ℕ) (bytes : List ℕ) → kept_in page log ≡ Some bytes → bytes ≡ page_in size opening page
+
+-- each page that the log keeps is one of the file's, and whole
+abbrev pub KeepsWholePages : ℕ → ℕ → List Logged → Type 0
+KeepsWholePages size pages log = (page : ℕ) (bytes : List ℕ) → kept_in page log ≡ Some bytes → (page < pages) × (length bytes ≡ size)
 
 -- EACH ANSWER of the log is the plain file's at its place
 abbrev pub AreAnswers : TreeShape → ℕ → List ℕ → List Logged → Type 0

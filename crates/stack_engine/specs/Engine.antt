@@ -19,7 +19,7 @@ use Rattle.tower_log.specs.Log.{place_of, trail_of}
 use Rattle.tower_log.specs.Notes.{Rises, counts_of}
 use Rattle.tower_log.specs.Trail.{TrailSeen}
 use Rattle.tower_shows.specs.Began.{IsNextIn, IsTrueTo}
-use Rattle.stack_engine.specs.Answers.{ShowsWhatItRead}
+use Rattle.stack_engine.specs.Answers.{KeepsWholePages, ShowsWhatItRead}
 
 pub record EngineSeen : Type 0 where
   pub ground : Seen
@@ -74,6 +74,7 @@ pub record IsSound (e : EngineSeen) : Type 0 where
   pub page_size : e.trail.page_size ≡ (file_in e).page_size
   -- each file of which the reads found the pages is the one that is shown and that answers
   pub shows : ShowsWhatItRead (tree_in e) (file_in e).page_size (file_in e).pages (log_in e) (sides_in e)
+  pub keeps : KeepsWholePages (file_in e).page_size (file_in e).pages (log_in e)
 
 -- the sheet stands at the end of the trail
 pub record IsSheetOf (e : EngineSeen) (sheet : Sheet) : Type 0 where

@@ -137,6 +137,7 @@ fn keep_page(tables: &Tables, room: Vec<u8>, node: u32, page: u32) -> Bytes
     requires room { (length room.items ≡ 0) ⊎ (length room.items ≡ (paged_of tables.now).page_size) }
     ensures none { length room.items ≡ 0 → result ≡ [] }
     ensures kept { length room.items ≡ (paged_of tables.now).page_size → result ≡ (sides tables.now page node).copy }
+    ensures whole { length room.items ≡ (paged_of tables.now).page_size → length result ≡ (paged_of tables.now).page_size }
 {
     let mut bytes = room;
     if !bytes.is_empty() {

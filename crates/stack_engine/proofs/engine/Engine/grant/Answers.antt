@@ -56,6 +56,7 @@ invariant_of-self-2 g c = sending.grant_engine _ _ c.self.invariant.sound c.args
     c.ask.ensures.same c.ask.ensures.call c.in-Ok.ensures.calm c.in-Ok.ensures.sent c.in-Ok.ensures.follows c.in-Ok.ensures.ground c.enter.ensures.log (ap (λ (t : TrailSeen). t.page_size) c.enter.ensures.trail) c.in_ok-make_room.ensures.few (subst (λ (e : EngineSeen). IsNext e (events.PageIn c.args.node c.args.page c.args.write)) (sym (c.self.view_is ∙ c.make_room.ensures.same)) c.requires.next)
     (λ z. ((granting.found_zeros _ c.self.invariant.sound c.args.node c.args.page c.args.write (subst (λ (e : EngineSeen). IsNext e (events.PageIn c.args.node c.args.page c.args.write)) (sym (c.self.view_is ∙ c.make_room.ensures.same)) c.requires.next) (record { ground = g.G.Ground.seen c.ask.new.ground; tables = c.ask.new.self; trail = c.enter.new.self.trail }) _ c.ask.ensures.same.file c.right-had.result c.right-had.ensures c.finds_zeros-zeros.result c.finds_zeros-zeros.ensures) z).nothing))
     (granting.found_zeros _ c.self.invariant.sound c.args.node c.args.page c.args.write (subst (λ (e : EngineSeen). IsNext e (events.PageIn c.args.node c.args.page c.args.write)) (sym (c.self.view_is ∙ c.make_room.ensures.same)) c.requires.next) (record { ground = g.G.Ground.seen c.ask.new.ground; tables = c.ask.new.self; trail = c.enter.new.self.trail }) _ c.ask.ensures.same.file c.right-had.result c.right-had.ensures c.finds_zeros-zeros.result c.finds_zeros-zeros.ensures) (granting.found_others _ c.self.invariant.sound c.args.node c.args.page c.args.write (subst (λ (e : EngineSeen). IsNext e (events.PageIn c.args.node c.args.page c.args.write)) (sym (c.self.view_is ∙ c.make_room.ensures.same)) c.requires.next) (record { ground = g.G.Ground.seen c.ask.new.ground; tables = c.ask.new.self; trail = c.enter.new.self.trail }) _ c.ask.ensures.same.file c.right-had.result c.right-had.ensures c.finds_zeros-zeros.result c.finds_zeros-zeros.ensures) (granting.kept_are _ c.self.invariant.sound c.args.node c.args.page c.args.write (subst (λ (e : EngineSeen). IsNext e (events.PageIn c.args.node c.args.page c.args.write)) (sym (c.self.view_is ∙ c.make_room.ensures.same)) c.requires.next) (record { ground = g.G.Ground.seen c.ask.new.ground; tables = c.ask.new.self; trail = c.enter.new.self.trail }) _ c.in_ok-room.room.items c.keep_page-bytes.result (ap (λ (f : PagedFile). f.page_size) c.ask.ensures.same.file) (c.in_ok-room.ensures ∙ ap (λ (e : EngineSeen). kept_size e c.args.node c.args.page) (sym c.self.view_is)) c.keep_page-bytes.ensures.none c.keep_page-bytes.ensures.kept)
+    (granting.kept_whole _ c.self.invariant.sound c.args.node c.args.page c.args.write (subst (λ (e : EngineSeen). IsNext e (events.PageIn c.args.node c.args.page c.args.write)) (sym (c.self.view_is ∙ c.make_room.ensures.same)) c.requires.next) _ c.in_ok-room.room.items c.keep_page-bytes.result (ap (λ (f : PagedFile). f.page_size) c.ask.ensures.same.file) (c.in_ok-room.ensures ∙ ap (λ (e : EngineSeen). kept_size e c.args.node c.args.page) (sym c.self.view_is)) c.keep_page-bytes.ensures.whole)
     c.self.inside.book.sheet c.enter.new.self.sheet c.self.invariant
     (making.booked _ c.tree.result.now c.self.inside.book.sheet c.enter.new.self.sheet
     (making.entry_of c.event_granted.result None c.keep_page-bytes.result) (making.entry_of (event_granted c.finds_zeros-zeros.result c.args.node c.args.page c.args.write) None c.keep_page-bytes.result) (ap (λ (x : Event). making.entry_of x None c.keep_page-bytes.result) c.event_granted.ensures) c.tree.ensures.value c.enter.ensures.nodes c.enter.ensures.pages c.enter.ensures.state)
