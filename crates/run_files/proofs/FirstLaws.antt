@@ -1,5 +1,5 @@
 -- Node 1 of a mounted stack alone stands on the ground, and is no leaf.
-use Rattle.std.proofs.Common.{◌≡◌, ℕ, zero, suc, Bool, true, false, inl, inr, ◌<◌, ◌≤◌, List, [], ◌∷◌, length, map, Some, None, refl, sym, ap, subst, ◌∙◌, arith}
+use Rattle.std.proofs.Common.{◌≡◌, ℕ, zero, suc, Bool, true, false, inl, inr, ◌<◌, ◌≤◌, List, [], ◌∷◌, length, map, Option, Some, None, refl, sym, ap, subst, ◌∙◌, arith}
 use Rattle.std.specs.Prelude.{slice_get, slice_index, slice_index_or}
 use Rattle.std.specs.Option.{option_map_or}
 use Rattle.std.proofs.lemmas.List.{length-map}
@@ -69,7 +69,7 @@ module _ (m : Mount) (sound : IsMount m) where
   below-at k n above inside is = subst (λ (x : NodeEntry). x.below < k) (index-is m.nodes k n n is) (sound.ordered k n above inside)
 
   viewed : (k : ℕ) (n : NodeEntry) → slice_get m.nodes k ≡ Some n → is_view_in m.nodes k ≡ is_view n.kind
-  viewed k n is = ap (λ o. option_map_or (λ node. is_view node.kind) o false) is
+  viewed k n is = ap (λ (o : Option NodeEntry). option_map_or (λ (node : NodeEntry). is_view node.kind) o false) is
 
   -- what stands on a layer is served by one
   served-apart : (number : ℕ) (n : NodeEntry) → 0 < number → number < length m.nodes → slice_get m.nodes number ≡ Some n → 0 < n.below → via m.nodes n.below n.machine ≡ 0 → ⊥

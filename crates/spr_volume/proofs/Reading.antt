@@ -16,13 +16,13 @@ use Rattle.tower_core.specs.declared.step.Step.{Step}
 use Rattle.tower_core.specs.declared.step.Step.TheVariants.{Untouched, Reads, Writes, Grants, PagesOut, Denies, Pushes, Flushes, Deletes}
 use Rattle.tower_core.specs.TreeShape.{IsTree, IsUpper, TreeShape, frames_of, is_within, nodes, parent}
 use Rattle.tower_core.specs.Column.{IsStepOf, MayStep, right_after, updated}
-use Rattle.tower_core.specs.Trail.{IsAllowed, IsRun, State, holds, of_page, right_of, start, state_after, state_of, step_of, step_of_access}
+use Rattle.tower_core.specs.Trail.{IsAllowed, IsRun, State, at_of, holds, of_page, right_of, start, state_after, state_of, step_of, step_of_access}
 use Rattle.tower_core.specs.Legal.{FitsFile}
 use Rattle.tower_core.proofs.Legals.{run_snoc, state_of-snoc}
 use Rattle.tower_core.proofs.Trails.{on_each_page}
 use Rattle.layer_laws.specs.Granted.{is_grant_of, is_granted_in}
 use Rattle.layer_laws.proofs.Grants.{never_granted}
-use Rattle.tower_plan.specs.Plan.{Evict, Grant, Revoke, is_full, revoking}
+use Rattle.tower_plan.specs.Plan.{Evict, Grant, Revoke, is_full, is_write, revoking}
 use Rattle.tower_plan.specs.Plan.{IsNext as IsNextOfPlan}
 use Rattle.tower_plan.specs.Sync.{IsNextOfSync, Push, pushing}
 use Rattle.tower_log.specs.declared.logged.Entry.{Entry}
@@ -123,7 +123,7 @@ module _ (tree : TreeShape) (pages : ℕ) (is_tree : IsTree tree) (first : Stand
   planned_none : (s : State) (node page : ℕ) (want : Right) (event : Event) → IsUpper tree node → IsNextOfPlan tree pages s node page want event → (p : ℕ) (life : ℕ → ℕ) → Drops (step_of life p event) → ⊥
   planned_none s node page want event upper (Revoke other hinders) p life drops = revoked_none want ((s.column page).right other) other page p life (off_path node other upper hinders.is_one.off) drops
   planned_none s node page want event upper (Evict victim free is) p life drops = of_page_none p victim (PagesOut node) (λ own. never_full s node page own is.full) drops
-  planned_none s node page want event upper (Grant other free roomy lacking) p life drops = of_page_none p page (Grants other _) (λ no. no) drops
+  planned_none s node page want event upper (Grant other free roomy lacking) p life drops = of_page_none p page (Grants other (is_write want)) (λ no. no) drops
 
   pushed_none : (keep : Keep) (on : Bool) (other page p : ℕ) (life : ℕ → ℕ) → Drops (step_of life p (pushing keep on other page)) → ⊥
   pushed_none Keep.Write true other page p life drops = of_page_none p page (Pushes other) (λ no. no) drops
@@ -296,7 +296,7 @@ module _ (tree : TreeShape) (pages : ℕ) (is_tree : IsTree tree) (first : Stand
         record {
           none = none;
           grant = read_grants (λ node. right_of tree before node page) (state_of tree before).life page event read;
-          shown = unwritten tree size pages opening page is_tree before _ run fits none long;
+          shown = unwritten tree size pages opening page is_tree before (at_of tree before 0 page) run fits none long;
         }
 
     fits-snoc : (before : List Event) (event : Event) → AllByRecursion (FitsFile size pages) before → FitsFile size pages event → AllByRecursion (FitsFile size pages) (before ++ event ∷ [])
