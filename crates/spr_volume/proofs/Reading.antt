@@ -47,15 +47,15 @@ Drops (Deletes node) = node ≡ 1
 Drops step = ⊥
 
 of_page_none : (page p : ℕ) (step : Step) → (Drops step → ⊥) → Drops (of_page page p step) → ⊥
-of_page_none page p step no drops = elim (eqb_tells p page) [
-  | inl e ↦ no (rw e.0 at drops)
+of_page_none page p step never drops = elim (eqb_tells p page) [
+  | inl e ↦ never (rw e.0 at drops)
   | inr d ↦ (rw d.0 at drops)
 ]
 
 access_none : (page node : ℕ) (op : Op) → Drops (step_of_access page node op) → ⊥
-access_none page node (Op.Read p off len) drops = of_page_none page p (Reads node) (λ no. no) drops
-access_none page node (Op.Write p off bytes) drops = of_page_none page p (Writes node) (λ no. no) drops
-access_none page node (Op.Clear p) drops = of_page_none page p (Writes node) (λ no. no) drops
+access_none page node (Op.Read p off len) drops = of_page_none page p (Reads node) (λ never. never) drops
+access_none page node (Op.Write p off bytes) drops = of_page_none page p (Writes node) (λ never. never) drops
+access_none page node (Op.Clear p) drops = of_page_none page p (Writes node) (λ never. never) drops
 access_none page node Op.Open drops = drops
 
 set_here : (right : ℕ → Right) (node : ℕ) (to : Right) → to ≢ Right.Nothing → right 1 ≢ Right.Nothing → updated right node to 1 ≢ Right.Nothing
@@ -71,16 +71,16 @@ write_some : Right.Write ≢ Right.Nothing
 write_some e = cc
 
 stays_held : (right : ℕ → Right) (step : Step) → right 1 ≢ Right.Nothing → (Drops step → ⊥) → right_after right step 1 ≢ Right.Nothing
-stays_held right Untouched had no = had
-stays_held right (Reads node) had no = had
-stays_held right (Writes node) had no = had
-stays_held right (Grants node true) had no = set_here right node Right.Write write_some had
-stays_held right (Grants node false) had no = set_here right node Right.Read read_some had
-stays_held right (PagesOut node) had no = lost_there right node no had
-stays_held right (Denies node) had no = set_here right node Right.Read read_some had
-stays_held right (Pushes node) had no = had
-stays_held right (Flushes node) had no = lost_there right node no had
-stays_held right (Deletes node) had no = lost_there right node no had
+stays_held right Untouched had never = had
+stays_held right (Reads node) had never = had
+stays_held right (Writes node) had never = had
+stays_held right (Grants node true) had never = set_here right node Right.Write write_some had
+stays_held right (Grants node false) had never = set_here right node Right.Read read_some had
+stays_held right (PagesOut node) had never = lost_there right node never had
+stays_held right (Denies node) had never = set_here right node Right.Read read_some had
+stays_held right (Pushes node) had never = had
+stays_held right (Flushes node) had never = lost_there right node never had
+stays_held right (Deletes node) had never = lost_there right node never had
 
 granted_held : (right : ℕ → Right) (write : Bool) → right_after right (Grants 1 write) 1 ≢ Right.Nothing
 granted_held right true = write_some
@@ -104,11 +104,11 @@ module _ (tree : TreeShape) (pages : ℕ) (is_tree : IsTree tree) (first : Stand
   off_path node other upper off is = let both : true ≡ false = sym (on_path node node upper (omega arith)) ∙ ap (λ (o : ℕ). is_within tree node o) (sym is) ∙ off in cc
 
   revoked_none : (want have : Right) (other page p : ℕ) (life : ℕ → ℕ) → (other ≡ 1 → ⊥) → Drops (step_of life p (revoking want have other page)) → ⊥
-  revoked_none Right.Write Right.Write other page p life no drops = of_page_none p page (Flushes other) no drops
-  revoked_none Right.Write Right.Read other page p life no drops = of_page_none p page (Deletes other) no drops
-  revoked_none Right.Write Right.Nothing other page p life no drops = of_page_none p page (Deletes other) no drops
-  revoked_none Right.Read have other page p life no drops = of_page_none p page (Denies other) (λ no'. no') drops
-  revoked_none Right.Nothing have other page p life no drops = of_page_none p page (Denies other) (λ no'. no') drops
+  revoked_none Right.Write Right.Write other page p life never drops = of_page_none p page (Flushes other) never drops
+  revoked_none Right.Write Right.Read other page p life never drops = of_page_none p page (Deletes other) never drops
+  revoked_none Right.Write Right.Nothing other page p life never drops = of_page_none p page (Deletes other) never drops
+  revoked_none Right.Read have other page p life never drops = of_page_none p page (Denies other) (λ never'. never') drops
+  revoked_none Right.Nothing have other page p life never drops = of_page_none p page (Denies other) (λ never'. never') drops
 
   -- node 1 has no frames, so it is never full
   never_full : (s : State) (node page : ℕ) → node ≡ 1 → is_full tree pages s node page ≡ true → ⊥
@@ -123,13 +123,13 @@ module _ (tree : TreeShape) (pages : ℕ) (is_tree : IsTree tree) (first : Stand
   planned_none : (s : State) (node page : ℕ) (want : Right) (event : Event) → IsUpper tree node → IsNextOfPlan tree pages s node page want event → (p : ℕ) (life : ℕ → ℕ) → Drops (step_of life p event) → ⊥
   planned_none s node page want event upper (Revoke other hinders) p life drops = revoked_none want ((s.column page).right other) other page p life (off_path node other upper hinders.is_one.off) drops
   planned_none s node page want event upper (Evict victim free is) p life drops = of_page_none p victim (PagesOut node) (λ own. never_full s node page own is.full) drops
-  planned_none s node page want event upper (Grant other free roomy lacking) p life drops = of_page_none p page (Grants other (is_write want)) (λ no. no) drops
+  planned_none s node page want event upper (Grant other free roomy lacking) p life drops = of_page_none p page (Grants other (is_write want)) (λ never. never) drops
 
   pushed_none : (keep : Keep) (on : Bool) (other page p : ℕ) (life : ℕ → ℕ) → Drops (step_of life p (pushing keep on other page)) → ⊥
-  pushed_none Keep.Write true other page p life drops = of_page_none p page (Pushes other) (λ no. no) drops
-  pushed_none Keep.Write false other page p life drops = of_page_none p page (Pushes other) (λ no. no) drops
-  pushed_none Keep.Read true other page p life drops = of_page_none p page (Denies other) (λ no. no) drops
-  pushed_none Keep.Read false other page p life drops = of_page_none p page (Denies other) (λ no. no) drops
+  pushed_none Keep.Write true other page p life drops = of_page_none p page (Pushes other) (λ never. never) drops
+  pushed_none Keep.Write false other page p life drops = of_page_none p page (Pushes other) (λ never. never) drops
+  pushed_none Keep.Read true other page p life drops = of_page_none p page (Denies other) (λ never. never) drops
+  pushed_none Keep.Read false other page p life drops = of_page_none p page (Denies other) (λ never. never) drops
 
   settled_none : (s : State) (node page from : ℕ) (keep : Keep) (event : Event) → IsNextOfSync tree s page node from keep event → (p : ℕ) (life : ℕ → ℕ) → Drops (step_of life p event) → ⊥
   settled_none s node page from keep event (Push other unsettled deepest) p life drops = pushed_none keep (is_within tree node other) other page p life drops
@@ -141,14 +141,14 @@ module _ (tree : TreeShape) (pages : ℕ) (is_tree : IsTree tree) (first : Stand
 
   needed_none : (before : List Event) (event : Event) → (caller_of event ≡ None → IsForAccess tree pages before event ⊎ IsForSync tree pages before event) → (p : ℕ) (life : ℕ → ℕ) → Drops (step_of life p event) → ⊥
   needed_none before (events.Access caller number node l op) need p life drops = elim (eqb_tells l (life node)) [ inl e ↦ access_none p node op (rw e.0 at drops) | inr d ↦ (rw d.0 at drops) ]
-  needed_none before (events.PageIn node page write) need p life drops = of_page_none p page (Grants node write) (λ no. no) drops
-  needed_none before (events.ZeroFill node page write) need p life drops = of_page_none p page (Grants node write) (λ no. no) drops
+  needed_none before (events.PageIn node page write) need p life drops = of_page_none p page (Grants node write) (λ never. never) drops
+  needed_none before (events.ZeroFill node page write) need p life drops = of_page_none p page (Grants node write) (λ never. never) drops
   needed_none before (events.PageOut node page) need p life drops = named_none before (events.PageOut node page) refl (need refl) p life drops
-  needed_none before (events.WriteOut node page) need p life drops = of_page_none p page (Denies node) (λ no. no) drops
-  needed_none before (events.SyncOut node page) need p life drops = of_page_none p page (Pushes node) (λ no. no) drops
+  needed_none before (events.WriteOut node page) need p life drops = of_page_none p page (Denies node) (λ never. never) drops
+  needed_none before (events.SyncOut node page) need p life drops = of_page_none p page (Pushes node) (λ never. never) drops
   needed_none before (events.FlushBack node page) need p life drops = named_none before (events.FlushBack node page) refl (need refl) p life drops
-  needed_none before (events.DenyWrites node page) need p life drops = of_page_none p page (Denies node) (λ no. no) drops
-  needed_none before (events.WriteBack node page) need p life drops = of_page_none p page (Pushes node) (λ no. no) drops
+  needed_none before (events.DenyWrites node page) need p life drops = of_page_none p page (Denies node) (λ never. never) drops
+  needed_none before (events.WriteBack node page) need p life drops = of_page_none p page (Pushes node) (λ never. never) drops
   needed_none before (events.DeleteRange node page) need p life drops = named_none before (events.DeleteRange node page) refl (need refl) p life drops
   needed_none before (events.DestroyCache caller number node) need p life drops = drops
   needed_none before (events.DonePager caller number node) need p life drops = drops

@@ -15,7 +15,7 @@ use Rattle.tower_log.specs.declared.logged.Logged.{Logged}
 use Rattle.tower_log.specs.Log.{place_of, trail_of}
 use Rattle.tower_shows.specs.Began.{ArePagesOf, BeganWith}
 use Rattle.tower_shows.proofs.Bytes.{bytes_start}
-use Rattle.tower_shows.proofs.Reads.{began_shown, pages_by, pages_each, pages_many}
+use Rattle.tower_shows.proofs.Telling.{began_shown, pages_by, pages_each, pages_many}
 use Rattle.hist_plain.specs.History.{page_in}
 use Rattle.layer_laws.specs.Side.{Side}
 use Rattle.layer_laws.specs.Tables.{AreBare}

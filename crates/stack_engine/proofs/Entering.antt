@@ -35,7 +35,7 @@ use Rattle.tower_shows.specs.Reads.{IsRead, Shows}
 use Rattle.tower_shows.specs.Since.{AreSince, GroundIsSince}
 use Rattle.tower_shows.proofs.Rights.{rights_same}
 use Rattle.tower_shows.proofs.Bytes.{bytes_same}
-use Rattle.tower_shows.proofs.Reads.{began_shown, shown_began, told_shown}
+use Rattle.tower_shows.proofs.Telling.{began_shown, shown_began, told_shown}
 use Rattle.tower_shows.proofs.Stays.{ground_stays, told_later, told_stays}
 use Rattle.vmm_cache.specs.Used.{AreUses}
 use Rattle.stack_engine.specs.Answers.{AreAnswers, FindsPagesOf, KeepsPagesOf, KeepsWholePages, ShowsWhatItRead}

@@ -39,7 +39,7 @@ use Rattle.tower_shows.specs.Began.{BeganWith, IsStepOn, IsTrueTo}
 use Rattle.tower_shows.proofs.Likes.{like_same}
 use Rattle.tower_shows.proofs.Rights.{rights_step}
 use Rattle.tower_shows.proofs.Bytes.{bytes_step}
-use Rattle.tower_shows.proofs.Reads.{began_shown, told_shown}
+use Rattle.tower_shows.proofs.Telling.{began_shown, told_shown}
 use Rattle.tower_shows.proofs.Stays.{ground_stays, ground_synced}
 use Rattle.tower_shows.specs.Since.{GroundIsSince, IsSince}
 use Rattle.tower_shows.proofs.Tells.{tells_done, tells_life, tells_revoked, told_clear, told_read, told_write}

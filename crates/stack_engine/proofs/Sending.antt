@@ -35,7 +35,7 @@ use Rattle.tower_shows.specs.Began.{BeganWith, IsStepOn, IsTrueTo, ground_shown}
 use Rattle.tower_shows.proofs.Rights.{rights_step}
 use Rattle.tower_shows.proofs.Bytes.{bytes_step}
 use Rattle.tower_shows.proofs.Firsts.{grant_first, grant_kept, grant_others, grant_zeros}
-use Rattle.tower_shows.proofs.Reads.{FindsShown, began_shown, read_here, sent_shown, told_shown}
+use Rattle.tower_shows.proofs.Telling.{FindsShown, began_shown, read_here, sent_shown, told_shown}
 use Rattle.stack_engine.specs.Answers.{FindsPagesOf, ShowsWhatItRead}
 use Rattle.stack_engine.specs.Engine.{EngineSeen, IsEngine, IsNext, IsSound, column_in, events_in, file_in, log_in, reads_ground, sides_in, tree_in, uses_in}
 use Rattle.stack_engine.specs.Messages.{IsPush, event_asked, event_called, event_granted}

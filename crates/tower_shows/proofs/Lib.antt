@@ -4,4 +4,4 @@ pub mod Bytes
 pub mod Firsts
 pub mod Tells
 pub mod Stays
-pub mod Reads
+pub mod Telling

@@ -99,7 +99,7 @@ module _ (shape : TreeShape) (told : Option (List (List ℕ))) (page pages node 
   pub grant_shown : (ReadsGround shape (λ n. (old page n).right) (Grants node write) → (new page node).copy ≡ shown page) → IsSent shape (Some (pages_by shown pages)) page (Grants node write) old new
   grant_shown found = elim (reads_or shape (λ n. (old page n).right) node write) [
     | inl read ↦ read_sent read (found read)
-    | inr no ↦ record { brings = sent.brings; sent = sent.sent; brought = λ base next tells. sent.brought base next (λ read. absurd (no read)) }
+    | inr never ↦ record { brings = sent.brings; sent = sent.sent; brought = λ base next tells. sent.brought base next (λ read. absurd (never read)) }
   ]
 
 -- the page that a step reads from the ground is this one, as the node got it
@@ -109,19 +109,19 @@ FindsShown shape pages page step old new shown = Unit {0}
 
 other_shown : (shape : TreeShape) (told : Option (List (List ℕ))) (page pages : ℕ) (step : Step) (old new : ℕ → ℕ → Side) (shown : ℕ → List ℕ) → IsSent shape told page step old new
     → (ReadsGround shape (λ n. (old page n).right) step → ⊥) → IsSent shape (Some (pages_by shown pages)) page step old new
-other_shown shape told page pages step old new shown sent no = record { brings = sent.brings; sent = sent.sent; brought = λ base next tells. sent.brought base next (λ read. absurd (no read)) }
+other_shown shape told page pages step old new shown sent never = record { brings = sent.brings; sent = sent.sent; brought = λ base next tells. sent.brought base next (λ read. absurd (never read)) }
 
 pub sent_shown : (shape : TreeShape) (told : Option (List (List ℕ))) (page pages : ℕ) (step : Step) (old new : ℕ → ℕ → Side) (shown : ℕ → List ℕ) → IsSent shape told page step old new
     → FindsShown shape pages page step old new shown → IsSent shape (Some (pages_by shown pages)) page step old new
 sent_shown shape told page pages (Grants node write) old new shown sent found = grant_shown shape told page pages node write old new shown found.0 sent found.1
-sent_shown shape told page pages Untouched old new shown sent found = other_shown shape told page pages Untouched old new shown sent (λ no. no)
-sent_shown shape told page pages (Reads node) old new shown sent found = other_shown shape told page pages (Reads node) old new shown sent (λ no. no)
-sent_shown shape told page pages (Writes node) old new shown sent found = other_shown shape told page pages (Writes node) old new shown sent (λ no. no)
-sent_shown shape told page pages (PagesOut node) old new shown sent found = other_shown shape told page pages (PagesOut node) old new shown sent (λ no. no)
-sent_shown shape told page pages (Denies node) old new shown sent found = other_shown shape told page pages (Denies node) old new shown sent (λ no. no)
-sent_shown shape told page pages (Pushes node) old new shown sent found = other_shown shape told page pages (Pushes node) old new shown sent (λ no. no)
-sent_shown shape told page pages (Flushes node) old new shown sent found = other_shown shape told page pages (Flushes node) old new shown sent (λ no. no)
-sent_shown shape told page pages (Deletes node) old new shown sent found = other_shown shape told page pages (Deletes node) old new shown sent (λ no. no)
+sent_shown shape told page pages Untouched old new shown sent found = other_shown shape told page pages Untouched old new shown sent (λ never. never)
+sent_shown shape told page pages (Reads node) old new shown sent found = other_shown shape told page pages (Reads node) old new shown sent (λ never. never)
+sent_shown shape told page pages (Writes node) old new shown sent found = other_shown shape told page pages (Writes node) old new shown sent (λ never. never)
+sent_shown shape told page pages (PagesOut node) old new shown sent found = other_shown shape told page pages (PagesOut node) old new shown sent (λ never. never)
+sent_shown shape told page pages (Denies node) old new shown sent found = other_shown shape told page pages (Denies node) old new shown sent (λ never. never)
+sent_shown shape told page pages (Pushes node) old new shown sent found = other_shown shape told page pages (Pushes node) old new shown sent (λ never. never)
+sent_shown shape told page pages (Flushes node) old new shown sent found = other_shown shape told page pages (Flushes node) old new shown sent (λ never. never)
+sent_shown shape told page pages (Deletes node) old new shown sent found = other_shown shape told page pages (Deletes node) old new shown sent (λ never. never)
 
 -- a step that reads the page from the ground does so as an event
 pub read_here : (shape : TreeShape) (trail : List Event) (event : Event) (page : ℕ) (step : Step) → IsStepOn shape trail event page step → ReadsGround shape (λ node. right_of shape trail node page) step → IsRead shape trail page event
