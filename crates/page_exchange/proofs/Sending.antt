@@ -37,9 +37,9 @@ down_some Right.Nothing a b none same = ap Some same
 down_some Right.Read a b none same = absurd cc
 down_some Right.Write a b none same = absurd cc
 
--- where the ground tells its pages, the bytes of a grant are the page above
+-- the bytes of a grant are the page above, if that is the ground's where the ground tells its pages
 abbrev pub IsAbove : TreeShape → Option (List (List ℕ)) → ℕ → (ℕ → Side) → ℕ → Asked → List ℕ → Type 0
-IsAbove shape told page sides node what bytes = (base : ℕ → List ℕ) → IsSome told → Tells told base → IsForPage what → (sides node).right ≡ Right.Nothing → bytes ≡ page_above shape sides (base page) node
+IsAbove shape told page sides node what bytes = (base : ℕ → List ℕ) → (parent shape node ≡ 0 → IsSome told × Tells told base) → IsForPage what → (sides node).right ≡ Right.Nothing → bytes ≡ page_above shape sides (base page) node
 
 -- the tables as the exchange makes them, of which each node keeps its part
 module _ (shape : TreeShape) (node page : ℕ) (right : Right) (down up : Option (List ℕ)) (old new : ℕ → ℕ → Side) (x : AreExchangedAt shape node page right down up old new) (apart : parent shape node < node) where
@@ -71,24 +71,24 @@ pub asked_sent : (shape : TreeShape) (told : Option (List (List ℕ))) (page nod
 asked_sent shape told page node Asked.PageInRead old new bytes of_page apart may is x = record {
   brings = Some bytes;
   sent = sent_as shape node page Right.Read (Some bytes) None old new x apart (Some bytes) (Grants node false) (λ e. e);
-  brought = λ base next some tells. down_some (old page node).right bytes (page_above shape (old page) (base page) node) may (is base some tells tt may);
+  brought = λ base next tells. down_some (old page node).right bytes (page_above shape (old page) (base page) node) may (is base (λ ground. tells (ground, may)) tt may);
 }
 asked_sent shape told page node Asked.PageInWrite old new bytes of_page apart may is x = record {
   brings = down_for (old page node).right bytes;
   sent = sent_as shape node page Right.Write (down_for (old page node).right bytes) None old new x apart (down_for (old page node).right bytes) (Grants node true) (λ e. e);
-  brought = λ base next some tells. down_same (old page node).right bytes (page_above shape (old page) (base page) node) (is base some tells tt);
+  brought = λ base next tells. down_same (old page node).right bytes (page_above shape (old page) (base page) node) (λ none. is base (λ ground. tells (ground, none)) tt none);
 }
-asked_sent shape told page node Asked.PageOut old new bytes of_page apart may is x = record { brings = None; sent = sent_as shape node page Right.Nothing None (pushed_by (old page node)) old new x apart None (PagesOut node) (λ e. e); brought = λ base next some tells. tt }
-asked_sent shape told page node Asked.WriteOut old new bytes of_page apart may is x = record { brings = None; sent = sent_as shape node page Right.Read None (pushed_by (old page node)) old new x apart None (Denies node) (λ e. e); brought = λ base next some tells. tt }
-asked_sent shape told page node Asked.Sync old new bytes of_page apart may is x = record { brings = None; sent = sent_as shape node page Right.Write None (pushed_by (old page node)) old new x apart None (Pushes node) (λ e. e); brought = λ base next some tells. tt }
+asked_sent shape told page node Asked.PageOut old new bytes of_page apart may is x = record { brings = None; sent = sent_as shape node page Right.Nothing None (pushed_by (old page node)) old new x apart None (PagesOut node) (λ e. e); brought = λ base next tells. tt }
+asked_sent shape told page node Asked.WriteOut old new bytes of_page apart may is x = record { brings = None; sent = sent_as shape node page Right.Read None (pushed_by (old page node)) old new x apart None (Denies node) (λ e. e); brought = λ base next tells. tt }
+asked_sent shape told page node Asked.Sync old new bytes of_page apart may is x = record { brings = None; sent = sent_as shape node page Right.Write None (pushed_by (old page node)) old new x apart None (Pushes node) (λ e. e); brought = λ base next tells. tt }
 asked_sent shape told page node Asked.Done old new bytes of_page apart may is x = absurd (of_page refl)
 
 pub called_sent : (shape : TreeShape) (told : Option (List (List ℕ))) (page node : ℕ) (what : Called) (old new : ℕ → ℕ → Side) → what ≢ Called.Destroy → parent shape node < node
     → AreExchangedAt shape node page (called_right what) None (called_up (old page node) what) old new → IsSent shape told page (step_called what node) old new
-called_sent shape told page node Called.FlushBack old new of_page apart x = record { brings = None; sent = sent_as shape node page Right.Nothing None (pushed_by (old page node)) old new x apart None (Flushes node) (λ e. e); brought = λ base next some tells. tt }
-called_sent shape told page node Called.DenyWrites old new of_page apart x = record { brings = None; sent = sent_as shape node page Right.Read None (pushed_by (old page node)) old new x apart None (Denies node) (λ e. e); brought = λ base next some tells. tt }
-called_sent shape told page node Called.WriteBack old new of_page apart x = record { brings = None; sent = sent_as shape node page Right.Write None (pushed_by (old page node)) old new x apart None (Pushes node) (λ e. e); brought = λ base next some tells. tt }
-called_sent shape told page node Called.DeleteRange old new of_page apart x = record { brings = None; sent = sent_as shape node page Right.Nothing None None old new x apart None (Deletes node) (λ e. e); brought = λ base next some tells. tt }
+called_sent shape told page node Called.FlushBack old new of_page apart x = record { brings = None; sent = sent_as shape node page Right.Nothing None (pushed_by (old page node)) old new x apart None (Flushes node) (λ e. e); brought = λ base next tells. tt }
+called_sent shape told page node Called.DenyWrites old new of_page apart x = record { brings = None; sent = sent_as shape node page Right.Read None (pushed_by (old page node)) old new x apart None (Denies node) (λ e. e); brought = λ base next tells. tt }
+called_sent shape told page node Called.WriteBack old new of_page apart x = record { brings = None; sent = sent_as shape node page Right.Write None (pushed_by (old page node)) old new x apart None (Pushes node) (λ e. e); brought = λ base next tells. tt }
+called_sent shape told page node Called.DeleteRange old new of_page apart x = record { brings = None; sent = sent_as shape node page Right.Nothing None None old new x apart None (Deletes node) (λ e. e); brought = λ base next tells. tt }
 called_sent shape told page node Called.Destroy old new of_page apart x = absurd (of_page refl)
 
 -- THE PARENT IS A NODE: the bytes are its copy, and nothing comes up to the ground
@@ -99,7 +99,7 @@ no_ground shape node above = elim (eqb_tells (parent shape node) 0) [
 ]
 
 pub copy_above : (shape : TreeShape) (told : Option (List (List ℕ))) (page : ℕ) (sides : ℕ → Side) (node : ℕ) (what : Asked) → IsUpper shape (parent shape node) → IsAbove shape told page sides node what (sides (parent shape node)).copy
-copy_above shape told page sides node what above base some tells asks none = rw (no_ground shape node above) refl
+copy_above shape told page sides node what above base tells asks none = rw (no_ground shape node above) refl
 
 up_none : (shape : TreeShape) (node : ℕ) (sides : ℕ → Side) → IsUpper shape (parent shape node) → up_from shape node sides ≡ None
 up_none shape node sides above = rw (no_ground shape node above) refl
@@ -122,10 +122,11 @@ called_none shape node Called.Destroy sides above = refl
 -- THE PARENT IS THE GROUND: the bytes are the ground's page, and what the node gives comes up to it
 pub read_above : (shape : TreeShape) (told : Option (List (List ℕ))) (page : ℕ) (sides : ℕ → Side) (node : ℕ) (what : Asked) (bytes : List ℕ) → parent shape node ≡ 0
     → (IsForPage what → (sides node).right ≡ Right.Nothing → ReadsPage told page bytes) → IsAbove shape told page sides node what bytes
-read_above shape None page sides node what bytes ground read base some tells asks none = absurd cc
-read_above shape (Some ps) page sides node what bytes ground read base some tells asks none =
+read_above shape None page sides node what bytes ground read base tells asks none = absurd (let both : false ≡ true = (tells ground).0 in cc)
+read_above shape (Some ps) page sides node what bytes ground read base tells asks none =
     let there : slice_get ps page ≡ Some bytes = read asks none in
-    rw ground (told_read (Some ps) base page bytes tells some (slice_get_within ps page bytes there) there)
+    let told : IsSome (Some ps) × Tells (Some ps) base = tells ground in
+    rw ground (told_read (Some ps) base page bytes told.1 told.0 (slice_get_within ps page bytes there) there)
 
 pub on_ok : {A E : Type 0} (r : Result A E) {P Q : Type 0} → (P → Q) → OnOk r P → OnOk r Q
 on_ok (Ok x) f p = f p

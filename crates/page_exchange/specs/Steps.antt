@@ -56,9 +56,14 @@ pub record AreSentAt (shape : TreeShape) (page : ℕ) (brings : Option (List ℕ
   pub kept : AreLike to (new page)
   pub others : (p node : ℕ) → p ≢ page → new p node ≡ old p node
 
--- A message was sent and answered: it moved the tables by this step, and where the ground tells its pages a grant brought
--- what the parent has.
+-- a grant reads the page from the ground: its node stands on the ground, and has nothing of the page
+abbrev pub ReadsGround : TreeShape → (ℕ → Right) → Step → Type 0
+ReadsGround shape right (Grants node write) = (parent shape node ≡ 0) × (right node ≡ Right.Nothing)
+ReadsGround shape right step = ⊥
+
+-- A message was sent and answered: it moved the tables by this step, and a grant brought what the parent has; if it was read
+-- from the ground, so where the ground tells its pages.
 pub record IsSent (shape : TreeShape) (told : Option (List (List ℕ))) (page : ℕ) (step : Step) (old new : ℕ → ℕ → Side) : Type 0 where
   pub brings : Option (List ℕ)
   pub sent : AreSentAt shape page brings step old new
-  pub brought : (base : ℕ → List ℕ) (next : List ℕ) → IsSome told → Tells told base → AreBrought shape brings step (old page) (base page) next
+  pub brought : (base : ℕ → List ℕ) (next : List ℕ) → (ReadsGround shape (λ node. (old page node).right) step → IsSome told × Tells told base) → AreBrought shape brings step (old page) (base page) next

@@ -13,7 +13,7 @@ use Rattle.page_ground.specs.Seen.{AreBehind, Seen, held_in, faults_in, live_in,
 use Rattle.page_ground.specs.Seen.{kept_in as kept_by}
 use Rattle.tower_core.specs.Legal.{FitsFile, IsLegal, file_after}
 use Rattle.tower_core.specs.Trail.{IsRun, start, state_of}
-use Rattle.tower_core.specs.TreeShape.{TreeShape}
+use Rattle.tower_core.specs.TreeShape.{IsTree, TreeShape}
 use Rattle.page_messages.specs.declared.paged.PagedFile.{PagedFile}
 use Rattle.tower_log.specs.declared.logged.Logged.{Logged}
 use Rattle.tower_log.specs.declared.logged.Logged.TheVariants.{Entered, Noted}
@@ -22,10 +22,14 @@ use Rattle.tower_log.specs.Notes.{Rises, counts_of}
 use Rattle.tower_shows.specs.Began.{ArePagesOf}
 use Rattle.tower_shows.specs.Since.{AreSince}
 use Rattle.tower_shows.proofs.Stays.{told_stays}
+use Rattle.stack_engine.specs.Answers.{KeepsWholePages, ShowsWhatItRead}
 use Rattle.stack_engine.specs.Engine.{EngineSeen, IsSound, events_in, file_in, log_in, sides_in, tree_in}
-use Rattle.stack_engine.specs.Opened.{AreAnswers, IsOf, KeepsSince, last_from}
+use Rattle.stack_engine.specs.Opened.{AreAnswers, IsOf, KeepsPagesOf, KeepsSince, last_from}
 use Rattle.stack_engine.specs.Start as engines
 use Rattle.spr_volume.specs.Needed.{AreNeeded}
+use Rattle.spr_volume.specs.Reads.{StandsByFirst}
+use Rattle.spr_volume.proofs.Kept.{kept_file}
+use Rattle.spr_volume.proofs.Reading.{needed_finds}
 use Rattle.spr_volume.specs.Later.{AreAnswered, AreLater, IsLater, IsNoteOf, IsOnDisk, KeepsFirst, TurnsFirst}
 use Rattle.run_defs.specs.declared.store.StoreKey.{StoreKey}
 use Rattle.run_defs.specs.Stack.{pages_of}
@@ -113,14 +117,23 @@ module _ (mount : Mount) (file : ℕ) (before after : Seen) (e0 e1 : EngineSeen)
       (subst (λ (t : TreeShape). AreNeeded t (file_in e0).pages [] run.later.more) run.opens.tree_is
       (subst (λ (l : List Logged). AreNeeded (tree_in e0) (file_in e0).pages (trail_of l) run.later.more) run.opens.no_log run.later.needed)))
 
+  -- each file that has the pages which the log kept answers as the log does
+  kept-answers : StandsByFirst mount.tree → (opening : List ℕ) → length opening ≡ pages_of mount file * mount.page_size → KeepsPagesOf mount.page_size opening (log_in e1) → AreAnswers mount.tree mount.page_size opening (log_in e1)
+  kept-answers first opening long keeps =
+      let shows : ShowsWhatItRead mount.tree mount.page_size (pages_of mount file) (log_in e1) (sides_in e1) = at-mount (λ t f. ShowsWhatItRead t f.page_size f.pages (log_in e1) (sides_in e1)) run.sound.shows in
+      (shows opening long (needed_finds mount.tree mount.page_size (pages_of mount file) opening (log_in e1) (at-mount (λ t f. IsTree t) run.sound.true_to.tree) first long
+      (at-mount (λ t f. IsRun t f.pages start (events_in e1)) run.sound.true_to.run) (at-mount (λ t f. AllByRecursion (FitsFile f.page_size f.pages) (events_in e1)) run.sound.true_to.fits) needed-is keeps)).1
+
   -- its log is the file's
-  pub of-file : (disks : ℕ) → disks ≡ length mount.disks → ((disk : ℕ) → Contains (live_in before.disks) disk → disk < disks) → IsOfFile mount file (log_in e1)
-  of-file disks same few = record {
+  pub of-file : StandsByFirst mount.tree → (disks : ℕ) → disks ≡ length mount.disks → ((disk : ℕ) → Contains (live_in before.disks) disk → disk < disks) → IsOfFile mount file (log_in e1)
+  of-file first disks same few = record {
     run = at-mount (λ t f. IsRun t f.pages start (events_in e1)) run.sound.true_to.run;
     fits = at-mount (λ t f. AllByRecursion (FitsFile f.page_size f.pages) (events_in e1)) run.sound.true_to.fits;
     few = run.sound.few;
     notes = subst (λ n. AllByRecursion (IsOfDisks n) (log_in e1)) same (notes-of (log_in e1) disks-later.notes);
     answers = λ opening. answers-but-bytes mount.tree mount.page_size (pages_of mount file) opening (log_in e1) (at-mount (λ t f. IsRun t f.pages start (events_in e1)) run.sound.true_to.run) answered-is;
+    kept_file = kept_file mount.page_size (pages_of mount file) (log_in e1) (at-mount (λ t f. KeepsWholePages f.page_size f.pages (log_in e1)) run.sound.keeps);
+    kept_answers = kept-answers first;
     needed = needed-is;
   }
     where

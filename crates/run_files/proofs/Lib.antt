@@ -1,6 +1,7 @@
 pub mod WholeLaws
 pub mod PageLaws
 pub mod GivenLaws
+pub mod FirstLaws
 pub mod EngineLaws
 pub mod DiskLaws
 pub mod PromiseLaws

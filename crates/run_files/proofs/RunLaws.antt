@@ -54,6 +54,9 @@ use Rattle.run_files.specs.Told.{Tells}
 use Rattle.run_files.proofs.HeldLaws.{opens-length, opens-at, made-at, ended-at, ended-length, shut-length, shut-at, length-logs}
 use Rattle.run_files.proofs.TowerLaws.{back-at, log_at-tower, same-number}
 use Rattle.run_files.proofs.EngineLaws.{EngineRun, disks-later, of-file}
+use Rattle.run_files.proofs.FirstLaws.{stands-by-first}
+use Rattle.spr_volume.specs.Reads.{StandsByFirst}
+use Rattle.stack_accept.specs.Sound.{IsMount}
 use Rattle.run_files.proofs.TurnLaws.{UnderTurn, few-disks, leaves-of, turn-of, turn-pairs}
 
 -- the pages of a file of the stack
@@ -176,10 +179,10 @@ module _ (mount : Mount) (after : List TowerSeen) (k : ℕ) (f g : FileSeen) (r 
       (leaves-of mount f g closing r.opens.made r.notices u0 u1 r.t0.engine e1 r.is engine-run r.opens.over r.opens.under_sound (disks-later mount f.file (seen_under u0) (seen_under u1) r.t0.engine e1 engine-run) r.shut.left r.shut.under_sound whole r.opens.each r.close)
 
   -- its log
-  file-log : IsOfFile mount k (log_of (logs after) k)
-  file-log = subst (λ (l : List Logged). IsOfFile mount k l) log-at
+  file-log : StandsByFirst mount.tree → IsOfFile mount k (log_of (logs after) k)
+  file-log first = subst (λ (l : List Logged). IsOfFile mount k l) log-at
       (subst (λ n. IsOfFile mount n (log_in e1)) r.file
-      (of-file mount f.file (seen_under u0) (seen_under u1) r.t0.engine e1 engine-run (length f.stores) (file-number mount f r.is) (few-disks mount (log_in e1) f g u0 u1 r.is turn)))
+      (of-file mount f.file (seen_under u0) (seen_under u1) r.t0.engine e1 engine-run first (length f.stores) (file-number mount f r.is) (few-disks mount (log_in e1) f g u0 u1 r.is turn)))
 
 over-pairs : (mount : Mount) (before after : List TowerSeen) (olds news : List FileSeen) → IsRunOver mount before after olds news → AreFilePairs Lasts olds news
 over-pairs mount before after olds news run file f g was is = file-pairs mount after file f g (file-run mount before after olds news file f g run was is).0
@@ -204,8 +207,8 @@ module _ (mount : Mount) (closer : ℕ) (before after : List TowerSeen) (olds ne
       (file-left mount after file f g r closing (λ done. (closed file r.t1 (ap (λ n. slice_get closing n) (sym r.file) ∙ done) r.there1).whole))
 
   -- the logs of the files
-  of-files : length closing ≡ length mount.files → AreOfFiles mount closer closing (logs after)
-  of-files all =
+  of-files : StandsByFirst mount.tree → length closing ≡ length mount.files → AreOfFiles mount closer closing (logs after)
+  of-files first all =
       let files = run.of.number in
       let many = number-news mount before after olds news run in
       let towers = shut-length 0 after news run.shut in
@@ -214,7 +217,7 @@ module _ (mount : Mount) (closer : ℕ) (before after : List TowerSeen) (olds ne
         each = λ file lt.
             let f = there olds file (omega (arith, lt, files)) in
             let g = there news file (omega (arith, lt, files, many)) in
-            file-log mount after file f.0 g.0 (file-run mount before after olds news file f.0 g.0 run f.1 g.1).0;
+            file-log mount after file f.0 g.0 (file-run mount before after olds news file f.0 g.0 run f.1 g.1).0 first;
         ended = λ file done.
             let within = slice_get_within closing file Done done in
             let t = there after file (omega (arith, within, all, files, many, towers)) in
@@ -264,9 +267,9 @@ starts-are end (t ∷ ts) (u ∷ us) back none =
 
 -- the run of the files
 played-over : (mount : Mount) (script : Script) (before mid after : BaySeen) (towers towers_after : List TowerSeen) (names : NamesSeen) (olds news : List FileSeen) (lost : List StoreKey) (said : List (List Said)) (closing : List Reply)
-    → IsTaken mount before mid (stores_of mount) (stores_in olds) → (run : IsRunOver mount towers towers_after olds news) → ArePlayed mount script towers towers_after names said closing → AreGiven mount mid after (stores_in news) lost
+    → IsMount mount → IsTaken mount before mid (stores_of mount) (stores_in olds) → (run : IsRunOver mount towers towers_after olds news) → ArePlayed mount script towers towers_after names said closing → AreGiven mount mid after (stores_in news) lost
     → Played mount script before after (record { logs = logs towers_after; names = names }) said closing lost (all_notices mount run.told)
-played-over mount script before mid after towers towers_after names olds news lost said closing taken run played given =
+played-over mount script before mid after towers towers_after names olds news lost said closing is_mount taken run played given =
     let unwritten = unwritten-opened mount olds towers run.opened in
     record {
       olds = olds;
@@ -278,17 +281,17 @@ played-over mount script before mid after towers towers_after names olds news lo
       same = record { many = number-news mount towers towers_after olds news run; pairs = over-pairs mount towers towers_after olds news run };
       stores = are-back mount (length script.clients) towers towers_after olds news closing run played.closed before mid after lost taken given;
       leaves = leaves mount (length script.clients) towers towers_after olds news closing run played.closed;
-      files = of-files mount (length script.clients) towers towers_after olds news closing run played.closed played.closing_each;
+      files = of-files mount (length script.clients) towers towers_after olds news closing run played.closed (stands-by-first mount is_mount) played.closing_each;
       fits = subst (λ (ls : List (List Logged)). FitsScript mount script (record { logs = ls; names = unnamed mount }) (record { logs = logs towers_after; names = names }) said closing) (starts-are run.end towers towers_after run.back unwritten) (played.fits (shut-numbered 0 towers_after news run.shut));
       answered = played.answered;
     }
 
 -- the run, by what was written of it
 pub run-over : (mount : Mount) (script : Script) (traced : Option Ops) (before mid after : BaySeen) (towers towers_after : List TowerSeen) (names : NamesSeen) (olds news : List FileSeen) (lost : List StoreKey) (said : List (List Said)) (closing : List Reply)
-    (ls : List (List Logged)) (old new : SinkSeen) (status result : Status) → IsTaken mount before mid (stores_of mount) (stores_in olds) → (run : IsRunOver mount towers towers_after olds news) → ArePlayed mount script towers towers_after names said closing
+    (ls : List (List Logged)) (old new : SinkSeen) (status result : Status) → IsMount mount → IsTaken mount before mid (stores_of mount) (stores_in olds) → (run : IsRunOver mount towers towers_after olds news) → ArePlayed mount script towers towers_after names said closing
     → AreGiven mount mid after (stores_in news) lost → ls ≡ logs towers_after → status ≡ status_of said closing lost → Tells mount script traced (record { logs = ls; names = names }) said closing lost status old new result → Written (SaysRun mount script traced before after (all_notices mount run.told)) old new result
-run-over mount script traced before mid after towers towers_after names olds news lost said closing ls old new status result taken run played given is how tells =
-    let p = played-over mount script before mid after towers towers_after names olds news lost said closing taken run played given in
+run-over mount script traced before mid after towers towers_after names olds news lost said closing ls old new status result is_mount taken run played given is how tells =
+    let p = played-over mount script before mid after towers towers_after names olds news lost said closing is_mount taken run played given in
     ⊎_elim
     (λ done.
     record {

@@ -21,7 +21,7 @@ use Rattle.tower_log.specs.Notes.{Rises, counts_of}
 use Rattle.layer_laws.specs.PlacesShown.{page_shown}
 use Rattle.tower_shows.specs.Began.{ArePagesOf}
 use Rattle.tower_shows.specs.Since.{AreSince}
-use Rattle.stack_engine.specs.Opened.{AreAnswers, last_from}
+use Rattle.stack_engine.specs.Opened.{AreAnswers, KeepsPagesOf, last_from}
 use Rattle.spr_volume.specs.Later.{notes_in}
 use Rattle.spr_volume.specs.Needed.{AreNeeded}
 use Rattle.run_defs.specs.declared.store.StoreKey.{StoreKey}
@@ -78,14 +78,16 @@ AreAnswersButBytes shape size opening log = (place : ℕ) (entry : Entry) → sl
 
 -- A file's log, whatever its store tells: each event stays in the file and was allowed where it stands, so that one writer or
 -- many readers had each page at each layer; there are no more events than a file may have; each note is of a disk of the stack; whatever bytes
--- the file began with, each answer is the plain file's at its place, but for the bytes of a read; and no page message is needless: each comes
--- next, where it stands, for an access or for a sync.
+-- the file began with, each answer is the plain file's at its place, but for the bytes of a read; over each file that has the pages which the log
+-- kept, the bytes are the plain file's too, and there is such a file; and no page message is needless: each comes next, where it stands, for an access or for a sync.
 pub record IsOfFile (mount : Mount) (file : ℕ) (log : List Logged) : Type 0 where
   pub run : IsRun mount.tree (pages_of mount file) start (trail_of log)
   pub fits : AllByRecursion (FitsFile mount.page_size (pages_of mount file)) (trail_of log)
   pub few : place_of log ≤ MAX_EVENTS
   pub notes : AllByRecursion (IsOfDisks (length mount.disks)) log
   pub answers : (opening : List ℕ) → AreAnswersButBytes mount.tree mount.page_size opening log
+  pub kept_file : (opening : List ℕ) × (length opening ≡ pages_of mount file * mount.page_size) × KeepsPagesOf mount.page_size opening log
+  pub kept_answers : (opening : List ℕ) → length opening ≡ pages_of mount file * mount.page_size → KeepsPagesOf mount.page_size opening log → AreAnswers mount.tree mount.page_size opening log
   pub needed : AreNeeded mount.tree (pages_of mount file) [] log
 
 -- the files' logs, one for each; one whose closing sync is done ends with it

@@ -11,3 +11,6 @@ pub mod RowLemmas
 pub mod Passing
 pub mod FilesCrossing
 pub mod NamesStories
+pub mod Unwritten
+pub mod Reading
+pub mod Kept

@@ -10,3 +10,4 @@ pub mod FileCalls
 pub mod Rows
 pub mod NamesCalls
 pub mod NamesShared
+pub mod Reads

@@ -13,6 +13,7 @@ mod answered;
 mod file_calls;
 mod files;
 mod holds;
+mod law;
 mod mounted;
 mod names;
 mod names_calls;
@@ -22,6 +23,7 @@ mod shared_files;
 mod shared_tower;
 
 pub use answered::Answered;
+pub use law::{kept_pages_make_a_file, needed_runs_read_once};
 pub use mounted::{Pass, Volume};
 pub use name_context::{NameErr, Names, Stored};
 pub use shared_files::{FilesPass, SharedFiles};

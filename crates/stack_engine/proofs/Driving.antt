@@ -15,9 +15,14 @@ use Rattle.tower_log.specs.declared.logged.Logged.{Logged}
 use Rattle.tower_log.specs.Log.{place_of, trail_of}
 use Rattle.tower_shows.specs.Began.{ArePagesOf, BeganWith}
 use Rattle.tower_shows.proofs.Bytes.{bytes_start}
+use Rattle.tower_shows.proofs.Telling.{began_shown, pages_by, pages_each, pages_many}
+use Rattle.hist_plain.specs.History.{page_in}
+use Rattle.layer_laws.specs.Side.{Side}
+use Rattle.layer_laws.specs.Tables.{AreBare}
+use Rattle.stack_engine.specs.Answers.{AreAnswers, KeepsPagesOf, ShowsWhatItRead}
 use Rattle.stack_engine.specs.Engine.{EngineSeen, IsEngine, IsNext, column_in, events_in, file_in, log_in, sides_in, state_in, tree_in}
 use Rattle.stack_engine.specs.Moves.{Sends, StandsFor}
-use Rattle.stack_engine.specs.Opened.{AreAnswers, IsOf, KeepsPagesOf, last_from}
+use Rattle.stack_engine.specs.Opened.{IsOf, last_from}
 use Rattle.stack_engine.specs.Plans.{IsLowest, IsLowestUnsettled, SettlesBy}
 use Rattle.stack_engine.specs.Start.{Opens}
 use Rattle.stack_engine.specs.Tower.{Settles, TowerSeen}
@@ -38,15 +43,15 @@ sync_next e caller number node from keep upper le settled = record {
 
 -- THE LOWEST PAGE THAT IS NOT SETTLED
 
-pub none_unsettled : (e : EngineSeen) (sheet : Sheet) (granted : List Bool) → IsEngine e sheet granted → (pages from : ℕ) → pages ≡ (file_in e).pages → (found : Option ℕ) → IfNone found ((page : ℕ) → page < pages → IsSettled from ((seen sheet).column page))
+pub none_unsettled : (e : EngineSeen) (sheet : Sheet) → IsEngine e sheet → (pages from : ℕ) → pages ≡ (file_in e).pages → (found : Option ℕ) → IfNone found ((page : ℕ) → page < pages → IsSettled from ((seen sheet).column page))
     → IfNone found ((page : ℕ) → page < (file_in e).pages → IsSettled from (column_in e page))
-none_unsettled e sheet granted is pages from same (Some page) h = tt
-none_unsettled e sheet granted is pages from same None h = λ page inside.
+none_unsettled e sheet is pages from same (Some page) h = tt
+none_unsettled e sheet is pages from same None h = λ page inside.
     subst (λ (s : State). IsSettled from (s.column page)) is.sheet_is.state_is (h page (subst (λ (n : ℕ). page < n) (sym same) inside))
 
-pub some_unsettled : (e : EngineSeen) (sheet : Sheet) (granted : List Bool) → IsEngine e sheet granted → (pages from : ℕ) → pages ≡ (file_in e).pages → (found : Option ℕ) → IfSome found (IsLowest (seen sheet) pages from) → IfSome found (IsLowestUnsettled e from)
-some_unsettled e sheet granted is pages from same None h = tt
-some_unsettled e sheet granted is pages from same (Some page) h = record {
+pub some_unsettled : (e : EngineSeen) (sheet : Sheet) → IsEngine e sheet → (pages from : ℕ) → pages ≡ (file_in e).pages → (found : Option ℕ) → IfSome found (IsLowest (seen sheet) pages from) → IfSome found (IsLowestUnsettled e from)
+some_unsettled e sheet is pages from same None h = tt
+some_unsettled e sheet is pages from same (Some page) h = record {
   inside = subst (λ (n : ℕ). page < n) same h.inside;
   unsettled = subst (λ (s : State). IsUnsettled from (s.column page)) is.sheet_is.state_is h.unsettled;
   lowest = λ lower le. subst (λ (s : State). IsSettled from (s.column lower)) is.sheet_is.state_is (h.lowest lower le);
@@ -86,6 +91,14 @@ opened_of tree file ground e over opens opening told is long pages = record {
   answers = subst (AreAnswers (tree_in e) (file_in e).page_size opening) (sym opens.no_log) (λ place entry none. absurd cc);
   synced = λ from last. let none : None ≡ Some from = sym (ap (λ (log : List Logged). last_from (trail_of log)) opens.no_log) ∙ last in absurd cc;
 }
+
+-- and whatever the ground tells, it shows each file as one that has read nothing
+pub shows_start : (shape : TreeShape) (size pages : ℕ) (sides : ℕ → ℕ → Side) → IsTree shape → AreBare sides → ShowsWhatItRead shape size pages [] sides
+shows_start shape size pages sides tree bare opening sized finds = (
+  began_shown shape size pages opening [] sides (Some (pages_by (page_in size opening) pages))
+  (bytes_start shape size pages opening sides (pages_by (page_in size opening) pages) tree bare sized (record { many = pages_many (page_in size opening) pages; each = λ page inside. pages_each (page_in size opening) pages page inside })),
+  λ place entry none. absurd cc,
+)
 
 -- THE TURNS, taken and given up
 

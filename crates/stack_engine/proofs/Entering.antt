@@ -1,8 +1,9 @@
 -- An engine with one thing more in its log: what holds of it still.
 use Rattle.std.proofs.Common.{◌≡◌, ◌≢◌, ◌⊎◌, inl, inr, ℕ, ◌+◌, ◌<◌, ◌≤◌, ◌||◌, ◌==◌, Bool, true, false, cond, nat_lt, List, [], ◌∷◌, ◌++◌, length, take, Option, Some, None, IfSome, IsSome, refl, sym, ap, subst, ◌∙◌, arith, length-append}
-use Rattle.std.specs.Prelude.{slice_get, slice_index_or, Contains}
+use Rattle.std.specs.Prelude.{slice_get, Contains}
 use Rattle.std.proofs.lemmas.List.{append-nil, take-append-le, take_all}
 use Rattle.std.proofs.lemmas.Bool.Decides.{nat_tests, eqb_tells}
+use Rattle.std.proofs.lemmas.Option.{slice_get_within}
 use Rattle.hist_plain.specs.declared.TheConstants.{MAX_EVENTS}
 use Rattle.hist_plain.specs.declared.event.Event.{Event}
 use Rattle.hist_plain.specs.Event.{caller_of, number_of}
@@ -18,6 +19,7 @@ use Rattle.tower_core.specs.TreeShape.{TreeShape, frames_of, nodes}
 use Rattle.tower_core.specs.Trail.{State, state_after, state_of}
 use Rattle.tower_core.proofs.Legals.{state_of-snoc}
 use Rattle.layer_laws.specs.Granted.{is_grant_of, is_granted_in}
+use Rattle.layer_laws.specs.Side.{Side}
 use Rattle.page_messages.specs.declared.paged.PagedFile.{PagedFile}
 use Rattle.page_exchange.specs.Ground.{IsOneCall}
 use Rattle.page_exchange.specs.declared.tables.Tables.{Tables}
@@ -28,15 +30,18 @@ use Rattle.tower_log.specs.declared.logged.Logged.TheVariants.{Entered, Noted}
 use Rattle.tower_log.specs.declared.logged.Note.{Note}
 use Rattle.tower_log.specs.Log.{entries_of, kept_in, place_of, told_by, trail_of}
 use Rattle.tower_log.specs.Notes.{Rises, counts_of}
-use Rattle.tower_shows.specs.Began.{BeganWith, IsTrueTo}
+use Rattle.tower_shows.specs.Began.{AreSame, BeganWith, IsTrueTo, ground_shown}
+use Rattle.tower_shows.specs.Reads.{IsRead, Shows}
 use Rattle.tower_shows.specs.Since.{AreSince, GroundIsSince}
 use Rattle.tower_shows.proofs.Rights.{rights_same}
 use Rattle.tower_shows.proofs.Bytes.{bytes_same}
+use Rattle.tower_shows.proofs.Telling.{began_shown, shown_began, told_shown}
 use Rattle.tower_shows.proofs.Stays.{ground_stays, told_later, told_stays}
 use Rattle.vmm_cache.specs.Used.{AreUses}
-use Rattle.stack_engine.specs.Engine.{AreGranted, EngineSeen, IsNext, IsSheetOf, IsSound, NotesRise, events_in, file_in, log_in, sides_in, state_in, tree_in, uses_in}
-use Rattle.stack_engine.specs.Opened.{AreAnswers, IsOf, IsSynced, KeepsPagesOf, KeepsSince, from_after, last_from}
-use Rattle.stack_engine.proofs.Logs.{at-end, at-last, counts_of-append, counts_of-entered, entries_of-entered, granted-entered, kept-entered, last_from-entered, length-entries_of, not-kept, numbered-entered, rises-later, rises-more, trail_of-entered}
+use Rattle.stack_engine.specs.Answers.{AreAnswers, FindsPagesOf, KeepsPagesOf, KeepsWholePages, ShowsWhatItRead}
+use Rattle.stack_engine.specs.Engine.{EngineSeen, IsNext, IsSheetOf, IsSound, NotesRise, events_in, file_in, log_in, sides_in, state_in, tree_in, uses_in}
+use Rattle.stack_engine.specs.Opened.{IsOf, IsSynced, KeepsSince, from_after, last_from}
+use Rattle.stack_engine.proofs.Logs.{at-end, at-last, before-end, counts_of-append, counts_of-entered, entries_of-entered, kept-entered, last-there, last_from-entered, length-entries_of, not-kept, numbered-entered, rises-later, rises-more, trail_of-entered}
 
 -- a fact of the tree and the file of tables that stayed of one file
 pub at_same : (P : TreeShape → PagedFile → Type 0) (old new : Tables) → IsSameFile old new → P (tree_of old) (paged_of old) → P (tree_of new) (paged_of new)
@@ -140,6 +145,82 @@ below_or_not a b = by (nat_lt a b) refl
     by true e = inl (grind (arith, nat_tests))
     by false e = inr (λ lt. grind (arith, nat_tests))
 
+-- what a log with one entry more has, its beginning had
+before_is : (log : List Logged) (entry : Entry) (place : ℕ) → place ≤ length (trail_of log) → take place (trail_of (log ++ Entered entry ∷ [])) ≡ take place (trail_of log)
+before_is log entry place le = ap (take place) (trail_of-entered log entry) ∙ take-append-le place (trail_of log) (entry.event ∷ []) le
+
+all_before : (log : List Logged) (entry : Entry) → take (length (trail_of log)) (trail_of (log ++ Entered entry ∷ [])) ≡ trail_of log
+all_before log entry = before_is log entry (length (trail_of log)) (omega arith) ∙ take_all (length (trail_of log)) (trail_of log) (omega arith)
+
+entry_there : (log : List Logged) (entry other : Entry) (place : ℕ) → slice_get (entries_of (log ++ Entered entry ∷ [])) place ≡ Some other → slice_get (entries_of log ++ entry ∷ []) place ≡ Some other
+entry_there log entry other place is = sym (ap (λ (es : List Entry). slice_get es place) (entries_of-entered log entry)) ∙ is
+
+answers_entered : (shape : TreeShape) (size : ℕ) (opening : List ℕ) (log : List Logged) (entry : Entry) → AreAnswers shape size opening log
+    → reply (plain_shape shape size) (file_after shape size opening (trail_of log)) entry.event ≡ told_by entry → AreAnswers shape size opening (log ++ Entered entry ∷ [])
+answers_entered shape size opening log entry answers told place other is = by (below_or_not place (length (entries_of log)))
+  where
+    abbrev replied : List Event → Event → Option Told
+    replied es event = reply (plain_shape shape size) (file_after shape size opening es) event
+
+    there : slice_get (entries_of log ++ entry ∷ []) place ≡ Some other
+    there = entry_there log entry other place is
+
+    many : length (entries_of log) ≡ length (trail_of log)
+    many = length-entries_of log
+
+    by : (place < length (entries_of log)) ⊎ (place < length (entries_of log) → ⊥) → replied (take place (trail_of (log ++ Entered entry ∷ []))) other.event ≡ told_by other
+    by (inl lt) = ap (λ (es : List Event). replied es other.event) (before_is log entry place (omega (arith, lt, many)))
+        ∙ answers place other (at-end (entries_of log) entry other place lt there)
+    by (inr beyond) = let last = at-last (entries_of log) entry other place beyond there in
+        let at : place ≡ length (trail_of log) = last.0 ∙ many in
+        ap (λ (es : List Event). replied es other.event) (ap (λ (k : ℕ). take k (trail_of (log ++ Entered entry ∷ []))) at ∙ all_before log entry)
+        ∙ ap (λ (e : Entry). replied (trail_of log) e.event) (sym last.1)
+        ∙ told
+        ∙ ap told_by last.1
+
+finds_before : (shape : TreeShape) (size : ℕ) (opening : List ℕ) (log : List Logged) (entry : Entry) → FindsPagesOf shape size opening (log ++ Entered entry ∷ []) → FindsPagesOf shape size opening log
+finds_before shape size opening log entry finds place page other is read =
+    let inside : place < length (entries_of log) = slice_get_within (entries_of log) place other is in
+    let many : length (entries_of log) ≡ length (trail_of log) = length-entries_of log in
+    let same : take place (trail_of (log ++ Entered entry ∷ [])) ≡ take place (trail_of log) = before_is log entry place (omega (arith, inside, many)) in
+    finds place page other (ap (λ (es : List Entry). slice_get es place) (entries_of-entered log entry) ∙ before-end (entries_of log) entry other place is) (subst (λ (es : List Event). IsRead shape es page other.event) (sym same) read)
+    ∙ ap (λ (es : List Event). ground_shown shape size opening es page) same
+
+-- the last one found its page, if it was read
+pub finds_last : (shape : TreeShape) (size : ℕ) (opening : List ℕ) (log : List Logged) (entry : Entry) (page : ℕ) → FindsPagesOf shape size opening (log ++ Entered entry ∷ []) → IsRead shape (trail_of log) page entry.event
+    → entry.bytes ≡ ground_shown shape size opening (trail_of log) page
+finds_last shape size opening log entry page finds read =
+    let many : length (entries_of log) ≡ length (trail_of log) = length-entries_of log in
+    finds (length (trail_of log)) page entry
+    (ap (λ (es : List Entry). slice_get es (length (trail_of log))) (entries_of-entered log entry) ∙ ap (λ (k : ℕ). slice_get (entries_of log ++ entry ∷ []) k) (sym many) ∙ last-there (entries_of log) entry)
+    (subst (λ (es : List Event). IsRead shape es page entry.event) (sym (all_before log entry)) read)
+    ∙ ap (λ (es : List Event). ground_shown shape size opening es page) (all_before log entry)
+
+-- a log that shows what it read, with one entry more: as of a ground that told the pages
+pub shows_entered : (shape : TreeShape) (size pages : ℕ) (log : List Logged) (entry : Entry) (old new : ℕ → ℕ → Side) → ShowsWhatItRead shape size pages log old
+    → ((opening : List ℕ) → FindsPagesOf shape size opening (log ++ Entered entry ∷ []) → BeganWith shape size pages opening (trail_of log) old (told_shown shape size pages opening (trail_of log))
+    → Shows shape size pages opening (trail_of log ++ entry.event ∷ []) new × (reply (plain_shape shape size) (file_after shape size opening (trail_of log)) entry.event ≡ told_by entry))
+    → ShowsWhatItRead shape size pages (log ++ Entered entry ∷ []) new
+shows_entered shape size pages log entry old new shows next opening sized finds =
+    let before = shows opening sized (finds_before shape size opening log entry finds) in
+    let after = next opening finds (shown_began shape size pages opening (trail_of log) old before.0) in
+    (subst (λ (es : List Event). Shows shape size pages opening es new) (sym (trail_of-entered log entry)) after.0, answers_entered shape size opening log entry before.1 after.1)
+
+-- a log whose entries are the same, and tables that differ nowhere
+shows_left : (shape : TreeShape) (size pages : ℕ) (log log' : List Logged) (old new : ℕ → ℕ → Side) → trail_of log' ≡ trail_of log → entries_of log' ≡ entries_of log → AreSame old new
+    → ShowsWhatItRead shape size pages log old → ShowsWhatItRead shape size pages log' new
+shows_left shape size pages log log' old new trail entries same shows opening sized finds =
+    let was = shows opening sized (λ place page entry is read.
+        finds place page entry (ap (λ (es : List Entry). slice_get es place) entries ∙ is) (subst (λ (es : List Event). IsRead shape (take place es) page entry.event) (sym trail) read)
+        ∙ ap (λ (es : List Event). ground_shown shape size opening (take place es) page) trail) in
+    (
+      subst (λ (es : List Event). Shows shape size pages opening es new) (sym trail)
+      (began_shown shape size pages opening (trail_of log) new (told_shown shape size pages opening (trail_of log))
+      (bytes_same shape size pages opening (trail_of log) old new (told_shown shape size pages opening (trail_of log)) (shown_began shape size pages opening (trail_of log) old was.0) same)),
+      λ place other is. ap (λ (es : List Event). reply (plain_shape shape size) (file_after shape size opening (take place es)) other.event) trail
+      ∙ was.1 place other (sym (ap (λ (es : List Entry). slice_get es place) entries) ∙ is),
+    )
+
 module _ (old new : EngineSeen) (entry : Entry) (sound : IsSound old) (file : IsSameFile old.tables new.tables) (log : log_in new ≡ log_in old ++ Entered entry ∷ [])
     (next : IsNext old entry.event) (few : place_of (log_in old) < MAX_EVENTS) (call : IsOneCall old.ground new.ground)
     (true_to : IsTrueTo (tree_in old) (file_in old).page_size (file_in old).pages (events_in old ++ entry.event ∷ []) (sides_in new)) where
@@ -150,8 +231,10 @@ module _ (old new : EngineSeen) (entry : Entry) (sound : IsSound old) (file : Is
   place_is = ap (λ (es : List Event). length es) events_are ∙ length-append (events_in old) (entry.event ∷ [])
 
   pub sound_entered : new.trail.page_size ≡ old.trail.page_size → ((c : ℕ) → caller_of entry.event ≡ Some c → number_of entry.event ≡ length (mine (events_in old) c))
-      → ((leaf : ℕ) → 0 < leaf → frames_of (tree_in old) leaf ≢ 0 → AreUses (state_of (tree_in old) (events_in old ++ entry.event ∷ [])) leaf (uses_in new leaf)) → IsSound new
-  sound_entered size number listed = record {
+      → ((leaf : ℕ) → 0 < leaf → frames_of (tree_in old) leaf ≢ 0 → AreUses (state_of (tree_in old) (events_in old ++ entry.event ∷ [])) leaf (uses_in new leaf))
+      → ShowsWhatItRead (tree_in old) (file_in old).page_size (file_in old).pages (log_in old ++ Entered entry ∷ []) (sides_in new)
+      → ((page : ℕ) → is_granted_in page (events_in old) ≡ false → is_grant_of page entry.event ≡ true → (page < (file_in old).pages) × (length entry.bytes ≡ (file_in old).page_size)) → IsSound new
+  sound_entered size number listed shows whole = record {
     true_to = at_same (λ (t : TreeShape) (f : PagedFile). IsTrueTo t f.page_size f.pages (events_in new) (sides_in new)) old.tables new.tables file
         (subst (λ (es : List Event). IsTrueTo (tree_in old) (file_in old).page_size (file_in old).pages es (sides_in new)) (sym events_are) true_to);
     under = at_same (λ (t : TreeShape) (f : PagedFile). IsUnderFile new.ground f) old.tables new.tables file (once_under old.ground new.ground (file_in old) call sound.under);
@@ -161,6 +244,13 @@ module _ (old new : EngineSeen) (entry : Entry) (sound : IsSound old) (file : Is
     numbered = subst IsNumbered (sym events_are) (numbered-entered (events_in old) entry.event sound.numbered number);
     notes = subst (NotesRise new.ground.disks) (sym log) (notes_entered old.ground new.ground (log_in old) entry call sound.notes);
     page_size = size ∙ sound.page_size ∙ ap (λ (f : PagedFile). f.page_size) (sym file.file);
+    shows = at_same (λ (t : TreeShape) (f : PagedFile). ShowsWhatItRead t f.page_size f.pages (log_in new) (sides_in new)) old.tables new.tables file
+        (subst (λ (l : List Logged). ShowsWhatItRead (tree_in old) (file_in old).page_size (file_in old).pages l (sides_in new)) (sym log) shows);
+    keeps = at_same (λ (t : TreeShape) (f : PagedFile). KeepsWholePages f.page_size f.pages (log_in new)) old.tables new.tables file
+        (subst (KeepsWholePages (file_in old).page_size (file_in old).pages) (sym log)
+        (λ page bytes is. kept-entered page (log_in old) entry bytes ((page < (file_in old).pages) × (length bytes ≡ (file_in old).page_size)) is
+        (λ before. sound.keeps page bytes before)
+        (λ none grant are. subst (λ (b : List ℕ). (page < (file_in old).pages) × (length b ≡ (file_in old).page_size)) are (whole page (not-kept page (log_in old) none) grant))));
   }
 
   pub sheet_entered : (sheet sheet' : Sheet) → IsSheetOf old sheet → nodes_of sheet' ≡ nodes_of sheet → pages_of sheet' ≡ pages_of sheet → seen sheet' ≡ state_after (tree_in new) (seen sheet) entry.event → IsSheetOf new sheet'
@@ -175,17 +265,6 @@ module _ (old new : EngineSeen) (entry : Entry) (sound : IsSound old) (file : Is
         ∙ ap (λ (es : List Event). state_of (tree_in new) es) (sym events_are);
   }
 
-  pub granted_entered : (granted granted' : List Bool) → AreGranted old granted → length granted' ≡ length granted
-      → ((page : ℕ) → page < (file_in old).pages → slice_index_or granted' page false ≡ (is_grant_of page entry.event || slice_index_or granted page false)) → AreGranted new granted'
-  granted_entered granted granted' is len flags = record {
-    len = len ∙ is.len ∙ ap (λ (f : PagedFile). f.pages) (sym file.file);
-    flag = λ page inside. let there : page < (file_in old).pages = subst (λ (f : PagedFile). page < f.pages) file.file inside in
-        flags page there
-        ∙ ap (λ b. is_grant_of page entry.event || b) (is.flag page there)
-        ∙ sym (granted-entered page (events_in old) entry.event)
-        ∙ ap (is_granted_in page) (sym events_are);
-  }
-
   -- the file that the trail began with
   module _ (opening : List ℕ) (of : IsOf opening old) (began : BeganWith (tree_in old) (file_in old).page_size (file_in old).pages opening (events_in old ++ entry.event ∷ []) (sides_in new) new.ground.pages)
       (kept : (page : ℕ) → is_granted_in page (events_in old) ≡ false → is_grant_of page entry.event ≡ true → entry.bytes ≡ page_in (file_in old).page_size opening page)
@@ -195,30 +274,8 @@ module _ (old new : EngineSeen) (entry : Entry) (sound : IsSound old) (file : Is
         (λ before. of.keeps page bytes before)
         (λ none grant are. sym are ∙ kept page (not-kept page (log_in old) none) grant)
 
-    abbrev replied : List Event → Event → Option Told
-    replied es event = reply (plain_shape (tree_in old) (file_in old).page_size) (file_after (tree_in old) (file_in old).page_size opening es) event
-
-    before_is : (place : ℕ) → place ≤ length (events_in old) → take place (trail_of (log_in old ++ Entered entry ∷ [])) ≡ take place (events_in old)
-    before_is place le = ap (take place) (trail_of-entered (log_in old) entry) ∙ take-append-le place (events_in old) (entry.event ∷ []) le
-
     answers_all : AreAnswers (tree_in old) (file_in old).page_size opening (log_in old ++ Entered entry ∷ [])
-    answers_all place other is = by (below_or_not place (length (entries_of (log_in old))))
-      where
-        there : slice_get (entries_of (log_in old) ++ entry ∷ []) place ≡ Some other
-        there = sym (ap (λ (es : List Entry). slice_get es place) (entries_of-entered (log_in old) entry)) ∙ is
-
-        many : length (entries_of (log_in old)) ≡ length (events_in old)
-        many = length-entries_of (log_in old)
-
-        by : (place < length (entries_of (log_in old))) ⊎ (place < length (entries_of (log_in old)) → ⊥) → replied (take place (trail_of (log_in old ++ Entered entry ∷ []))) other.event ≡ told_by other
-        by (inl lt) = ap (λ (es : List Event). replied es other.event) (before_is place (omega (arith, lt, many)))
-            ∙ of.answers place other (at-end (entries_of (log_in old)) entry other place lt there)
-        by (inr beyond) = let last = at-last (entries_of (log_in old)) entry other place beyond there in
-            let at : place ≡ length (events_in old) = last.0 ∙ many in
-            ap (λ (es : List Event). replied es other.event) (before_is place (omega (arith, at)) ∙ ap (λ (k : ℕ). take k (events_in old)) at ∙ take_all (length (events_in old)) (events_in old) (omega arith))
-            ∙ ap (λ (e : Entry). replied (events_in old) e.event) (sym last.1)
-            ∙ told
-            ∙ ap told_by last.1
+    answers_all = answers_entered (tree_in old) (file_in old).page_size opening (log_in old) entry of.answers told
 
     -- a disk that kept pages from a place on, or now keeps the ground's
     disk_since : (from disk : ℕ) → GroundIsSince (tree_in old) (file_in old).page_size (file_in old).pages opening (events_in old) from → Contains (live_in new.ground.disks) disk
@@ -323,8 +380,8 @@ module _ (old new : EngineSeen) (sound : IsSound old) (file : IsSameFile old.tab
   left_true : IsTrueTo (tree_in old) (file_in old).page_size (file_in old).pages (events_in old) (sides_in new)
   left_true = rights_same (tree_in old) (file_in old).page_size (file_in old).pages (events_in old) (sides_in old) (sides_in new) sound.true_to left.sides
 
-  pub sound_left : NotesRise new.ground.disks (log_in new) → IsSound new
-  sound_left notes = record {
+  pub sound_left : NotesRise new.ground.disks (log_in new) → entries_of (log_in new) ≡ entries_of (log_in old) → ((page : ℕ) → kept_in page (log_in new) ≡ kept_in page (log_in old)) → IsSound new
+  sound_left notes entries_same kept_same = record {
     true_to = at_same (λ (t : TreeShape) (f : PagedFile). IsTrueTo t f.page_size f.pages (events_in new) (sides_in new)) old.tables new.tables file
         (subst (λ (es : List Event). IsTrueTo (tree_in old) (file_in old).page_size (file_in old).pages es (sides_in new)) (sym events_are) left_true);
     under = at_same (λ (t : TreeShape) (f : PagedFile). IsUnderFile new.ground f) old.tables new.tables file (once_under old.ground new.ground (file_in old) call sound.under);
@@ -335,6 +392,10 @@ module _ (old new : EngineSeen) (sound : IsSound old) (file : IsSameFile old.tab
     numbered = subst IsNumbered (sym events_are) sound.numbered;
     notes = notes;
     page_size = size ∙ sound.page_size ∙ ap (λ (f : PagedFile). f.page_size) (sym file.file);
+    shows = at_same (λ (t : TreeShape) (f : PagedFile). ShowsWhatItRead t f.page_size f.pages (log_in new) (sides_in new)) old.tables new.tables file
+        (shows_left (tree_in old) (file_in old).page_size (file_in old).pages (log_in old) (log_in new) (sides_in old) (sides_in new) events_are entries_same left.sides sound.shows);
+    keeps = at_same (λ (t : TreeShape) (f : PagedFile). KeepsWholePages f.page_size f.pages (log_in new)) old.tables new.tables file
+        (λ page bytes is. sound.keeps page bytes (sym (kept_same page) ∙ is));
   }
 
   pub sheet_left : (sheet : Sheet) → IsSheetOf old sheet → IsSheetOf new sheet
@@ -342,12 +403,6 @@ module _ (old new : EngineSeen) (sound : IsSound old) (file : IsSameFile old.tab
     nodes_are = is.nodes_are ∙ ap nodes (sym file.tree);
     pages_are = is.pages_are ∙ ap (λ (f : PagedFile). f.pages) (sym file.file);
     state_is = is.state_is ∙ ap (λ (t : TreeShape). state_of t (events_in old)) (sym file.tree) ∙ ap (λ (es : List Event). state_of (tree_in new) es) (sym events_are);
-  }
-
-  pub granted_left : (granted : List Bool) → AreGranted old granted → AreGranted new granted
-  granted_left granted is = record {
-    len = is.len ∙ ap (λ (f : PagedFile). f.pages) (sym file.file);
-    flag = λ page inside. is.flag page (subst (λ (f : PagedFile). page < f.pages) file.file inside) ∙ ap (is_granted_in page) (sym events_are);
   }
 
   module _ (opening : List ℕ) (of : IsOf opening old) (kept_same : (page : ℕ) → kept_in page (log_in new) ≡ kept_in page (log_in old)) (entries_same : entries_of (log_in new) ≡ entries_of (log_in old)) where

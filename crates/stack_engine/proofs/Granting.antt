@@ -11,7 +11,6 @@ use Rattle.tower_core.specs.Column.{MayStep, strength}
 use Rattle.tower_core.specs.TreeShape.{TreeShape, parent}
 use Rattle.layer_laws.specs.Sent.{granted}
 use Rattle.layer_laws.specs.Side.{Side}
-use Rattle.layer_laws.specs.Granted.{is_granted_in}
 use Rattle.page_messages.specs.declared.paged.PagedFile.{PagedFile}
 use Rattle.page_messages.specs.declared.kinds.Asked.{Asked}
 use Rattle.page_exchange.specs.Allowed.{AllowsReading, grant_asked}
@@ -20,13 +19,13 @@ use Rattle.page_exchange.specs.Steps.{IsSent, given_up, step_asked}
 use Rattle.page_exchange.specs.Tables.{Follow, IsSameFile}
 use Rattle.tower_log.specs.declared.logged.Logged.TheVariants.{Entered}
 use Rattle.tower_log.specs.Log.{place_of}
-use Rattle.stack_engine.specs.Engine.{EngineSeen, IsNext, IsSound, column_in, events_in, file_in, log_in, sides_in, tree_in}
+use Rattle.stack_engine.specs.Engine.{EngineSeen, IsNext, IsSound, column_in, events_in, file_in, log_in, reads_ground, sides_in, tree_in}
 use Rattle.stack_engine.specs.Messages.{event_granted, kept_size}
 use Rattle.stack_engine.specs.Moves.{FindsZeros, bytes_kept}
 use Rattle.stack_engine.proofs.Asking.{grant_step}
 use Rattle.stack_engine.proofs.States.{coherent_in}
 use Rattle.stack_engine.proofs.Rooms.{roomy}
-use Rattle.stack_engine.proofs.Sending.{IsMessage, grant_next, grant_no_answer, grant_no_sync, grant_on, grant_quiet}
+use Rattle.stack_engine.proofs.Sending.{IsMessage, grant_next, grant_no_answer, grant_no_sync, grant_on, grant_quiet, reads_true}
 
 granted_some : (write : Bool) → granted write ≢ Right.Nothing
 granted_some true e = cc
@@ -78,13 +77,18 @@ module _ (e : EngineSeen) (sound : IsSound e) (node page : ℕ) (write : Bool) (
         let h' : IsTrue false = subst IsTrue e' h in absurd (let both : false ≡ true = h' in cc)
 
   -- the bytes that were kept
-  pub kept_are : (new : EngineSeen) (size : ℕ) (before after : List ℕ) → size ≡ (file_in e).page_size → length before ≡ kept_size e page → (length before ≡ 0 → after ≡ []) → (length before ≡ size → after ≡ (sides_in new page node).copy)
+  pub kept_are : (new : EngineSeen) (size : ℕ) (before after : List ℕ) → size ≡ (file_in e).page_size → length before ≡ kept_size e node page → (length before ≡ 0 → after ≡ []) → (length before ≡ size → after ≡ (sides_in new page node).copy)
       → after ≡ bytes_kept e new (events.PageIn node page write)
-  kept_are new size before after same len none kept = by (is_granted_in page (events_in e)) refl
+  kept_are new size before after same len none kept = by (reads_ground e.tables node page) refl
     where
-      by : (b : Bool) → is_granted_in page (events_in e) ≡ b → after ≡ bytes_kept e new (events.PageIn node page write)
-      by true g = none (len ∙ ap (λ b. cond b 0 (file_in e).page_size) g) ∙ sym (ap (λ b. cond b [] (sides_in new page node).copy) g)
-      by false g = kept (len ∙ ap (λ b. cond b 0 (file_in e).page_size) g ∙ sym same) ∙ sym (ap (λ b. cond b [] (sides_in new page node).copy) g)
+      by : (b : Bool) → reads_ground e.tables node page ≡ b → after ≡ bytes_kept e new (events.PageIn node page write)
+      by false g = none (len ∙ ap (λ b. cond b (file_in e).page_size 0) g) ∙ sym (ap (λ b. cond b (sides_in new page node).copy []) g)
+      by true g = kept (len ∙ ap (λ b. cond b (file_in e).page_size 0) g ∙ sym same) ∙ sym (ap (λ b. cond b (sides_in new page node).copy []) g)
+
+  -- and they are whole
+  pub kept_whole : (size : ℕ) (before after : List ℕ) → size ≡ (file_in e).page_size → length before ≡ kept_size e node page → (length before ≡ size → length after ≡ size)
+      → parent (tree_in e) node ≡ 0 → (sides_in e page node).right ≡ Right.Nothing → length after ≡ (file_in e).page_size
+  kept_whole size before after same len whole ground none = whole (len ∙ ap (λ b. cond b (file_in e).page_size 0) (reads_true e.tables node page ground none) ∙ sym same) ∙ same
 
 -- FROM WHAT THE CODE DID
 
@@ -111,5 +115,5 @@ granted_message old mid new r is node page write zeros asked asked_is event even
   no_answer = λ shape size opening. grant_no_answer mid zeros node page write shape size opening;
   no_sync = grant_no_sync zeros node page write;
   on = grant_on (tree_in mid) (events_in mid) zeros node page write;
-  brings = λ base next' next'' h. h;
+  no_write = λ b base next' next'' h. h;
 }

@@ -125,29 +125,6 @@ not-kept page log e = by (is_granted_in page (trail_of log)) refl
     by true g = absurd (granted-kept page log g e)
     by false g = g
 
--- a page is granted with one event more if it was before, or if the event grants it
-or-assoc : (a b c : Bool) → (a || (b || c)) ≡ ((a || b) || c)
-or-assoc true b c = refl
-or-assoc false b c = refl
-
-or-swap : (a b : Bool) → (a || b) ≡ (b || a)
-or-swap true true = refl
-or-swap true false = refl
-or-swap false true = refl
-or-swap false false = refl
-
-or-false : (a : Bool) → (a || false) ≡ a
-or-false true = refl
-or-false false = refl
-
-pub granted-entered : (page : ℕ) (trail : List Event) (event : Event) → is_granted_in page (trail ++ event ∷ []) ≡ (is_grant_of page event || is_granted_in page trail)
-granted-entered page [] event = refl
-granted-entered page (first ∷ trail) event =
-    ap (λ b. is_grant_of page first || b) (granted-entered page trail event)
-    ∙ or-assoc (is_grant_of page first) (is_grant_of page event) (is_granted_in page trail)
-    ∙ ap (λ b. b || is_granted_in page trail) (or-swap (is_grant_of page first) (is_grant_of page event))
-    ∙ sym (or-assoc (is_grant_of page event) (is_grant_of page first) (is_granted_in page trail))
-
 -- THE LAST SYNC
 
 pub last_from-entered : (trail : List Event) (event : Event) → last_from (trail ++ event ∷ []) ≡ from_after (last_from trail) event
@@ -189,3 +166,12 @@ at-last (z ∷ xs) x y zero nlt e = absurd (nlt (omega arith))
 at-last (z ∷ xs) x y (suc k) nlt e =
     let r = at-last xs x y k (λ lt. nlt (omega arith)) e in
     (ap suc r.0, r.1)
+
+pub before-end : {A : Type 0} (xs : List A) (x y : A) (k : ℕ) → slice_get xs k ≡ Some y → slice_get (xs ++ x ∷ []) k ≡ Some y
+before-end [] x y k e = absurd cc
+before-end (z ∷ xs) x y zero e = e
+before-end (z ∷ xs) x y (suc k) e = before-end xs x y k e
+
+pub last-there : {A : Type 0} (xs : List A) (x : A) → slice_get (xs ++ x ∷ []) (length xs) ≡ Some x
+last-there [] x = refl
+last-there (z ∷ xs) x = last-there xs x

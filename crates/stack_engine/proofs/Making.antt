@@ -39,14 +39,16 @@ use Rattle.tower_shows.specs.Began.{BeganWith, IsStepOn, IsTrueTo}
 use Rattle.tower_shows.proofs.Likes.{like_same}
 use Rattle.tower_shows.proofs.Rights.{rights_step}
 use Rattle.tower_shows.proofs.Bytes.{bytes_step}
+use Rattle.tower_shows.proofs.Telling.{began_shown, told_shown}
 use Rattle.tower_shows.proofs.Stays.{ground_stays, ground_synced}
 use Rattle.tower_shows.specs.Since.{GroundIsSince, IsSince}
 use Rattle.tower_shows.proofs.Tells.{tells_done, tells_life, tells_revoked, told_clear, told_read, told_write}
 use Rattle.stack_engine.specs.Accesses.{IsStill}
+use Rattle.stack_engine.specs.Answers.{ShowsWhatItRead}
 use Rattle.stack_engine.specs.Engine.{EngineSeen, IsEngine, IsNext, IsSound, events_in, file_in, log_in, sides_in, state_in, tree_in, uses_in}
 use Rattle.stack_engine.specs.Moves.{Enters, Makes, answer_to, bytes_to}
 use Rattle.stack_engine.specs.Opened.{IsOf, IsSynced, from_after, last_from}
-use Rattle.stack_engine.proofs.Entering.{granted_entered, of_entered, of_synced, sheet_entered, sound_entered}
+use Rattle.stack_engine.proofs.Entering.{of_entered, of_synced, sheet_entered, shows_entered, sound_entered}
 use Rattle.stack_engine.proofs.Rooms.{roomy}
 use Rattle.stack_engine.proofs.Sending.{IsBooked}
 
@@ -64,7 +66,16 @@ pub record IsMade (old new : EngineSeen) (entry : Entry) (caller page : ℕ) (st
   pub number : number_of entry.event ≡ length (mine (events_in old) caller)
   pub on : IsStepOn (tree_in old) (events_in old) entry.event page step
 
-module _ (old new : EngineSeen) (entry : Entry) (caller page : ℕ) (step : Step) (brings : Option (List ℕ)) (sound : IsSound old) (m : IsMade old new entry caller page step brings) where
+-- what it is answered and leaves, over each file, as of a ground that told it
+pub record IsToldBy (old : EngineSeen) (entry : Entry) (page : ℕ) (step : Step) (brings : Option (List ℕ)) : Type 0 where
+  pub told : (opening : List ℕ) (pages : Option (List (List ℕ))) → BeganWith (tree_in old) (file_in old).page_size (file_in old).pages opening (events_in old) (sides_in old) pages
+      → reply (plain_shape (tree_in old) (file_in old).page_size) (file_after (tree_in old) (file_in old).page_size opening (events_in old)) entry.event ≡ told_by entry
+  pub comes : (opening : List ℕ) (pages : Option (List (List ℕ))) → BeganWith (tree_in old) (file_in old).page_size (file_in old).pages opening (events_in old) (sides_in old) pages → (base : List ℕ)
+      → AreBrought (tree_in old) brings step (sides_in old page) base (page_next (tree_in old) (file_in old).page_size opening (events_in old) entry.event page)
+  pub filled : (opening : List ℕ) → IsFilled (tree_in old) (file_in old).page_size opening (events_in old) entry.event
+  pub no_grant : (p : ℕ) → is_grant_of p entry.event ≡ false
+
+module _ (old new : EngineSeen) (entry : Entry) (caller page : ℕ) (step : Step) (brings : Option (List ℕ)) (sound : IsSound old) (m : IsMade old new entry caller page step brings) (tells : IsToldBy old entry page step brings) where
   pub made_true : IsTrueTo (tree_in old) (file_in old).page_size (file_in old).pages (events_in old ++ entry.event ∷ []) (sides_in new)
   made_true = rights_step (tree_in old) (file_in old).page_size (file_in old).pages (events_in old) entry.event page step brings (sides_in old) (sides_in new) sound.true_to m.next m.on m.sent
 
@@ -75,33 +86,37 @@ module _ (old new : EngineSeen) (entry : Entry) (caller page : ℕ) (step : Step
   made_listed leaf above some = subst (AreUses (state_of (tree_in old) (events_in old ++ entry.event ∷ [])) leaf) (sym (m.follows leaf some))
       (uses_follow (tree_in old) (file_in old).pages (events_in old) entry.event leaf page step (uses_in old leaf) sound.true_to.tree m.next.allowed m.on (sound.listed leaf above some))
 
-  pub made_engine : (sheet sheet' : Sheet) (granted granted' : List Bool) → IsEngine old sheet granted → IsBooked new entry.event sheet sheet' granted granted' → IsEngine new sheet' granted'
-  made_engine sheet sheet' granted granted' is book = record {
-    sound = sound_entered old new entry sound m.file m.log m.next m.few m.call made_true m.size made_number made_listed;
+  -- over each file, as of a ground that told it
+  made_shows : ShowsWhatItRead (tree_in old) (file_in old).page_size (file_in old).pages (log_in old ++ Entered entry ∷ []) (sides_in new)
+  made_shows = shows_entered (tree_in old) (file_in old).page_size (file_in old).pages (log_in old) entry (sides_in old) (sides_in new) sound.shows (λ opening finds began.
+      let pages : Option (List (List ℕ)) = told_shown (tree_in old) (file_in old).page_size (file_in old).pages opening (events_in old) in
+      (
+        began_shown (tree_in old) (file_in old).page_size (file_in old).pages opening (events_in old ++ entry.event ∷ []) (sides_in new) (pages_given page (given_up (tree_in old) step (sides_in old page)) pages)
+        (bytes_step (tree_in old) (file_in old).page_size (file_in old).pages opening (events_in old) entry.event page step brings (sides_in old) (sides_in new) pages (pages_given page (given_up (tree_in old) step (sides_in old page)) pages)
+        sound.true_to m.next m.on m.sent began (tells.filled opening) (λ base is. tells.comes opening pages began (base page)) refl),
+        tells.told opening pages began,
+      ))
+
+  pub made_engine : (sheet sheet' : Sheet) → IsEngine old sheet → IsBooked new entry.event sheet sheet' → IsEngine new sheet'
+  made_engine sheet sheet' is book = record {
+    sound = sound_entered old new entry sound m.file m.log m.next m.few m.call made_true m.size made_number made_listed made_shows (λ p none grant. absurd (let both : true ≡ false = sym grant ∙ tells.no_grant p in cc));
     sheet_is = sheet_entered old new entry sound m.file m.log m.next m.few m.call made_true sheet sheet' is.sheet_is book.nodes book.pages book.state;
-    granted_are = granted_entered old new entry sound m.file m.log m.next m.few m.call made_true granted granted' is.granted_are book.len
-        (λ p inside. book.flags p (subst (λ (n : ℕ). p < n) (sym is.sheet_is.pages_are) inside));
   }
 
   -- the bytes, where nothing came up to the ground
-  pub made_began : (opening : List ℕ) → IsOf opening old → IsFilled (tree_in old) (file_in old).page_size opening (events_in old) entry.event → given_up (tree_in old) step (sides_in old page) ≡ None → new.ground.pages ≡ old.ground.pages
-      → ((base : ℕ → List ℕ) → Tells old.ground.pages base → AreBrought (tree_in old) brings step (sides_in old page) (base page) (page_next (tree_in old) (file_in old).page_size opening (events_in old) entry.event page))
+  pub made_began : (opening : List ℕ) → IsOf opening old → given_up (tree_in old) step (sides_in old page) ≡ None → new.ground.pages ≡ old.ground.pages
       → BeganWith (tree_in old) (file_in old).page_size (file_in old).pages opening (events_in old ++ entry.event ∷ []) (sides_in new) new.ground.pages
-  made_began opening of filled none same comes =
+  made_began opening of none same =
       bytes_step (tree_in old) (file_in old).page_size (file_in old).pages opening (events_in old) entry.event page step brings (sides_in old) (sides_in new) old.ground.pages new.ground.pages
-      sound.true_to m.next m.on m.sent of.began filled comes (same ∙ ap (λ (u : Option (List ℕ)). pages_given page u old.ground.pages) (sym none))
+      sound.true_to m.next m.on m.sent of.began (tells.filled opening) (λ base is. tells.comes opening old.ground.pages of.began (base page)) (same ∙ ap (λ (u : Option (List ℕ)). pages_given page u old.ground.pages) (sym none))
 
-  pub made_enters : (new.ground ≡ old.ground)
-      → ((opening : List ℕ) → IsOf opening old → BeganWith (tree_in old) (file_in old).page_size (file_in old).pages opening (events_in old ++ entry.event ∷ []) (sides_in new) new.ground.pages)
-      → ((p : ℕ) → is_grant_of p entry.event ≡ false)
-      → ((opening : List ℕ) → IsOf opening old → reply (plain_shape (tree_in old) (file_in old).page_size) (file_after (tree_in old) (file_in old).page_size opening (events_in old)) entry.event ≡ told_by entry)
-      → ((found : Option ℕ) → from_after found entry.event ≡ found) → Enters entry old new
-  made_enters same began no_grant told no_sync = record {
+  pub made_enters : (new.ground ≡ old.ground) → given_up (tree_in old) step (sides_in old page) ≡ None → ((found : Option ℕ) → from_after found entry.event ≡ found) → Enters entry old new
+  made_enters same none no_sync = record {
     goes = record {
       file = m.file;
       call = m.call;
-      of = λ opening of. of_entered old new entry sound m.file m.log m.next m.few m.call made_true opening of (began opening of)
-          (λ p none grant. absurd (let both : true ≡ false = sym grant ∙ no_grant p in cc)) (told opening of) (no_sync (last_from (events_in old)));
+      of = λ opening of. of_entered old new entry sound m.file m.log m.next m.few m.call made_true opening of (made_began opening of none (ap (λ (s : Seen). s.pages) same))
+          (λ p never grant. absurd (let both : true ≡ false = sym grant ∙ tells.no_grant p in cc)) (tells.told opening old.ground.pages of.began) (no_sync (last_from (events_in old)));
     };
     log = m.log;
     calm = inl same;
@@ -149,29 +164,20 @@ synced_on shape trail caller number node from keep = λ p. untouched_at p Untouc
 now_is : (e : EngineSeen) (caller number node life : ℕ) (op : Op) → life ≡ (state_in e).life node → events.Access caller number node life op ≡ access_next (tree_in e) (events_in e) caller number node op
 now_is e caller number node life op same = ap (λ (l : ℕ). events.Access caller number node l op) same
 
-module _ (old new : EngineSeen) (sound : IsSound old) (caller number node life page : ℕ) (current : life ≡ (state_in old).life node) (ground : new.ground ≡ old.ground) where
-  same_pages : new.ground.pages ≡ old.ground.pages
-  same_pages = ap (λ (s : Seen). s.pages) ground
-
+module _ (old : EngineSeen) (sound : IsSound old) (caller number node life page : ℕ) (current : life ≡ (state_in old).life node) where
   -- a read
-  module _ (off len : ℕ) (bytes : List ℕ) (bytes_are : bytes ≡ take len (drop off (sides_in old page node).copy)) (m : IsMade old new (record { event = events.Access caller number node life (ops.Read page off len); answer = Some answers.Bytes; bytes = bytes }) caller page (Reads node) None) where
-    read_told : (opening : List ℕ) → IsOf opening old → reply (plain_shape (tree_in old) (file_in old).page_size) (file_after (tree_in old) (file_in old).page_size opening (events_in old)) (events.Access caller number node life (ops.Read page off len)) ≡ Some (told_bytes bytes)
-    read_told opening of =
+  pub read_tells : (off len : ℕ) (bytes : List ℕ) → bytes ≡ take len (drop off (sides_in old page node).copy) → IsNext old (events.Access caller number node life (ops.Read page off len))
+      → IsToldBy old (record { event = events.Access caller number node life (ops.Read page off len); answer = Some answers.Bytes; bytes = bytes }) page (Reads node) None
+  read_tells off len bytes bytes_are next = record {
+    told = λ opening pages began.
         ap (answer_next (tree_in old) (file_in old).page_size opening (events_in old)) (now_is old caller number node life (ops.Read page off len) current)
-        ∙ told_read (tree_in old) (file_in old).page_size (file_in old).pages opening (events_in old) (sides_in old) old.ground.pages caller number node sound.true_to of.began page off len
-        (subst (IsNext old) (now_is old caller number node life (ops.Read page off len) current) m.next)
-        ∙ ap (λ (b : List ℕ). Some (told_bytes b)) (sym bytes_are)
-
-    pub read_makes : Makes caller number node life (ops.Read page off len) old new answers.Bytes
-    read_makes = record {
-      is = sym (ap (λ b. cond b answers.Bytes (answers.Revoked ((state_in old).life node))) (same_life ((state_in old).life node) life current));
-      enters = subst (λ (b : List ℕ). Enters (record { event = events.Access caller number node life (ops.Read page off len); answer = Some answers.Bytes; bytes = b }) old new)
-          (bytes_are ∙ sym (ap (λ b. cond b (take len (drop off (sides_in old page node).copy)) []) (same_life ((state_in old).life node) life current)))
-          (made_enters old new (record { event = events.Access caller number node life (ops.Read page off len); answer = Some answers.Bytes; bytes = bytes }) caller page (Reads node) None sound m ground
-          (λ opening of. made_began old new (record { event = events.Access caller number node life (ops.Read page off len); answer = Some answers.Bytes; bytes = bytes }) caller page (Reads node) None sound m opening of tt refl same_pages (λ base tells. tt))
-          (λ p. refl) read_told (λ found. refl));
-      ground = ground;
-    }
+        ∙ told_read (tree_in old) (file_in old).page_size (file_in old).pages opening (events_in old) (sides_in old) pages caller number node sound.true_to began page off len
+        (subst (IsNext old) (now_is old caller number node life (ops.Read page off len) current) next)
+        ∙ ap (λ (b : List ℕ). Some (told_bytes b)) (sym bytes_are);
+    comes = λ opening pages began base. tt;
+    filled = λ opening. tt;
+    no_grant = λ p. refl;
+  }
 
   done_told : (op : Op) → op ≢ ops.Open → ((p off len : ℕ) → op ≢ ops.Read p off len) → IsNext old (events.Access caller number node life op) → (opening : List ℕ)
       → reply (plain_shape (tree_in old) (file_in old).page_size) (file_after (tree_in old) (file_in old).page_size opening (events_in old)) (events.Access caller number node life op) ≡ Some (plainly answers.Done)
@@ -180,32 +186,61 @@ module _ (old new : EngineSeen) (sound : IsSound old) (caller number node life p
       ∙ tells_done (tree_in old) (file_in old).page_size opening (events_in old) caller number node op next.allowed.upper no_open no_read
 
   -- a write
-  module _ (off : ℕ) (bytes : List ℕ) (m : IsMade old new (record { event = events.Access caller number node life (ops.Write page off bytes); answer = Some answers.Done; bytes = [] }) caller page (Writes node) (Some (overwritten (sides_in old page node).copy off bytes))) where
-    pub write_makes : Makes caller number node life (ops.Write page off bytes) old new answers.Done
-    write_makes = record {
-      is = sym (ap (λ b. cond b answers.Done (answers.Revoked ((state_in old).life node))) (same_life ((state_in old).life node) life current));
-      enters = made_enters old new (record { event = events.Access caller number node life (ops.Write page off bytes); answer = Some answers.Done; bytes = [] }) caller page (Writes node) (Some (overwritten (sides_in old page node).copy off bytes)) sound m ground
-          (λ opening of. made_began old new (record { event = events.Access caller number node life (ops.Write page off bytes); answer = Some answers.Done; bytes = [] }) caller page (Writes node) (Some (overwritten (sides_in old page node).copy off bytes)) sound m opening of tt refl same_pages
-          (λ base tells. ap (λ (e : Event). page_next (tree_in old) (file_in old).page_size opening (events_in old) e page) (now_is old caller number node life (ops.Write page off bytes) current)
-          ∙ told_write (tree_in old) (file_in old).page_size (file_in old).pages opening (events_in old) (sides_in old) old.ground.pages caller number node sound.true_to of.began page off bytes
-          (subst (IsNext old) (now_is old caller number node life (ops.Write page off bytes) current) m.next)))
-          (λ p. refl) (λ opening of. done_told (ops.Write page off bytes) (λ e. cc) (λ p o l e. cc) m.next opening) (λ found. refl);
-      ground = ground;
-    }
+  pub write_tells : (off : ℕ) (bytes : List ℕ) → IsNext old (events.Access caller number node life (ops.Write page off bytes))
+      → IsToldBy old (record { event = events.Access caller number node life (ops.Write page off bytes); answer = Some answers.Done; bytes = [] }) page (Writes node) (Some (overwritten (sides_in old page node).copy off bytes))
+  write_tells off bytes next = record {
+    told = λ opening pages began. done_told (ops.Write page off bytes) (λ e. cc) (λ p o l e. cc) next opening;
+    comes = λ opening pages began base.
+        ap (λ (e : Event). page_next (tree_in old) (file_in old).page_size opening (events_in old) e page) (now_is old caller number node life (ops.Write page off bytes) current)
+        ∙ told_write (tree_in old) (file_in old).page_size (file_in old).pages opening (events_in old) (sides_in old) pages caller number node sound.true_to began page off bytes
+        (subst (IsNext old) (now_is old caller number node life (ops.Write page off bytes) current) next);
+    filled = λ opening. tt;
+    no_grant = λ p. refl;
+  }
 
   -- a clear
-  module _ (m : IsMade old new (record { event = events.Access caller number node life (ops.Clear page); answer = Some answers.Done; bytes = [] }) caller page (Writes node) (Some (replicate (file_in old).page_size 0))) where
-    pub clear_makes : Makes caller number node life (ops.Clear page) old new answers.Done
-    clear_makes = record {
-      is = sym (ap (λ b. cond b answers.Done (answers.Revoked ((state_in old).life node))) (same_life ((state_in old).life node) life current));
-      enters = made_enters old new (record { event = events.Access caller number node life (ops.Clear page); answer = Some answers.Done; bytes = [] }) caller page (Writes node) (Some (replicate (file_in old).page_size 0)) sound m ground
-          (λ opening of. made_began old new (record { event = events.Access caller number node life (ops.Clear page); answer = Some answers.Done; bytes = [] }) caller page (Writes node) (Some (replicate (file_in old).page_size 0)) sound m opening of tt refl same_pages
-          (λ base tells. ap (λ (e : Event). page_next (tree_in old) (file_in old).page_size opening (events_in old) e page) (now_is old caller number node life (ops.Clear page) current)
-          ∙ told_clear (tree_in old) (file_in old).page_size (file_in old).pages opening (events_in old) (sides_in old) old.ground.pages caller number node sound.true_to of.began page
-          (subst (IsNext old) (now_is old caller number node life (ops.Clear page) current) m.next)))
-          (λ p. refl) (λ opening of. done_told (ops.Clear page) (λ e. cc) (λ p o l e. cc) m.next opening) (λ found. refl);
-      ground = ground;
-    }
+  pub clear_tells : IsNext old (events.Access caller number node life (ops.Clear page))
+      → IsToldBy old (record { event = events.Access caller number node life (ops.Clear page); answer = Some answers.Done; bytes = [] }) page (Writes node) (Some (replicate (file_in old).page_size 0))
+  clear_tells next = record {
+    told = λ opening pages began. done_told (ops.Clear page) (λ e. cc) (λ p o l e. cc) next opening;
+    comes = λ opening pages began base.
+        ap (λ (e : Event). page_next (tree_in old) (file_in old).page_size opening (events_in old) e page) (now_is old caller number node life (ops.Clear page) current)
+        ∙ told_clear (tree_in old) (file_in old).page_size (file_in old).pages opening (events_in old) (sides_in old) pages caller number node sound.true_to began page
+        (subst (IsNext old) (now_is old caller number node life (ops.Clear page) current) next);
+    filled = λ opening. tt;
+    no_grant = λ p. refl;
+  }
+
+module _ (old new : EngineSeen) (sound : IsSound old) (caller number node life page : ℕ) (current : life ≡ (state_in old).life node) (ground : new.ground ≡ old.ground) where
+  pub read_makes : (off len : ℕ) (bytes : List ℕ) → bytes ≡ take len (drop off (sides_in old page node).copy)
+      → IsMade old new (record { event = events.Access caller number node life (ops.Read page off len); answer = Some answers.Bytes; bytes = bytes }) caller page (Reads node) None → Makes caller number node life (ops.Read page off len) old new answers.Bytes
+  read_makes off len bytes bytes_are m = record {
+    is = sym (ap (λ b. cond b answers.Bytes (answers.Revoked ((state_in old).life node))) (same_life ((state_in old).life node) life current));
+    enters = subst (λ (b : List ℕ). Enters (record { event = events.Access caller number node life (ops.Read page off len); answer = Some answers.Bytes; bytes = b }) old new)
+        (bytes_are ∙ sym (ap (λ b. cond b (take len (drop off (sides_in old page node).copy)) []) (same_life ((state_in old).life node) life current)))
+        (made_enters old new (record { event = events.Access caller number node life (ops.Read page off len); answer = Some answers.Bytes; bytes = bytes }) caller page (Reads node) None sound m
+        (read_tells old sound caller number node life page current off len bytes bytes_are m.next) ground refl (λ found. refl));
+    ground = ground;
+  }
+
+  pub write_makes : (off : ℕ) (bytes : List ℕ)
+      → IsMade old new (record { event = events.Access caller number node life (ops.Write page off bytes); answer = Some answers.Done; bytes = [] }) caller page (Writes node) (Some (overwritten (sides_in old page node).copy off bytes))
+      → Makes caller number node life (ops.Write page off bytes) old new answers.Done
+  write_makes off bytes m = record {
+    is = sym (ap (λ b. cond b answers.Done (answers.Revoked ((state_in old).life node))) (same_life ((state_in old).life node) life current));
+    enters = made_enters old new (record { event = events.Access caller number node life (ops.Write page off bytes); answer = Some answers.Done; bytes = [] }) caller page (Writes node) (Some (overwritten (sides_in old page node).copy off bytes)) sound m
+        (write_tells old sound caller number node life page current off bytes m.next) ground refl (λ found. refl);
+    ground = ground;
+  }
+
+  pub clear_makes : IsMade old new (record { event = events.Access caller number node life (ops.Clear page); answer = Some answers.Done; bytes = [] }) caller page (Writes node) (Some (replicate (file_in old).page_size 0))
+      → Makes caller number node life (ops.Clear page) old new answers.Done
+  clear_makes m = record {
+    is = sym (ap (λ b. cond b answers.Done (answers.Revoked ((state_in old).life node))) (same_life ((state_in old).life node) life current));
+    enters = made_enters old new (record { event = events.Access caller number node life (ops.Clear page); answer = Some answers.Done; bytes = [] }) caller page (Writes node) (Some (replicate (file_in old).page_size 0)) sound m
+        (clear_tells old sound caller number node life page current m.next) ground refl (λ found. refl);
+    ground = ground;
+  }
 
 -- AN ACCESS THAT TOUCHES NO PAGE
 
@@ -215,19 +250,7 @@ still_kind e node life (ops.Read page off len) answer h = inr h.0
 still_kind e node life (ops.Write page off bytes) answer h = inr h.0
 still_kind e node life (ops.Clear page) answer h = inr h.0
 
-module _ (old new : EngineSeen) (sound : IsSound old) (caller number node life : ℕ) (ground : new.ground ≡ old.ground) where
-  still_answer : (op : Op) (answer : Answer) → IsStill old node life op answer → answer ≡ answer_to ((state_in old).life node) life op
-  still_answer ops.Open answer h = h
-  still_answer (ops.Read page off len) answer h = h.1 ∙ sym (ap (λ b. cond b answers.Bytes (answers.Revoked ((state_in old).life node))) (other_life ((state_in old).life node) life h.0))
-  still_answer (ops.Write page off bytes) answer h = h.1 ∙ sym (ap (λ b. cond b answers.Done (answers.Revoked ((state_in old).life node))) (other_life ((state_in old).life node) life h.0))
-  still_answer (ops.Clear page) answer h = h.1 ∙ sym (ap (λ b. cond b answers.Done (answers.Revoked ((state_in old).life node))) (other_life ((state_in old).life node) life h.0))
-
-  still_bytes : (op : Op) (answer : Answer) → IsStill old node life op answer → bytes_to old node life op ≡ []
-  still_bytes ops.Open answer h = refl
-  still_bytes (ops.Read page off len) answer h = ap (λ b. cond b (take len (drop off (sides_in old page node).copy)) []) (other_life ((state_in old).life node) life h.0)
-  still_bytes (ops.Write page off bytes) answer h = refl
-  still_bytes (ops.Clear page) answer h = refl
-
+module _ (old : EngineSeen) (caller number node life : ℕ) where
   still_told : (op : Op) (answer : Answer) → IsStill old node life op answer → IsNext old (events.Access caller number node life op) → (opening : List ℕ)
       → reply (plain_shape (tree_in old) (file_in old).page_size) (file_after (tree_in old) (file_in old).page_size opening (events_in old)) (events.Access caller number node life op) ≡ told_by (record { event = events.Access caller number node life op; answer = Some answer; bytes = [] })
   still_told ops.Open answer h next opening =
@@ -243,13 +266,28 @@ module _ (old new : EngineSeen) (sound : IsSound old) (caller number node life :
       tells_revoked (tree_in old) (file_in old).page_size opening (events_in old) caller number node life (ops.Clear page) next.allowed.upper (λ e. cc) h.0
       ∙ ap (λ (a : Answer). told_by (record { event = events.Access caller number node life (ops.Clear page); answer = Some a; bytes = [] })) (sym h.1)
 
+  pub still_tells : (op : Op) (answer : Answer) → IsStill old node life op answer → IsNext old (events.Access caller number node life op)
+      → IsToldBy old (record { event = events.Access caller number node life op; answer = Some answer; bytes = [] }) 0 Untouched None
+  still_tells op answer still next = record { told = λ opening pages began. still_told op answer still next opening; comes = λ opening pages began base. tt; filled = λ opening. tt; no_grant = λ p. refl }
+
+module _ (old new : EngineSeen) (sound : IsSound old) (caller number node life : ℕ) (ground : new.ground ≡ old.ground) where
+  still_answer : (op : Op) (answer : Answer) → IsStill old node life op answer → answer ≡ answer_to ((state_in old).life node) life op
+  still_answer ops.Open answer h = h
+  still_answer (ops.Read page off len) answer h = h.1 ∙ sym (ap (λ b. cond b answers.Bytes (answers.Revoked ((state_in old).life node))) (other_life ((state_in old).life node) life h.0))
+  still_answer (ops.Write page off bytes) answer h = h.1 ∙ sym (ap (λ b. cond b answers.Done (answers.Revoked ((state_in old).life node))) (other_life ((state_in old).life node) life h.0))
+  still_answer (ops.Clear page) answer h = h.1 ∙ sym (ap (λ b. cond b answers.Done (answers.Revoked ((state_in old).life node))) (other_life ((state_in old).life node) life h.0))
+
+  still_bytes : (op : Op) (answer : Answer) → IsStill old node life op answer → bytes_to old node life op ≡ []
+  still_bytes ops.Open answer h = refl
+  still_bytes (ops.Read page off len) answer h = ap (λ b. cond b (take len (drop off (sides_in old page node).copy)) []) (other_life ((state_in old).life node) life h.0)
+  still_bytes (ops.Write page off bytes) answer h = refl
+  still_bytes (ops.Clear page) answer h = refl
+
   pub still_makes : (op : Op) (answer : Answer) → IsStill old node life op answer → IsMade old new (record { event = events.Access caller number node life op; answer = Some answer; bytes = [] }) caller 0 Untouched None → Makes caller number node life op old new answer
   still_makes op answer still m = record {
     is = still_answer op answer still;
     enters = subst (λ (b : List ℕ). Enters (record { event = events.Access caller number node life op; answer = Some answer; bytes = b }) old new) (sym (still_bytes op answer still))
-        (made_enters old new (record { event = events.Access caller number node life op; answer = Some answer; bytes = [] }) caller 0 Untouched None sound m ground
-        (λ opening of. made_began old new (record { event = events.Access caller number node life op; answer = Some answer; bytes = [] }) caller 0 Untouched None sound m opening of tt refl (ap (λ (s : Seen). s.pages) ground) (λ base tells. tt))
-        (λ p. refl) (λ opening of. still_told op answer still m.next opening) (λ found. refl));
+        (made_enters old new (record { event = events.Access caller number node life op; answer = Some answer; bytes = [] }) caller 0 Untouched None sound m (still_tells old caller number node life op answer still m.next) ground refl (λ found. refl));
     ground = ground;
   }
 
@@ -284,6 +322,9 @@ module _ (old : EngineSeen) (event : Event) (sound : IsSound old) (next : IsNext
         ground = ground_stays (tree_in old) (file_in old).page_size (file_in old).pages opening (events_in old) (sides_in old) event from sound.true_to next s.reached s.ground;
       }
 
+pub synced_tells : (old : EngineSeen) (caller number node from : ℕ) (keep : Keep) → IsToldBy old (record { event = events.Synced caller number node from keep; answer = Some answers.Done; bytes = [] }) 0 Untouched None
+synced_tells old caller number node from keep = record { told = λ opening pages began. refl; comes = λ opening pages began base. tt; filled = λ opening. tt; no_grant = λ p. refl }
+
 pub synced_enters : (old new : EngineSeen) (caller number node from : ℕ) (keep : Keep) → IsSound old
     → IsMade old new (record { event = events.Synced caller number node from keep; answer = Some answers.Done; bytes = [] }) caller 0 Untouched None
     → IsCalmCall old.ground new.ground → new.ground.pages ≡ old.ground.pages → AllKept new.ground new.ground.pages
@@ -295,8 +336,8 @@ synced_enters old new caller number node from keep sound m calm pages kept = rec
     of = λ opening of.
         let l = latest old (events.Synced caller number node from keep) sound m.next opening of (last_from (events_in old)) refl in
         let upto = l.reached in
-        of_synced old new (record { event = events.Synced caller number node from keep; answer = Some answers.Done; bytes = [] }) sound m.file m.log m.next m.few m.call (made_true old new (record { event = events.Synced caller number node from keep; answer = Some answers.Done; bytes = [] }) caller 0 Untouched None sound m) opening of
-        (made_began old new (record { event = events.Synced caller number node from keep; answer = Some answers.Done; bytes = [] }) caller 0 Untouched None sound m opening of tt refl pages (λ base tells. tt))
+        of_synced old new (record { event = events.Synced caller number node from keep; answer = Some answers.Done; bytes = [] }) sound m.file m.log m.next m.few m.call (made_true old new (record { event = events.Synced caller number node from keep; answer = Some answers.Done; bytes = [] }) caller 0 Untouched None sound m (synced_tells old caller number node from keep)) opening of
+        (made_began old new (record { event = events.Synced caller number node from keep; answer = Some answers.Done; bytes = [] }) caller 0 Untouched None sound m (synced_tells old caller number node from keep) opening of refl pages)
         (λ p none grant. absurd (let both : false ≡ true = grant in cc)) refl
         (max (unwrap_or (last_from (events_in old)) 0) from) refl (omega (arith, upto, m.next.allowed.line.0, trail_len (tree_in old) (events_in old)))
         (since_later (tree_in old) (file_in old).page_size (file_in old).pages opening (events_in old ++ events.Synced caller number node from keep ∷ []) (unwrap_or (last_from (events_in old)) 0) from l.ground
@@ -323,15 +364,12 @@ pub entry_is : (event event' : Event) (answer : Option Answer) (bytes bytes' : L
     → entry_of event answer bytes ≡ entry_of event' answer bytes'
 entry_is event event' answer bytes bytes' e b = ap (λ (x : Event). entry_of x answer bytes) e ∙ ap (entry_of event' answer) b
 
-pub booked : (new : EngineSeen) (tree : TreeShape) (sheet sheet' : Sheet) (granted granted' : List Bool) (entry entry' : Entry) → entry ≡ entry' → tree ≡ tree_in new
-    → nodes_of sheet' ≡ nodes_of sheet → pages_of sheet' ≡ pages_of sheet → seen sheet' ≡ state_after tree (seen sheet) entry.event → length granted' ≡ length granted
-    → ((page : ℕ) → page < pages_of sheet → slice_index_or granted' page false ≡ (is_grant_of page entry.event || slice_index_or granted page false)) → IsBooked new entry'.event sheet sheet' granted granted'
-booked new tree sheet sheet' granted granted' entry entry' same tree_is nodes pages state len flags = record {
+pub booked : (new : EngineSeen) (tree : TreeShape) (sheet sheet' : Sheet) (entry entry' : Entry) → entry ≡ entry' → tree ≡ tree_in new
+    → nodes_of sheet' ≡ nodes_of sheet → pages_of sheet' ≡ pages_of sheet → seen sheet' ≡ state_after tree (seen sheet) entry.event → IsBooked new entry'.event sheet sheet'
+booked new tree sheet sheet' entry entry' same tree_is nodes pages state = record {
   nodes = nodes;
   pages = pages;
   state = state ∙ ap (λ (t : TreeShape). state_after t (seen sheet) entry.event) tree_is ∙ ap (λ (x : Entry). state_after (tree_in new) (seen sheet) x.event) same;
-  len = len;
-  flags = λ page inside. flags page inside ∙ ap (λ (x : Entry). is_grant_of page x.event || slice_index_or granted page false) same;
 }
 
 pub made_of : (old mid new : EngineSeen) (r : ℕ) → mid ≡ roomy old r → (entry entry' : Entry) → entry ≡ entry' → (caller page : ℕ) (step : Step) (brings : Option (List ℕ))

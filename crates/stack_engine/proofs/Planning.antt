@@ -28,7 +28,7 @@ sheet_says e sheet tree P same is h =
     subst (λ (t : TreeShape). P t (file_in e).pages (state_in e)) same
     (subst (λ (n : ℕ). P tree n (state_in e)) is.pages_are (subst (λ (s : State). P tree (pages_of sheet) s) is.state_is h))
 
-module _ (e : EngineSeen) (sheet : Sheet) (granted : List Bool) (tree : TreeShape) (is : IsEngine e sheet granted) (same : tree ≡ tree_in e) where
+module _ (e : EngineSeen) (sheet : Sheet) (tree : TreeShape) (is : IsEngine e sheet) (same : tree ≡ tree_in e) where
   pub planned_coherent : (page : ℕ) → IsCoherent tree (seen sheet).len ((seen sheet).column page)
   planned_coherent page = sheet_told e sheet tree (λ (t : TreeShape) (n : ℕ) (s : State). IsCoherent t s.len (s.column page)) same is.sheet_is ((coherent_in e is.sound).columns page)
 

@@ -1,5 +1,5 @@
 -- A call that a store ended, or want of memory: what is left as it was.
-use Rattle.std.proofs.Common.{◌≡◌, ℕ, ◌<◌, Bool, List, [], ◌∷◌, ◌++◌, Err, sym, ap, subst, ◌∙◌}
+use Rattle.std.proofs.Common.{◌≡◌, ℕ, ◌<◌, List, [], ◌∷◌, ◌++◌, Err, sym, ap, subst, ◌∙◌}
 use Rattle.hist_plain.specs.declared.TheConstants.{MAX_EVENTS}
 use Rattle.page_ground.specs.Seen.{IsFault}
 use Rattle.tower_core.specs.declared.sheet.Sheet.{Sheet}
@@ -17,7 +17,7 @@ use Rattle.stack_engine.specs.declared.refusal.StepErr.TheVariants as errors
 use Rattle.stack_engine.specs.Engine.{EngineSeen, IsEngine, IsSound, NotesRise, events_in, log_in}
 use Rattle.stack_engine.specs.Messages.{Refuses}
 use Rattle.stack_engine.specs.Moves.{IsRefused}
-use Rattle.stack_engine.proofs.Entering.{granted_left, notes_noted, notes_same, of_left, sheet_left, sound_left}
+use Rattle.stack_engine.proofs.Entering.{notes_noted, notes_same, of_left, sheet_left, sound_left}
 use Rattle.stack_engine.proofs.Logs.{entries_of-noted, kept_in-noted, trail_of-noted}
 
 -- nothing was done but one call of the ground at most
@@ -31,12 +31,12 @@ module _ (caller : ℕ) (old new : EngineSeen) (undone : IsUndone old new) (trai
   events_are : events_in new ≡ events_in old
   events_are = ap (λ (t : TrailSeen). trail_of t.log) trail
 
-  pub lacking_engine : (sheet : Sheet) (granted : List Bool) → IsEngine old sheet granted → IsEngine new sheet granted
-  lacking_engine sheet granted is = record {
+  pub lacking_engine : (sheet : Sheet) → IsEngine old sheet → IsEngine new sheet
+  lacking_engine sheet is = record {
     sound = sound_left old new is.sound undone.file undone.left undone.call undone.pages (ap (λ (t : TrailSeen). t.page_size) trail) events_are
-        (subst (λ (log : List Logged). NotesRise new.ground.disks log) (sym (ap (λ (t : TrailSeen). t.log) trail)) (notes_same old.ground new.ground (log_in old) undone.call is.sound.notes));
+        (subst (λ (log : List Logged). NotesRise new.ground.disks log) (sym (ap (λ (t : TrailSeen). t.log) trail)) (notes_same old.ground new.ground (log_in old) undone.call is.sound.notes))
+        (ap (λ (t : TrailSeen). entries_of t.log) trail) (λ page. ap (λ (t : TrailSeen). kept_in page t.log) trail);
     sheet_is = sheet_left old new is.sound undone.file undone.left undone.call undone.pages (ap (λ (t : TrailSeen). t.page_size) trail) events_are sheet is.sheet_is;
-    granted_are = granted_left old new is.sound undone.file undone.left undone.call undone.pages (ap (λ (t : TrailSeen). t.page_size) trail) events_are granted is.granted_are;
   }
 
   pub lacking_refused : IsSound old → place_of (log_in old) < MAX_EVENTS → IsCalmCall old.ground new.ground → IsRefused caller old new errors.Memory
@@ -58,12 +58,13 @@ module _ (caller disk count : ℕ) (old new : EngineSeen) (undone : IsUndone old
   noted_events : events_in new ≡ events_in old
   noted_events = ap trail_of log ∙ trail_of-noted (log_in old) (record { caller = caller; disk = disk; count = count })
 
-  pub noted_engine : (sheet : Sheet) (granted : List Bool) → IsEngine old sheet granted → IsEngine new sheet granted
-  noted_engine sheet granted is = record {
+  pub noted_engine : (sheet : Sheet) → IsEngine old sheet → IsEngine new sheet
+  noted_engine sheet is = record {
     sound = sound_left old new is.sound undone.file undone.left undone.call undone.pages size noted_events
-        (subst (λ (l : List Logged). NotesRise new.ground.disks l) (sym log) (notes_noted old.ground new.ground (log_in old) caller disk count undone.call fault is.sound.notes));
+        (subst (λ (l : List Logged). NotesRise new.ground.disks l) (sym log) (notes_noted old.ground new.ground (log_in old) caller disk count undone.call fault is.sound.notes))
+        (ap entries_of log ∙ entries_of-noted (log_in old) (record { caller = caller; disk = disk; count = count }))
+        (λ page. ap (kept_in page) log ∙ kept_in-noted page (log_in old) (record { caller = caller; disk = disk; count = count }));
     sheet_is = sheet_left old new is.sound undone.file undone.left undone.call undone.pages size noted_events sheet is.sheet_is;
-    granted_are = granted_left old new is.sound undone.file undone.left undone.call undone.pages size noted_events granted is.granted_are;
   }
 
   pub noted_refused : IsSound old → new.trail.spare ≡ old.trail.spare → IsRefused caller old new (errors.StoreFault disk count)
@@ -84,9 +85,9 @@ module _ (caller disk count : ℕ) (old new : EngineSeen) (undone : IsUndone old
 -- WHAT THE GROUND SAID
 
 module _ (caller : ℕ) (old new : EngineSeen) (undone : IsUndone old new) (s : Side) where
-  pub ground_engine : (cause : GroundErr) (err : StepErr) → Refuses caller old.trail new.trail cause err → IsCause old.ground new.ground s cause → (sheet : Sheet) (granted : List Bool) → IsEngine old sheet granted → IsEngine new sheet granted
-  ground_engine (causes.Store fault) err h fails sheet granted is = noted_engine caller fault.disk fault.count old new undone h.1 (ap (λ (t : TrailSeen). t.page_size) h.2) fails sheet granted is
-  ground_engine causes.Memory err h lacks sheet granted is = lacking_engine caller old new undone h.1 sheet granted is
+  pub ground_engine : (cause : GroundErr) (err : StepErr) → Refuses caller old.trail new.trail cause err → IsCause old.ground new.ground s cause → (sheet : Sheet) → IsEngine old sheet → IsEngine new sheet
+  ground_engine (causes.Store fault) err h fails sheet is = noted_engine caller fault.disk fault.count old new undone h.1 (ap (λ (t : TrailSeen). t.page_size) h.2) fails sheet is
+  ground_engine causes.Memory err h lacks sheet is = lacking_engine caller old new undone h.1 sheet is
 
   pub ground_refused : (cause : GroundErr) (err : StepErr) → Refuses caller old.trail new.trail cause err → IsCause old.ground new.ground s cause → IsSound old → place_of (log_in old) < MAX_EVENTS
       → UnlessFault {A = Unit {0}} (Err cause) (IsCalmCall old.ground new.ground) → IsRefused caller old new err

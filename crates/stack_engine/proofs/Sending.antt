@@ -1,6 +1,5 @@
 -- A page message that was sent, and stands in the log.
-use Rattle.std.proofs.Common.{◌≡◌, ◌≢◌, ℕ, ◌<◌, ◌||◌, ◌==◌, Bool, true, false, cond, List, [], ◌∷◌, ◌++◌, length, Option, Some, None, refl, sym, ap, subst, ◌∙◌, arith}
-use Rattle.std.specs.Prelude.{slice_index_or}
+use Rattle.std.proofs.Common.{◌≡◌, ◌≢◌, ℕ, ◌<◌, ◌&&◌, ◌==◌, not, Bool, true, false, cond, List, [], ◌∷◌, ◌++◌, length, Option, Some, None, refl, sym, ap, subst, ◌∙◌, arith}
 use Rattle.hist_plain.specs.declared.TheConstants.{MAX_EVENTS}
 use Rattle.hist_plain.specs.declared.event.Event.{Event}
 use Rattle.hist_plain.specs.declared.event.Event.TheVariants as events
@@ -13,8 +12,9 @@ use Rattle.tower_core.specs.declared.step.Step.{Step}
 use Rattle.tower_core.specs.declared.step.Step.TheVariants.{Grants}
 use Rattle.tower_core.specs.Legal.{IsFilled, file_after, plain_shape}
 use Rattle.tower_core.specs.Sheet.{nodes_of, pages_of, seen}
-use Rattle.tower_core.specs.TreeShape.{TreeShape, frames_of}
-use Rattle.tower_core.specs.Trail.{state_after, state_of}
+use Rattle.tower_core.specs.TreeShape.{TreeShape, frames_of, parent}
+use Rattle.tower_core.specs.Trail.{holds, right_of, state_after, state_of}
+use Rattle.std.proofs.lemmas.Bool.{eq-eqb}
 use Rattle.std.proofs.lemmas.Bool.Decides.{nat_tests}
 use Rattle.layer_laws.specs.Side.{Side}
 use Rattle.layer_laws.specs.Sent.{AreBrought}
@@ -26,28 +26,29 @@ use Rattle.page_exchange.specs.Ground.{IsCalmCall, IsOneCall, pages_given}
 use Rattle.page_exchange.specs.Steps.{IsSent, given_up, step_asked, step_called}
 use Rattle.vmm_cache.specs.Used.{AreUses}
 use Rattle.vmm_cache.proofs.TrailLaws.{uses_follow}
-use Rattle.page_exchange.specs.Tables.{Follow, IsSameFile}
+use Rattle.page_exchange.specs.declared.tables.Tables.{Tables}
+use Rattle.page_exchange.specs.Tables.{Follow, IsSameFile, sides, tree_of}
 use Rattle.tower_log.specs.declared.logged.Entry.{Entry}
 use Rattle.tower_log.specs.declared.logged.Logged.TheVariants.{Entered}
 use Rattle.tower_log.specs.Log.{place_of}
-use Rattle.tower_shows.specs.Began.{IsStepOn, IsTrueTo}
+use Rattle.tower_shows.specs.Began.{BeganWith, IsStepOn, IsTrueTo, ground_shown}
 use Rattle.tower_shows.proofs.Rights.{rights_step}
 use Rattle.tower_shows.proofs.Bytes.{bytes_step}
-use Rattle.tower_shows.proofs.Firsts.{grant_kept, grant_others, grant_zeros}
-use Rattle.stack_engine.specs.Engine.{EngineSeen, IsEngine, IsNext, IsSound, column_in, events_in, file_in, log_in, sides_in, tree_in, uses_in}
+use Rattle.tower_shows.proofs.Firsts.{grant_first, grant_kept, grant_others, grant_zeros}
+use Rattle.stack_engine.specs.Engine.{EngineSeen, IsEngine, IsNext, IsSound, column_in, events_in, file_in, log_in, reads_ground, sides_in, tree_in, uses_in}
 use Rattle.stack_engine.specs.Messages.{IsPush, NeedsDisks, event_asked, event_called, event_granted}
+use Rattle.tower_shows.proofs.Telling.{FindsShown, began_shown, read_here, sent_shown, told_shown}
+use Rattle.stack_engine.specs.Answers.{FindsPagesOf, ShowsWhatItRead}
 use Rattle.stack_engine.specs.Moves.{Enters, FindsZeros, Sends, StandsFor, bytes_kept}
 use Rattle.stack_engine.specs.Opened.{IsOf, from_after, last_from}
 use Rattle.stack_engine.proofs.Rooms.{roomy}
-use Rattle.stack_engine.proofs.Entering.{granted_entered, of_entered, sheet_entered, sound_entered}
+use Rattle.stack_engine.proofs.Entering.{finds_last, of_entered, sheet_entered, shows_entered, sound_entered}
 
 -- what a book did with an entry
-pub record IsBooked (new : EngineSeen) (event : Event) (sheet sheet' : Sheet) (granted granted' : List Bool) : Type 0 where
+pub record IsBooked (new : EngineSeen) (event : Event) (sheet sheet' : Sheet) : Type 0 where
   pub nodes : nodes_of sheet' ≡ nodes_of sheet
   pub pages : pages_of sheet' ≡ pages_of sheet
   pub state : seen sheet' ≡ state_after (tree_in new) (seen sheet) event
-  pub len : length granted' ≡ length granted
-  pub flags : (page : ℕ) → page < pages_of sheet → slice_index_or granted' page false ≡ (is_grant_of page event || slice_index_or granted page false)
 
 -- a message was sent about a page, and this event was entered for it with these bytes
 pub record IsMessage (old new : EngineSeen) (event : Event) (bytes : List ℕ) (page : ℕ) (step : Step) : Type 0 where
@@ -66,7 +67,7 @@ pub record IsMessage (old new : EngineSeen) (event : Event) (bytes : List ℕ) (
   pub no_sync : (found : Option ℕ) → from_after found event ≡ found
   pub on : IsStepOn (tree_in old) (events_in old) event page step
   -- its step writes nothing of its own
-  pub brings : (base next' next'' : List ℕ) → AreBrought (tree_in old) sent.brings step (sides_in old page) base next' → AreBrought (tree_in old) sent.brings step (sides_in old page) base next''
+  pub no_write : (brings : Option (List ℕ)) (base next' next'' : List ℕ) → AreBrought (tree_in old) brings step (sides_in old page) base next' → AreBrought (tree_in old) brings step (sides_in old page) base next''
 
 module _ (old new : EngineSeen) (event : Event) (bytes : List ℕ) (page : ℕ) (step : Step) (sound : IsSound old) (m : IsMessage old new event bytes page step) where
   abbrev entry : Entry
@@ -82,12 +83,29 @@ module _ (old new : EngineSeen) (event : Event) (bytes : List ℕ) (page : ℕ) 
   listed leaf above some = subst (AreUses (state_of (tree_in old) (events_in old ++ event ∷ [])) leaf) (sym (m.follows leaf some))
       (uses_follow (tree_in old) (file_in old).pages (events_in old) event leaf page step (uses_in old leaf) sound.true_to.tree m.next.allowed m.on (sound.listed leaf above some))
 
-  pub sent_engine : (sheet sheet' : Sheet) (granted granted' : List Bool) → IsEngine old sheet granted → IsBooked new event sheet sheet' granted granted' → IsEngine new sheet' granted'
-  sent_engine sheet sheet' granted granted' is book = record {
-    sound = sound_entered old new entry sound m.file m.log m.next m.few m.call true_to m.size number listed;
+  -- over each file, as of a ground that told it: the event is filled, and a page that was read is the ground's
+  pub sent_shows : ((opening : List ℕ) (told : Option (List (List ℕ))) → BeganWith (tree_in old) (file_in old).page_size (file_in old).pages opening (events_in old) (sides_in old) told
+      → IsSent (tree_in old) told page step (sides_in old) (sides_in new) → IsFilled (tree_in old) (file_in old).page_size opening (events_in old) event)
+      → ((opening : List ℕ) → FindsPagesOf (tree_in old) (file_in old).page_size opening (log_in old ++ Entered entry ∷ [])
+      → FindsShown (tree_in old) (file_in old).pages page step (sides_in old) (sides_in new) (ground_shown (tree_in old) (file_in old).page_size opening (events_in old)))
+      → ShowsWhatItRead (tree_in old) (file_in old).page_size (file_in old).pages (log_in old ++ Entered entry ∷ []) (sides_in new)
+  sent_shows filled found = shows_entered (tree_in old) (file_in old).page_size (file_in old).pages (log_in old) entry (sides_in old) (sides_in new) sound.shows (λ opening finds began.
+      let told : Option (List (List ℕ)) = told_shown (tree_in old) (file_in old).page_size (file_in old).pages opening (events_in old) in
+      let sent : IsSent (tree_in old) told page step (sides_in old) (sides_in new) =
+      sent_shown (tree_in old) old.ground.pages page (file_in old).pages step (sides_in old) (sides_in new) (ground_shown (tree_in old) (file_in old).page_size opening (events_in old)) m.sent (found opening finds) in
+      (
+        began_shown (tree_in old) (file_in old).page_size (file_in old).pages opening (events_in old ++ event ∷ []) (sides_in new) (pages_given page (given_up (tree_in old) step (sides_in old page)) told)
+        (bytes_step (tree_in old) (file_in old).page_size (file_in old).pages opening (events_in old) event page step sent.brings (sides_in old) (sides_in new) told (pages_given page (given_up (tree_in old) step (sides_in old page)) told)
+        sound.true_to m.next m.on sent.sent began (filled opening told began sent)
+        (λ base tells. m.no_write sent.brings (base page) [] (page_next (tree_in old) (file_in old).page_size opening (events_in old) event page) (sent.brought base [] (λ read. (began.is_told, tells)))) refl),
+        m.no_answer (tree_in old) (file_in old).page_size opening,
+      ))
+
+  pub sent_engine : (sheet sheet' : Sheet) → ShowsWhatItRead (tree_in old) (file_in old).page_size (file_in old).pages (log_in old ++ Entered entry ∷ []) (sides_in new)
+      → ((p : ℕ) → is_granted_in p (events_in old) ≡ false → is_grant_of p event ≡ true → (p < (file_in old).pages) × (length bytes ≡ (file_in old).page_size)) → IsEngine old sheet → IsBooked new event sheet sheet' → IsEngine new sheet'
+  sent_engine sheet sheet' shows whole is book = record {
+    sound = sound_entered old new entry sound m.file m.log m.next m.few m.call true_to m.size number listed shows whole;
     sheet_is = sheet_entered old new entry sound m.file m.log m.next m.few m.call true_to sheet sheet' is.sheet_is book.nodes book.pages book.state;
-    granted_are = granted_entered old new entry sound m.file m.log m.next m.few m.call true_to granted granted' is.granted_are book.len
-        (λ p inside. book.flags p (subst (λ (n : ℕ). p < n) (sym is.sheet_is.pages_are) inside));
   }
 
   pub sent_enters : ((opening : List ℕ) → IsOf opening old → IsFilled (tree_in old) (file_in old).page_size opening (events_in old) event)
@@ -100,7 +118,7 @@ module _ (old new : EngineSeen) (event : Event) (bytes : List ℕ) (page : ℕ) 
       of = λ opening of. of_entered old new entry sound m.file m.log m.next m.few m.call true_to opening of
           (bytes_step (tree_in old) (file_in old).page_size (file_in old).pages opening (events_in old) event page step m.sent.brings (sides_in old) (sides_in new) old.ground.pages new.ground.pages
           sound.true_to m.next m.on m.sent.sent of.began (filled opening of)
-          (λ base tells. m.brings (base page) [] (page_next (tree_in old) (file_in old).page_size opening (events_in old) event page) (m.sent.brought base [] of.began.is_told tells)) m.ground)
+          (λ base tells. m.no_write m.sent.brings (base page) [] (page_next (tree_in old) (file_in old).page_size opening (events_in old) event page) (m.sent.brought base [] (λ read. (of.began.is_told, tells)))) m.ground)
           (kept opening of) (m.no_answer (tree_in old) (file_in old).page_size opening) (m.no_sync (last_from (events_in old)));
     };
     log = m.log;
@@ -150,6 +168,35 @@ order_brings Called.WriteBack node shape brings sides base next' next'' h = h
 order_brings Called.DeleteRange node shape brings sides base next' next'' h = h
 order_brings Called.Destroy node shape brings sides base next' next'' h = h
 
+-- a push and an order read nothing
+pub push_finds : (what : Asked) (node : ℕ) → IsPush what → (shape : TreeShape) (pages page : ℕ) (old new : ℕ → ℕ → Side) (shown : ℕ → List ℕ) → FindsShown shape pages page (step_asked what node) old new shown
+push_finds Asked.WriteOut node push shape pages page old new shown = tt
+push_finds Asked.Sync node push shape pages page old new shown = tt
+push_finds Asked.PageInRead node push shape pages page old new shown = absurd push
+push_finds Asked.PageInWrite node push shape pages page old new shown = absurd push
+push_finds Asked.PageOut node push shape pages page old new shown = tt
+push_finds Asked.Done node push shape pages page old new shown = absurd push
+
+pub order_finds : (what : Called) (node : ℕ) (shape : TreeShape) (pages page : ℕ) (old new : ℕ → ℕ → Side) (shown : ℕ → List ℕ) → FindsShown shape pages page (step_called what node) old new shown
+order_finds Called.FlushBack node shape pages page old new shown = tt
+order_finds Called.DenyWrites node shape pages page old new shown = tt
+order_finds Called.WriteBack node shape pages page old new shown = tt
+order_finds Called.DeleteRange node shape pages page old new shown = tt
+order_finds Called.Destroy node shape pages page old new shown = tt
+
+pub plain_shows : (old new : EngineSeen) (event : Event) (page : ℕ) (step : Step) (sound : IsSound old) → IsPlain event → (m : IsMessage old new event [] page step)
+    → ((shape : TreeShape) (pages page : ℕ) (before after : ℕ → ℕ → Side) (shown : ℕ → List ℕ) → FindsShown shape pages page step before after shown)
+    → ShowsWhatItRead (tree_in old) (file_in old).page_size (file_in old).pages (log_in old ++ Entered (record { event = event; answer = None; bytes = [] }) ∷ []) (sides_in new)
+plain_shows old new event page step sound plain m found = sent_shows old new event [] page step sound m
+    (λ opening told began sent. plain.filled (tree_in old) (file_in old).page_size opening (events_in old))
+    (λ opening finds. found (tree_in old) (file_in old).pages page (sides_in old) (sides_in new) (ground_shown (tree_in old) (file_in old).page_size opening (events_in old)))
+
+pub plain_engine : (old new : EngineSeen) (event : Event) (page : ℕ) (step : Step) → IsSound old → IsPlain event → IsMessage old new event [] page step
+    → ((shape : TreeShape) (pages page : ℕ) (before after : ℕ → ℕ → Side) (shown : ℕ → List ℕ) → FindsShown shape pages page step before after shown)
+    → (sheet sheet' : Sheet) → IsEngine old sheet → IsBooked new event sheet sheet' → IsEngine new sheet'
+plain_engine old new event page step sound plain m found sheet sheet' is book = sent_engine old new event [] page step sound m sheet sheet' (plain_shows old new event page step sound plain m found)
+    (λ p none grant. absurd (let both : true ≡ false = sym grant ∙ plain.no_grant p in cc)) is book
+
 pub plain_sends : (old new : EngineSeen) (event : Event) (page : ℕ) (step : Step) → IsSound old → IsPlain event → IsMessage old new event [] page step → (event' : Event) → event' ≡ event → new.trail.spare ≡ old.trail.spare → ((NeedsDisks old event → ⊥) → new.ground ≡ old.ground) → Sends event old new event'
 plain_sends old new event page step sound plain m event' is spare idle = subst (λ (e : Event). Sends event old new e) (sym is) (record {
   stands = plain.stands old new;
@@ -183,6 +230,10 @@ pub grant_next : (old : EngineSeen) (zeros : Bool) (node page : ℕ) (write : Bo
 grant_next old false node page write next none = next
 grant_next old true node page write next none = record { fits = next.fits; allowed = record { upper = next.allowed.upper; line = (none refl, next.allowed.line.0, next.allowed.line.1) } }
 
+-- a node that stands on the ground and has nothing reads
+pub reads_true : (t : Tables) (node page : ℕ) → parent (tree_of t) node ≡ 0 → (sides t page node).right ≡ Right.Nothing → reads_ground t node page ≡ true
+reads_true t node page ground none = ap (λ (r : Right). not (holds r) && (parent (tree_of t) node == 0)) none ∙ eq-eqb (parent (tree_of t) node) 0 ground
+
 grant_of : (zeros : Bool) (node page p : ℕ) (write : Bool) → is_grant_of p (event_granted zeros node page write) ≡ is_grant_of p (events.PageIn node page write)
 grant_of true node page p write = refl
 grant_of false node page p write = refl
@@ -190,24 +241,58 @@ grant_of false node page p write = refl
 module _ (old new : EngineSeen) (sound : IsSound old) (node page : ℕ) (write zeros : Bool) (asked : IsNext old (events.PageIn node page write))
     (bytes : List ℕ) (m : IsMessage old new (event_granted zeros node page write) bytes page (Grants node write))
     (found : zeros ≡ true → FindsZeros old new node page) (missed : zeros ≡ false → FindsZeros old new node page → ⊥) (bytes_are : bytes ≡ bytes_kept old new (events.PageIn node page write)) where
-  filled : (opening : List ℕ) → IsOf opening old → (z : Bool) → z ≡ zeros → IsFilled (tree_in old) (file_in old).page_size opening (events_in old) (event_granted z node page write)
-  filled opening of true e = let f = found (sym e) in
-      grant_zeros (tree_in old) (file_in old).page_size (file_in old).pages opening (events_in old) node page write (sides_in old) (sides_in new) old.ground.pages sound.true_to asked m.sent of.began f.nothing f.zeros
-  filled opening of false e =
-      grant_others (tree_in old) (file_in old).page_size (file_in old).pages opening (events_in old) node page write (sides_in old) (sides_in new) old.ground.pages sound.true_to asked m.sent of.began
+  filled : (opening : List ℕ) (told : Option (List (List ℕ))) → BeganWith (tree_in old) (file_in old).page_size (file_in old).pages opening (events_in old) (sides_in old) told
+      → IsSent (tree_in old) told page (Grants node write) (sides_in old) (sides_in new) → (z : Bool) → z ≡ zeros → IsFilled (tree_in old) (file_in old).page_size opening (events_in old) (event_granted z node page write)
+  filled opening told began sent true e = let f = found (sym e) in
+      grant_zeros (tree_in old) (file_in old).page_size (file_in old).pages opening (events_in old) node page write (sides_in old) (sides_in new) told sound.true_to asked sent began f.nothing f.zeros
+  filled opening told began sent false e =
+      grant_others (tree_in old) (file_in old).page_size (file_in old).pages opening (events_in old) node page write (sides_in old) (sides_in new) told sound.true_to asked sent began
       (λ none zero. missed (sym e) (record { nothing = none; zeros = zero }))
+
+  own_right : (sides_in old page node).right ≡ right_of (tree_in old) (events_in old) node page
+  own_right = (sound.true_to.rights page).right node asked.allowed.upper
+
+  -- what is kept of a page that was read is the node's copy
+  read_bytes : parent (tree_in old) node ≡ 0 → (sides_in old page node).right ≡ Right.Nothing → bytes ≡ (sides_in new page node).copy
+  read_bytes ground none = bytes_are ∙ ap (λ b. cond b (sides_in new page node).copy []) (reads_true old.tables node page ground none)
+
+  finds : (opening : List ℕ) → FindsPagesOf (tree_in old) (file_in old).page_size opening (log_in old ++ Entered (record { event = event_granted zeros node page write; answer = None; bytes = bytes }) ∷ [])
+      → FindsShown (tree_in old) (file_in old).pages page (Grants node write) (sides_in old) (sides_in new) (ground_shown (tree_in old) (file_in old).page_size opening (events_in old))
+  finds opening all = (asked.fits page refl, (λ read.
+      sym (read_bytes read.0 read.1)
+      ∙ finds_last (tree_in old) (file_in old).page_size opening (log_in old) (record { event = event_granted zeros node page write; answer = None; bytes = bytes }) page all
+      (read_here (tree_in old) (events_in old) (event_granted zeros node page write) page (Grants node write) m.on (read.0, sym own_right ∙ read.1))))
+
+  grant_shows : ShowsWhatItRead (tree_in old) (file_in old).page_size (file_in old).pages (log_in old ++ Entered (record { event = event_granted zeros node page write; answer = None; bytes = bytes }) ∷ []) (sides_in new)
+  grant_shows = sent_shows old new (event_granted zeros node page write) bytes page (Grants node write) sound m (λ opening told began sent. filled opening told began sent zeros refl) finds
+
+  own_page : (a b : ℕ) → (a == b) ≡ true → a ≡ b
+  own_page a b e = grind (arith, nat_tests)
+
+  -- a page's first grant is of this page, and reads it
+  record IsFirst (p : ℕ) : Type 0 where
+    same : p ≡ page
+    none : is_granted_in page (events_in old) ≡ false
+    ground : parent (tree_in old) node ≡ 0
+    nothing : (sides_in old page node).right ≡ Right.Nothing
+
+  first_of : (p : ℕ) → is_granted_in p (events_in old) ≡ false → is_grant_of p (event_granted zeros node page write) ≡ true → IsFirst p
+  first_of p none grant =
+      let same : p ≡ page = own_page p page (sym (grant_of zeros node page p write) ∙ grant) in
+      let none' : is_granted_in page (events_in old) ≡ false = subst (λ (q : ℕ). is_granted_in q (events_in old) ≡ false) same none in
+      let first = grant_first (tree_in old) (file_in old).page_size (file_in old).pages (events_in old) node page write (sides_in old) sound.true_to asked none' in
+      record { same = same; none = none'; ground = first.0; nothing = own_right ∙ first.1 }
 
   kept : (opening : List ℕ) → IsOf opening old → (p : ℕ) → is_granted_in p (events_in old) ≡ false → is_grant_of p (event_granted zeros node page write) ≡ true → bytes ≡ page_in (file_in old).page_size opening p
   kept opening of p none grant =
-      let same : p ≡ page = own_page p page (sym (grant_of zeros node page p write) ∙ grant) in
-      let none' : is_granted_in page (events_in old) ≡ false = subst (λ (q : ℕ). is_granted_in q (events_in old) ≡ false) same none in
-      bytes_are
-      ∙ ap (λ b. cond b [] (sides_in new page node).copy) none'
-      ∙ grant_kept (tree_in old) (file_in old).page_size (file_in old).pages opening (events_in old) node page write (sides_in old) (sides_in new) old.ground.pages sound.true_to asked m.sent of.began none'
-      ∙ ap (page_in (file_in old).page_size opening) (sym same)
-    where
-      own_page : (a b : ℕ) → (a == b) ≡ true → a ≡ b
-      own_page a b e = grind (arith, nat_tests)
+      let first : IsFirst p = first_of p none grant in
+      read_bytes first.ground first.nothing
+      ∙ grant_kept (tree_in old) (file_in old).page_size (file_in old).pages opening (events_in old) node page write (sides_in old) (sides_in new) old.ground.pages sound.true_to asked m.sent of.began first.none
+      ∙ ap (page_in (file_in old).page_size opening) (sym first.same)
+
+  pub grant_engine : (parent (tree_in old) node ≡ 0 → (sides_in old page node).right ≡ Right.Nothing → length bytes ≡ (file_in old).page_size) → (sheet sheet' : Sheet) → IsEngine old sheet → IsBooked new (event_granted zeros node page write) sheet sheet' → IsEngine new sheet'
+  grant_engine whole sheet sheet' is book = sent_engine old new (event_granted zeros node page write) bytes page (Grants node write) sound m sheet sheet' grant_shows
+      (λ p none grant. let first : IsFirst p = first_of p none grant in (subst (λ (q : ℕ). q < (file_in old).pages) (sym first.same) (asked.fits page refl), whole first.ground first.nothing)) is book
 
   stands : (z : Bool) → z ≡ zeros → StandsFor old new (events.PageIn node page write) (event_granted z node page write)
   stands true e = ((λ f. refl), (λ no'. absurd (no' (found (sym e)))))
@@ -217,7 +302,7 @@ module _ (old new : EngineSeen) (sound : IsSound old) (node page : ℕ) (write z
   grant_sends event is spare idle = subst (λ (e : Event). Sends (events.PageIn node page write) old new e) (sym is) (record {
     stands = stands zeros refl;
     enters = subst (λ (b : List ℕ). Enters (record { event = event_granted zeros node page write; answer = None; bytes = b }) old new) bytes_are
-        (sent_enters old new (event_granted zeros node page write) bytes page (Grants node write) sound m (λ opening of. filled opening of zeros refl) kept);
+        (sent_enters old new (event_granted zeros node page write) bytes page (Grants node write) sound m (λ opening of. filled opening old.ground.pages of.began m.sent zeros refl) kept);
     spare = spare;
     idle = idle;
   })
@@ -245,5 +330,5 @@ message_of old mid new r is event given same page step file call calm sent follo
   no_answer = λ shape size opening. plain.no_answer shape size opening (events_in mid);
   no_sync = plain.no_sync;
   on = subst (λ (e : EngineSeen). IsStepOn (tree_in e) (events_in e) event page step) (sym is) on;
-  brings = λ base next' next''. brings (tree_in mid) sent.brings (sides_in mid page) base next' next'';
+  no_write = λ b base next' next''. brings (tree_in mid) b (sides_in mid page) base next' next'';
 }

@@ -1,15 +1,14 @@
 -- What contracts see of a file's engine: the ground, the tables of the nodes above it, and the log.
-use Rattle.std.specs.Prelude.{◌≡◌, ◌≢◌, ℕ, ◌<◌, ◌≤◌, List, length, slice_index_or, Bool, false}
+use Rattle.std.specs.Prelude.{◌≡◌, ◌≢◌, ℕ, ◌<◌, ◌≤◌, ◌==◌, ◌&&◌, not, List, Bool}
 use Rattle.hist_plain.specs.declared.TheConstants.{MAX_EVENTS}
 use Rattle.hist_plain.specs.declared.event.Event.{Event}
 use Rattle.hist_plain.specs.History.{IsNumbered}
 use Rattle.tower_core.specs.declared.sheet.Sheet.{Sheet}
 use Rattle.tower_core.specs.Sheet.{nodes_of, pages_of, seen}
 use Rattle.tower_core.specs.Column.{Column}
-use Rattle.tower_core.specs.TreeShape.{TreeShape, frames_of, nodes}
-use Rattle.tower_core.specs.Trail.{State, state_of}
+use Rattle.tower_core.specs.TreeShape.{TreeShape, frames_of, nodes, parent}
+use Rattle.tower_core.specs.Trail.{State, holds, state_of}
 use Rattle.layer_laws.specs.Side.{Side}
-use Rattle.layer_laws.specs.Granted.{is_granted_in}
 use Rattle.page_ground.specs.Seen.{DiskSeen, Seen, faults_in, opened_in}
 use Rattle.page_messages.specs.declared.paged.PagedFile.{PagedFile}
 use Rattle.page_exchange.specs.declared.tables.Tables.{Tables}
@@ -20,6 +19,7 @@ use Rattle.tower_log.specs.Log.{place_of, trail_of}
 use Rattle.tower_log.specs.Notes.{Rises, counts_of}
 use Rattle.tower_log.specs.Trail.{TrailSeen}
 use Rattle.tower_shows.specs.Began.{IsNextIn, IsTrueTo}
+use Rattle.stack_engine.specs.Answers.{KeepsWholePages, ShowsWhatItRead}
 
 pub record EngineSeen : Type 0 where
   pub ground : Seen
@@ -50,6 +50,10 @@ state_in e = state_of (tree_in e) (events_in e)
 abbrev pub column_in : EngineSeen → ℕ → Column
 column_in e page = (state_in e).column page
 
+-- whether a grant of the page to the node reads it from the ground: the node has nothing of the page, and stands on the ground
+abbrev pub reads_ground : Tables → ℕ → ℕ → Bool
+reads_ground t node page = not (holds (sides t page node).right) && (parent (tree_of t) node == 0)
+
 -- the event may come next
 abbrev pub IsNext : EngineSeen → Event → Type 0
 IsNext e event = IsNextIn (tree_in e) (file_in e).page_size (file_in e).pages (events_in e) event
@@ -68,6 +72,9 @@ pub record IsSound (e : EngineSeen) : Type 0 where
   pub numbered : IsNumbered (events_in e)
   pub notes : NotesRise e.ground.disks (log_in e)
   pub page_size : e.trail.page_size ≡ (file_in e).page_size
+  -- each file of which the reads found the pages is the one that is shown and that answers
+  pub shows : ShowsWhatItRead (tree_in e) (file_in e).page_size (file_in e).pages (log_in e) (sides_in e)
+  pub keeps : KeepsWholePages (file_in e).page_size (file_in e).pages (log_in e)
 
 -- the sheet stands at the end of the trail
 pub record IsSheetOf (e : EngineSeen) (sheet : Sheet) : Type 0 where
@@ -75,12 +82,6 @@ pub record IsSheetOf (e : EngineSeen) (sheet : Sheet) : Type 0 where
   pub pages_are : pages_of sheet ≡ (file_in e).pages
   pub state_is : seen sheet ≡ state_in e
 
--- a flag for each page: whether it was granted
-pub record AreGranted (e : EngineSeen) (granted : List Bool) : Type 0 where
-  pub len : length granted ≡ (file_in e).pages
-  pub flag : (page : ℕ) → page < (file_in e).pages → slice_index_or granted page false ≡ is_granted_in page (events_in e)
-
-pub record IsEngine (e : EngineSeen) (sheet : Sheet) (granted : List Bool) : Type 0 where
+pub record IsEngine (e : EngineSeen) (sheet : Sheet) : Type 0 where
   pub sound : IsSound e
   pub sheet_is : IsSheetOf e sheet
-  pub granted_are : AreGranted e granted

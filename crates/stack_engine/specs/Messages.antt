@@ -11,10 +11,9 @@ use Rattle.page_exchange.specs.declared.ground.GroundErr.TheVariants as causes
 use Rattle.page_exchange.specs.Steps.{NeedsGround}
 use Rattle.tower_log.specs.declared.logged.Logged.TheVariants.{Noted}
 use Rattle.tower_log.specs.Trail.{TrailSeen}
-use Rattle.layer_laws.specs.Granted.{is_granted_in}
 use Rattle.stack_engine.specs.declared.refusal.StepErr.{StepErr}
 use Rattle.stack_engine.specs.declared.refusal.StepErr.TheVariants as errors
-use Rattle.stack_engine.specs.Engine.{EngineSeen, events_in, file_in, sides_in, state_in, tree_in}
+use Rattle.stack_engine.specs.Engine.{EngineSeen, file_in, reads_ground, sides_in, state_in, tree_in}
 
 -- a message that a plan may name. A grant is asked for as a PageIn, whatever it finds
 abbrev pub IsPageMessage : Event → Type 0
@@ -61,9 +60,9 @@ abbrev pub event_granted : Bool → ℕ → ℕ → Bool → Event
 event_granted true node page write = events.ZeroFill node page write
 event_granted false node page write = events.PageIn node page write
 
--- how many bytes are kept of a page at its first grant, and none later
-abbrev pub kept_size : EngineSeen → ℕ → ℕ
-kept_size e page = if is_granted_in page (events_in e) then 0 else (file_in e).page_size
+-- how many bytes are kept of a page that is granted: all, if it is read from the ground, and else none
+abbrev pub kept_size : EngineSeen → ℕ → ℕ → ℕ
+kept_size e node page = if reads_ground e.tables node page then (file_in e).page_size else 0
 
 -- a store that failed is noted, and want of memory is not
 abbrev pub Refuses : ℕ → TrailSeen → TrailSeen → GroundErr → StepErr → Type 0

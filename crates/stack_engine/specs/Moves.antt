@@ -10,7 +10,6 @@ use Rattle.hist_plain.specs.declared.event.Answer.TheVariants as answers
 use Rattle.hist_plain.specs.History.{IsZeroPage, mine}
 use Rattle.page_ground.specs.Seen.{IsFault}
 use Rattle.tower_core.specs.declared.right.Right.{Right}
-use Rattle.layer_laws.specs.Granted.{is_granted_in}
 use Rattle.page_exchange.specs.Ground.{IsCalmCall, IsOneCall}
 use Rattle.page_exchange.specs.Tables.{AreLeft, IsSameFile}
 use Rattle.tower_log.specs.declared.logged.Entry.{Entry}
@@ -18,7 +17,7 @@ use Rattle.tower_log.specs.declared.logged.Logged.TheVariants.{Entered, Noted}
 use Rattle.tower_log.specs.Log.{place_of}
 use Rattle.stack_engine.specs.declared.refusal.StepErr.{StepErr}
 use Rattle.stack_engine.specs.declared.refusal.StepErr.TheVariants as errors
-use Rattle.stack_engine.specs.Engine.{EngineSeen, column_in, events_in, file_in, log_in, sides_in, state_in}
+use Rattle.stack_engine.specs.Engine.{EngineSeen, column_in, events_in, file_in, log_in, reads_ground, sides_in, state_in}
 use Rattle.stack_engine.specs.Messages.{NeedsDisks}
 use Rattle.stack_engine.specs.Opened.{IsOf}
 
@@ -45,9 +44,9 @@ StandsFor old new (events.PageIn node page write) event =
     (FindsZeros old new node page → event ≡ events.ZeroFill node page write) × ((FindsZeros old new node page → ⊥) → event ≡ events.PageIn node page write)
 StandsFor old new asked event = event ≡ asked
 
--- the bytes that go with it: of the first grant of a page, the page as the node got it
+-- the bytes that go with it: of a page that was read from the ground, the page as the node got it
 abbrev pub bytes_kept : EngineSeen → EngineSeen → Event → List ℕ
-bytes_kept old new (events.PageIn node page write) = if is_granted_in page (events_in old) then [] else (sides_in new page node).copy
+bytes_kept old new (events.PageIn node page write) = if reads_ground old.tables node page then (sides_in new page node).copy else []
 bytes_kept old new asked = []
 
 -- a page message was sent, and stands in the log. It calls the ground only if it needs it

@@ -1,31 +1,18 @@
 -- What an engine's log, copies and disks have to do with the file that its trail began with, where the ground tells its
 -- pages.
-use Rattle.std.specs.Prelude.{◌≡◌, ℕ, ◌≤◌, max, List, take, slice_get, unwrap_or, Option, Some, None, IfSome, Contains}
+use Rattle.std.specs.Prelude.{◌≡◌, ℕ, ◌≤◌, max, List, unwrap_or, Option, Some, None, IfSome, Contains}
 use Rattle.std.specs.List.{fold}
 use Rattle.hist_plain.specs.declared.event.Event.{Event}
 use Rattle.hist_plain.specs.declared.event.Event.TheVariants as events
-use Rattle.hist_plain.specs.History.{page_in}
-use Rattle.hist_plain.specs.Plain.{reply}
 use Rattle.page_ground.specs.Seen.{Imaged}
 use Rattle.page_ground.specs.Seen.{AreBehind, live_in, pages_in}
 use Rattle.page_ground.specs.Seen.{kept_in as kept_on}
-use Rattle.tower_core.specs.Legal.{file_after, plain_shape}
 use Rattle.tower_core.specs.TreeShape.{TreeShape}
-use Rattle.tower_log.specs.declared.logged.Entry.{Entry}
-use Rattle.tower_log.specs.declared.logged.Logged.{Logged}
-use Rattle.tower_log.specs.Log.{entries_of, kept_in, place_of, told_by, trail_of}
+use Rattle.tower_log.specs.Log.{place_of}
 use Rattle.tower_shows.specs.Began.{BeganWith}
 use Rattle.tower_shows.specs.Since.{AreSince, GroundIsSince}
+pub use Rattle.stack_engine.specs.Answers.{AreAnswers, KeepsPagesOf}
 use Rattle.stack_engine.specs.Engine.{EngineSeen, events_in, file_in, log_in, sides_in, tree_in}
-
--- each page that the log keeps is the file's, as the trail began
-abbrev pub KeepsPagesOf : ℕ → List ℕ → List Logged → Type 0
-KeepsPagesOf size opening log = (page : ℕ) (bytes : List ℕ) → kept_in page log ≡ Some bytes → bytes ≡ page_in size opening page
-
--- EACH ANSWER of the log is the plain file's at its place
-abbrev pub AreAnswers : TreeShape → ℕ → List ℕ → List Logged → Type 0
-AreAnswers shape size opening log = (place : ℕ) (entry : Entry) → slice_get (entries_of log) place ≡ Some entry
-    → reply (plain_shape shape size) (file_after shape size opening (take place (trail_of log))) entry.event ≡ told_by entry
 
 -- the latest place that a completed sync is from: each completed sync has written the file as it was at its own place or later, and syncs of
 -- several callers may end in another order than they began

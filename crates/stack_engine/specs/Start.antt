@@ -1,5 +1,5 @@
 -- An engine before its first event.
-use Rattle.std.specs.Prelude.{◌≡◌, ◌<◌, ◌≤◌, ℕ, [], false, length, slice_index_or}
+use Rattle.std.specs.Prelude.{◌≡◌, ◌<◌, ◌≤◌, ℕ, []}
 use Rattle.hist_plain.specs.declared.TheConstants.{MAX_EVENTS}
 use Rattle.page_ground.specs.Seen.{Seen}
 use Rattle.page_messages.specs.declared.paged.PagedFile.{PagedFile}
@@ -25,8 +25,6 @@ pub record Starts (tree : TreeShape) (file : PagedFile) (tables : Tables) (book 
   pub nodes_are : nodes_of book.sheet ≡ nodes tree
   pub pages_are : pages_of book.sheet ≡ file.pages
   pub trail : book.trail ≡ record { page_size = file.page_size; log = []; spare = 0; room = 0 }
-  pub flags : length book.granted.items ≡ file.pages
-  pub none : (page : ℕ) → page < file.pages → slice_index_or book.granted.items page false ≡ false
 
 -- the engine of a file over a ground, without events; the ground was not called
 pub record Opens (tree : TreeShape) (file : PagedFile) (ground : Seen) (e : EngineSeen) : Type 0 where

@@ -1,38 +1,23 @@
-//! What an engine writes down: the log, the state after it, and which pages were granted.
+//! What an engine writes down: the log, and the state after it.
 
-ghost use Rattle.std.specs.Prelude.{◌≡◌, ◌+◌, ◌<◌, ◌≤◌, ◌++◌, ◌∷◌, ◌||◌, ◌↔◌, [], ℕ, IsTrue, length, slice_index_or, false};
+ghost use Rattle.std.specs.Prelude.{◌≡◌, ◌+◌, ◌<◌, ◌≤◌, ◌++◌, ◌∷◌, []};
 ghost use Rattle.std.specs.Option.{ForSome};
 ghost use Rattle.hist_plain.specs.Event.{page_of};
 ghost use Rattle.hist_plain.specs.declared.TheConstants.{MAX_EVENTS};
 ghost use Rattle.tower_core.specs.Sheet.{nodes_of, pages_of, seen};
 ghost use Rattle.tower_core.specs.Trail.{IsAllowed, state_after};
 ghost use Rattle.tower_core.specs.TreeShape.{nodes};
-ghost use Rattle.layer_laws.specs.Granted.{is_grant_of};
 ghost use Rattle.tower_log.specs.Log.{place_of};
 ghost use Rattle.tower_log.specs.declared.logged.Logged.{Logged as ALogged};
 
-use hist_plain::Event;
 use tower_core::{Sheet, Tree};
 use tower_log::{Entry, Trail};
 
-/// The log of a file, the state after it, and a flag for each page: whether it was granted.
+/// The log of a file, and the state after it.
 #[derive(Drop)]
 pub(crate) struct Book {
     pub(crate) sheet: Sheet,
     pub(crate) trail: Trail,
-    pub(crate) granted: Vec<bool>,
-}
-
-/// Marks the page that an event grants, if it does.
-fn mark(granted: &mut [bool], event: &Event)
-    requires { ForSome (page_of event.now) (λ page. page < length granted.old) }
-    ensures len { length granted.new ≡ length granted.old }
-    ensures flags { (page : ℕ) → page < length granted.old →
-        slice_index_or granted.new page false ≡ (is_grant_of page event.now || slice_index_or granted.old page false) }
-{
-    if let Event::PageIn { page, .. } | Event::ZeroFill { page, .. } = event {
-        granted[*page as usize] = true;
-    }
 }
 
 impl Book {
@@ -40,7 +25,6 @@ impl Book {
     pub(crate) fn enter(&mut self, tree: &Tree, entry: Entry)
         requires same_tree { nodes tree.now ≡ nodes_of self.old.sheet }
         requires page_in { ForSome (page_of entry.event) (λ page. page < pages_of self.old.sheet) }
-        requires flags { length self.old.granted.items ≡ pages_of self.old.sheet }
         requires allowed { IsAllowed tree.now (pages_of self.old.sheet) (seen self.old.sheet) entry.event }
         requires count { (seen self.old.sheet).len ≡ place_of self.old.trail.log }
         requires room { 0 < self.old.trail.room }
@@ -50,12 +34,8 @@ impl Book {
         ensures pages { pages_of self.new.sheet ≡ pages_of self.old.sheet }
         ensures log { self.new.trail.log ≡ self.old.trail.log ++ ALogged.Entered entry ∷ [] }
         ensures trail { self.new.trail ≡ record self.old.trail { log = self.new.trail.log; room = self.new.trail.room } }
-        ensures len { length self.new.granted.items ≡ length self.old.granted.items }
-        ensures granted { (page : ℕ) → page < pages_of self.old.sheet →
-            slice_index_or self.new.granted.items page false ≡ (is_grant_of page entry.event || slice_index_or self.old.granted.items page false) }
     {
         self.sheet.take(tree, &entry.event);
-        mark(&mut self.granted, &entry.event);
         self.trail.enter(entry);
     }
 }

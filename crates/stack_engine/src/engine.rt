@@ -43,7 +43,7 @@ impl<G: Ground> Model for Engine<G> {
 
     ghost view = { λ e. record { ground = G.seen e.ground; tables = e.tables; trail = e.book.trail } };
 
-    ghost invariant = { λ e. IsEngine (record { ground = G.seen e.ground; tables = e.tables; trail = e.book.trail }) e.book.sheet e.book.granted.items };
+    ghost invariant = { λ e. IsEngine (record { ground = G.seen e.ground; tables = e.tables; trail = e.book.trail }) e.book.sheet };
 }
 
 /// The tables and the book of a file without events.
@@ -53,17 +53,9 @@ fn start(alloc: Global, tree: Tree, file: PagedFile, ops: Ops) -> Result<(Tables
     ensures { IfOk result (λ parts. Starts tree file parts.0 parts.1) }
 {
     let sheet = Sheet::new(alloc, &tree, file.pages)?;
-    let granted = vec![in alloc; false; file.pages as usize]?;
     let trail = Trail::new(alloc, file.page_size);
     let tables = Tables::new(alloc, tree, file, ops)?;
-    Ok((
-        tables,
-        Book {
-            sheet,
-            trail,
-            granted,
-        },
-    ))
+    Ok((tables, Book { sheet, trail }))
 }
 
 impl<G: Ground> Engine<G> {

@@ -7,7 +7,7 @@ ghost use Rattle.tower_core.specs.declared.right.Right.{Right as ARight};
 ghost use Rattle.tower_core.specs.TreeShape.{IsUpper};
 ghost use Rattle.page_exchange.specs.Allowed.{AllowsReading, grant_asked};
 ghost use Rattle.page_exchange.specs.Tables.{paged_of, sides, tree_of};
-ghost use Rattle.stack_engine.specs.Engine.{IsNext, file_in};
+ghost use Rattle.stack_engine.specs.Engine.{IsNext, file_in, reads_ground, tree_in};
 ghost use Rattle.stack_engine.specs.Messages.{IsPageMessage, IsPush, NeedsDisks, Refuses, event_asked, event_called, event_granted, kept_size};
 ghost use Rattle.stack_engine.specs.Moves.{IsRefused, Sends};
 ghost use Rattle.tower_log.specs.declared.logged.Logged.{Logged as ALogged};
@@ -120,6 +120,15 @@ fn finds_zeros(tables: &Tables, had: Right, node: u32, page: u32) -> bool
     had == Right::Nothing && is_zero_page(tables.copy(node, page))
 }
 
+/// Whether a grant of a page to a node reads it from the ground.
+fn reads_ground(tables: &Tables, node: u32, page: u32) -> bool
+    requires upper { IsUpper (tree_of tables.now) node }
+    requires page { page < (paged_of tables.now).pages }
+    ensures { result ≡ reads_ground tables.now node page }
+{
+    tables.right(node, page) == Right::Nothing && tables.tree().parent(node) == 0
+}
+
 /// The page that a node was granted, where there is room for it, and else no bytes.
 fn keep_page(tables: &Tables, room: Vec<u8>, node: u32, page: u32) -> Bytes
     requires upper { IsUpper (tree_of tables.now) node }
@@ -128,6 +137,7 @@ fn keep_page(tables: &Tables, room: Vec<u8>, node: u32, page: u32) -> Bytes
     requires room { (length room.items ≡ 0) ⊎ (length room.items ≡ (paged_of tables.now).page_size) }
     ensures none { length room.items ≡ 0 → result ≡ [] }
     ensures kept { length room.items ≡ (paged_of tables.now).page_size → result ≡ (sides tables.now page node).copy }
+    ensures whole { length room.items ≡ (paged_of tables.now).page_size → length result ≡ (paged_of tables.now).page_size }
 {
     let mut bytes = room;
     if !bytes.is_empty() {
@@ -197,15 +207,16 @@ impl<G: Ground> Engine<G> {
         Ok(event_called(what, node, page))
     }
 
-    /// Room for the page of a first grant, and none if the page was granted before.
-    fn first_room(&self, page: u32) -> Result<Vec<u8>, AllocError>
-        requires { page < (file_in self.now).pages }
-        ensures { IfOk result (λ room. length room.items ≡ kept_size self.now page) }
+    /// Room for a page that the node reads from the ground, and none if it does not.
+    fn read_room(&self, node: u32, page: u32) -> Result<Vec<u8>, AllocError>
+        requires upper { IsUpper (tree_in self.now) node }
+        requires page { page < (file_in self.now).pages }
+        ensures { IfOk result (λ room. length room.items ≡ kept_size self.now node page) }
     {
-        let size = if self.book.granted[page as usize] {
-            0
-        } else {
+        let size = if reads_ground(&self.tables, node, page) {
             self.tables.file().page_size as usize
+        } else {
+            0
         };
         vec![in self.alloc; 0u8; size]
     }
@@ -218,7 +229,7 @@ impl<G: Ground> Engine<G> {
         ensures idle { (NeedsDisks self.old (AnEvent.PageIn node page write) → ⊥) → self.new.ground ≡ self.old.ground }
     {
         self.make_room()?;
-        let room = self.first_room(page)?;
+        let room = self.read_room(node, page)?;
         let had = self.tables.right(node, page);
         match self
             .tables

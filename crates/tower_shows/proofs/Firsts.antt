@@ -118,7 +118,7 @@ module _ (shape : TreeShape) (size pages : ℕ) (opening : List ℕ) (trail : Li
   pub copy_is : right_of shape trail node page ≡ Right.Nothing → (new page node).copy ≡ shown shape size opening trail (parent shape node) page
   copy_is none =
       let right : (old page node).right ≡ Right.Nothing = (true_to.rights page).right node upper ∙ none in
-      let down : sent.brings ≡ down_for (old page node).right (page_above shape (old page) (ground_shown shape size opening trail page) node) = sent.brought (ground_shown shape size opening trail) [] began.is_told began.ground in
+      let down : sent.brings ≡ down_for (old page node).right (page_above shape (old page) (ground_shown shape size opening trail page) node) = sent.brought (ground_shown shape size opening trail) [] (λ read. (began.is_told, began.ground)) in
       let whole : sent.brings ≡ Some (page_above shape (old page) (ground_shown shape size opening trail page) node) = down ∙ ap (λ (r : Right). down_for r (page_above shape (old page) (ground_shown shape size opening trail page) node)) right in
       let some : (sent.sent.to node).right ≢ Right.Nothing = λ x. granted_some write (sym (ap (λ (s : Side). s.right) sent.sent.here.own) ∙ x) in
       ap (λ (s : Side). s.copy) ((sent.sent.kept node).whole some)

@@ -4,3 +4,4 @@ pub mod Bytes
 pub mod Firsts
 pub mod Tells
 pub mod Stays
+pub mod Telling

@@ -1,2 +1,3 @@
 pub mod Began
 pub mod Since
+pub mod Reads

@@ -100,7 +100,7 @@ returns g c =
       ended = λ bay olds begun taken of opens made played. record {
         notices = lines;
         offered = offered was is lines c.tell_notices.result (subst (λ (ms : List (List (Option Notice))). Writes was is (all_notices mount ms) c.tell_notices.result) told_is c.tell_notices.ensures);
-        written = run-over mount script traced bay mid end begun after c.args.names olds closed lost said closing ls old new status c.tell.result taken
+        written = run-over mount script traced bay mid end begun after c.args.names olds closed lost said closing ls old new status c.tell.result c.requires.mount taken
             (record { of = of; opened = opens; end = suc (length script.clients); back = played.later; shut = c.close_towers.ensures.shut; mades = map (λ m. m.items) c.args.files.made.items; told = map (λ m. m.items) c.close_towers.new.notices.items; made = made; ended = c.close_towers.ensures.ended }) played c.give_files.ensures told how tells;
       };
     }

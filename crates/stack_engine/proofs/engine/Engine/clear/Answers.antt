@@ -4,7 +4,7 @@ use Rattle.hist_plain.specs.declared.event.Event.TheVariants as events
 use Rattle.hist_plain.specs.declared.event.Op.TheVariants as ops
 use Rattle.tower_core.specs.declared.step.Step.TheVariants.{Writes}
 use Rattle.tower_log.specs.Trail.{TrailSeen}
-use Rattle.stack_engine.specs.Engine.{EngineSeen, events_in, state_in, tree_in}
+use Rattle.stack_engine.specs.Engine.{EngineSeen, IsNext, events_in, state_in, tree_in}
 use Rattle.stack_engine.proofs.Making as making
 use Rattle.stack_engine.proofs.Rooms as rooms
 use Rattle.stack_engine.proofs.engine.Engine.clear.Goals as goal
@@ -20,9 +20,10 @@ pub invariant_of-self : goal.invariant_of-self
 invariant_of-self g c = making.made_engine _ _ (making.entry_of (events.Access c.args.at.caller c.args.at.number c.args.at.node c.args.at.life (ops.Clear c.args.page)) (Some answers.Done) []) c.args.at.caller c.args.page (Writes c.args.at.node) _ c.self.invariant.sound
     (making.made_of c.args.self.now _ _ c.make_room.new.self.trail.room (c.self.view_is ∙ c.make_room.ensures.same) (making.entry_of c.event.result (Some answers.Done) c.from_vec.result) (making.entry_of (events.Access c.args.at.caller c.args.at.number c.args.at.node c.args.at.life (ops.Clear c.args.page)) (Some answers.Done) []) (making.entry_is _ _ _ _ _ c.event.ensures (c.from_vec.ensures ∙ c.new.ensures.items)) c.args.at.caller c.args.page (Writes c.args.at.node) _
     c.blank.ensures.same (inl refl) c.blank.ensures.written c.blank.ensures.follows c.enter.ensures.log (ap (λ (t : TrailSeen). t.page_size) c.enter.ensures.trail) c.in_ok-make_room.ensures.few c.requires.next refl c.requires.number (making.clear_on (tree_in c.args.self.now) (events_in c.args.self.now) c.args.at.caller c.args.at.number c.args.at.node c.args.at.life c.args.page c.requires.life))
-    c.self.inside.book.sheet c.enter.new.self.sheet c.self.inside.book.granted.items c.enter.new.self.granted.items c.self.invariant
-    (making.booked _ c.tree.result.now c.self.inside.book.sheet c.enter.new.self.sheet c.self.inside.book.granted.items c.enter.new.self.granted.items
-    (making.entry_of c.event.result (Some answers.Done) c.from_vec.result) (making.entry_of (events.Access c.args.at.caller c.args.at.number c.args.at.node c.args.at.life (ops.Clear c.args.page)) (Some answers.Done) []) (making.entry_is _ _ _ _ _ c.event.ensures (c.from_vec.ensures ∙ c.new.ensures.items)) c.tree.ensures.value c.enter.ensures.nodes c.enter.ensures.pages c.enter.ensures.state c.enter.ensures.len c.enter.ensures.granted)
+    (making.clear_tells _ c.self.invariant.sound c.args.at.caller c.args.at.number c.args.at.node c.args.at.life c.args.page (subst (λ (e : EngineSeen). c.args.at.life ≡ (state_in e).life c.args.at.node) (sym (c.self.view_is ∙ c.make_room.ensures.same)) c.requires.life) (subst (λ (e : EngineSeen). IsNext e (events.Access c.args.at.caller c.args.at.number c.args.at.node c.args.at.life (ops.Clear c.args.page))) (sym (c.self.view_is ∙ c.make_room.ensures.same)) c.requires.next))
+    c.self.inside.book.sheet c.enter.new.self.sheet c.self.invariant
+    (making.booked _ c.tree.result.now c.self.inside.book.sheet c.enter.new.self.sheet
+    (making.entry_of c.event.result (Some answers.Done) c.from_vec.result) (making.entry_of (events.Access c.args.at.caller c.args.at.number c.args.at.node c.args.at.life (ops.Clear c.args.page)) (Some answers.Done) []) (making.entry_is _ _ _ _ _ c.event.ensures (c.from_vec.ensures ∙ c.new.ensures.items)) c.tree.ensures.value c.enter.ensures.nodes c.enter.ensures.pages c.enter.ensures.state)
 
 pub returns-clause-makes : goal.returns-clause-makes
 returns-clause-makes g c = rooms.makes_room c.args.self.now _ _ c.make_room.new.self.trail.room (c.self.view_is ∙ c.make_room.ensures.same) c.args.at.caller c.args.at.number c.args.at.node c.args.at.life (ops.Clear c.args.page) answers.Done

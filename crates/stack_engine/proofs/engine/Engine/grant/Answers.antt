@@ -33,7 +33,7 @@ pub ask-requires-clause-frames : goal.ask-requires-clause-frames
 ask-requires-clause-frames g c κs within = asking.asks_frames _ c.args.node c.args.page c.args.write c.grant_asked.result c.grant_asked.ensures (asking.grant_asks _ c.self.invariant.sound c.args.node c.args.page c.args.write (subst (λ (e : EngineSeen). IsNext e (events.PageIn c.args.node c.args.page c.args.write)) (sym (c.self.view_is ∙ c.make_room.ensures.same)) c.requires.next))
 
 pub invariant_of-self : goal.invariant_of-self
-invariant_of-self g c = refusing.ground_engine c.args.caller _ _ (record { file = c.ask.ensures.same; left = c.in-Err.ensures.left; call = c.ask.ensures.call; pages = c.in-Err.ensures.pages }) _ c.in-Err.err c.refused.result c.refused.ensures c.in-Err.ensures.cause c.self.inside.book.sheet c.self.inside.book.granted.items c.self.invariant
+invariant_of-self g c = refusing.ground_engine c.args.caller _ _ (record { file = c.ask.ensures.same; left = c.in-Err.ensures.left; call = c.ask.ensures.call; pages = c.in-Err.ensures.pages }) _ c.in-Err.err c.refused.result c.refused.ensures c.in-Err.ensures.cause c.self.inside.book.sheet c.self.invariant
 
 pub returns-in-Err-clause-refused : goal.returns-in-Err-clause-refused
 returns-in-Err-clause-refused g c = rooms.refused_room c.args.self.now _ _ c.make_room.new.self.trail.room (c.self.view_is ∙ c.make_room.ensures.same) c.args.caller c.refused.result
@@ -52,13 +52,15 @@ pub enter-requires-clause-count : goal.enter-requires-clause-count
 enter-requires-clause-count g c = rooms.counted _ c.self.inside.book.sheet c.self.invariant.sheet_is
 
 pub invariant_of-self-2 : goal.invariant_of-self-2
-invariant_of-self-2 g c = sending.sent_engine _ _ (event_granted c.finds_zeros-zeros.result c.args.node c.args.page c.args.write) c.keep_page-bytes.result c.args.page (Grants c.args.node c.args.write) c.self.invariant.sound
+invariant_of-self-2 g c = sending.grant_engine _ _ c.self.invariant.sound c.args.node c.args.page c.args.write c.finds_zeros-zeros.result (subst (λ (e : EngineSeen). IsNext e (events.PageIn c.args.node c.args.page c.args.write)) (sym (c.self.view_is ∙ c.make_room.ensures.same)) c.requires.next) c.keep_page-bytes.result
     (granting.granted_message c.args.self.now _ _ c.make_room.new.self.trail.room (c.self.view_is ∙ c.make_room.ensures.same) c.args.node c.args.page c.args.write c.finds_zeros-zeros.result c.grant_asked.result c.grant_asked.ensures c.event_granted.result c.event_granted.ensures c.keep_page-bytes.result
     c.ask.ensures.same c.ask.ensures.call c.in-Ok.ensures.calm c.in-Ok.ensures.sent c.in-Ok.ensures.follows c.in-Ok.ensures.ground c.enter.ensures.log (ap (λ (t : TrailSeen). t.page_size) c.enter.ensures.trail) c.in_ok-make_room.ensures.few (subst (λ (e : EngineSeen). IsNext e (events.PageIn c.args.node c.args.page c.args.write)) (sym (c.self.view_is ∙ c.make_room.ensures.same)) c.requires.next)
     (λ z. ((granting.found_zeros _ c.self.invariant.sound c.args.node c.args.page c.args.write (subst (λ (e : EngineSeen). IsNext e (events.PageIn c.args.node c.args.page c.args.write)) (sym (c.self.view_is ∙ c.make_room.ensures.same)) c.requires.next) (record { ground = g.G.Ground.seen c.ask.new.ground; tables = c.ask.new.self; trail = c.enter.new.self.trail }) _ c.ask.ensures.same.file c.right-had.result c.right-had.ensures c.finds_zeros-zeros.result c.finds_zeros-zeros.ensures) z).nothing))
-    c.self.inside.book.sheet c.enter.new.self.sheet c.self.inside.book.granted.items c.enter.new.self.granted.items c.self.invariant
-    (making.booked _ c.tree.result.now c.self.inside.book.sheet c.enter.new.self.sheet c.self.inside.book.granted.items c.enter.new.self.granted.items
-    (making.entry_of c.event_granted.result None c.keep_page-bytes.result) (making.entry_of (event_granted c.finds_zeros-zeros.result c.args.node c.args.page c.args.write) None c.keep_page-bytes.result) (ap (λ (x : Event). making.entry_of x None c.keep_page-bytes.result) c.event_granted.ensures) c.tree.ensures.value c.enter.ensures.nodes c.enter.ensures.pages c.enter.ensures.state c.enter.ensures.len c.enter.ensures.granted)
+    (granting.found_zeros _ c.self.invariant.sound c.args.node c.args.page c.args.write (subst (λ (e : EngineSeen). IsNext e (events.PageIn c.args.node c.args.page c.args.write)) (sym (c.self.view_is ∙ c.make_room.ensures.same)) c.requires.next) (record { ground = g.G.Ground.seen c.ask.new.ground; tables = c.ask.new.self; trail = c.enter.new.self.trail }) _ c.ask.ensures.same.file c.right-had.result c.right-had.ensures c.finds_zeros-zeros.result c.finds_zeros-zeros.ensures) (granting.found_others _ c.self.invariant.sound c.args.node c.args.page c.args.write (subst (λ (e : EngineSeen). IsNext e (events.PageIn c.args.node c.args.page c.args.write)) (sym (c.self.view_is ∙ c.make_room.ensures.same)) c.requires.next) (record { ground = g.G.Ground.seen c.ask.new.ground; tables = c.ask.new.self; trail = c.enter.new.self.trail }) _ c.ask.ensures.same.file c.right-had.result c.right-had.ensures c.finds_zeros-zeros.result c.finds_zeros-zeros.ensures) (granting.kept_are _ c.self.invariant.sound c.args.node c.args.page c.args.write (subst (λ (e : EngineSeen). IsNext e (events.PageIn c.args.node c.args.page c.args.write)) (sym (c.self.view_is ∙ c.make_room.ensures.same)) c.requires.next) (record { ground = g.G.Ground.seen c.ask.new.ground; tables = c.ask.new.self; trail = c.enter.new.self.trail }) _ c.in_ok-room.room.items c.keep_page-bytes.result (ap (λ (f : PagedFile). f.page_size) c.ask.ensures.same.file) (c.in_ok-room.ensures ∙ ap (λ (e : EngineSeen). kept_size e c.args.node c.args.page) (sym c.self.view_is)) c.keep_page-bytes.ensures.none c.keep_page-bytes.ensures.kept)
+    (granting.kept_whole _ c.self.invariant.sound c.args.node c.args.page c.args.write (subst (λ (e : EngineSeen). IsNext e (events.PageIn c.args.node c.args.page c.args.write)) (sym (c.self.view_is ∙ c.make_room.ensures.same)) c.requires.next) _ c.in_ok-room.room.items c.keep_page-bytes.result (ap (λ (f : PagedFile). f.page_size) c.ask.ensures.same.file) (c.in_ok-room.ensures ∙ ap (λ (e : EngineSeen). kept_size e c.args.node c.args.page) (sym c.self.view_is)) c.keep_page-bytes.ensures.whole)
+    c.self.inside.book.sheet c.enter.new.self.sheet c.self.invariant
+    (making.booked _ c.tree.result.now c.self.inside.book.sheet c.enter.new.self.sheet
+    (making.entry_of c.event_granted.result None c.keep_page-bytes.result) (making.entry_of (event_granted c.finds_zeros-zeros.result c.args.node c.args.page c.args.write) None c.keep_page-bytes.result) (ap (λ (x : Event). making.entry_of x None c.keep_page-bytes.result) c.event_granted.ensures) c.tree.ensures.value c.enter.ensures.nodes c.enter.ensures.pages c.enter.ensures.state)
 
 pub returns-clause-sends : goal.returns-clause-sends
 returns-clause-sends g c = rooms.sends_room c.args.self.now _ _ c.make_room.new.self.trail.room (c.self.view_is ∙ c.make_room.ensures.same) (events.PageIn c.args.node c.args.page c.args.write) c.event_granted-2.result
@@ -66,7 +68,7 @@ returns-clause-sends g c = rooms.sends_room c.args.self.now _ _ c.make_room.new.
     (granting.granted_message c.args.self.now _ _ c.make_room.new.self.trail.room (c.self.view_is ∙ c.make_room.ensures.same) c.args.node c.args.page c.args.write c.finds_zeros-zeros.result c.grant_asked.result c.grant_asked.ensures c.event_granted.result c.event_granted.ensures c.keep_page-bytes.result
     c.ask.ensures.same c.ask.ensures.call c.in-Ok.ensures.calm c.in-Ok.ensures.sent c.in-Ok.ensures.follows c.in-Ok.ensures.ground c.enter.ensures.log (ap (λ (t : TrailSeen). t.page_size) c.enter.ensures.trail) c.in_ok-make_room.ensures.few (subst (λ (e : EngineSeen). IsNext e (events.PageIn c.args.node c.args.page c.args.write)) (sym (c.self.view_is ∙ c.make_room.ensures.same)) c.requires.next)
     (λ z. ((granting.found_zeros _ c.self.invariant.sound c.args.node c.args.page c.args.write (subst (λ (e : EngineSeen). IsNext e (events.PageIn c.args.node c.args.page c.args.write)) (sym (c.self.view_is ∙ c.make_room.ensures.same)) c.requires.next) (record { ground = g.G.Ground.seen c.ask.new.ground; tables = c.ask.new.self; trail = c.enter.new.self.trail }) _ c.ask.ensures.same.file c.right-had.result c.right-had.ensures c.finds_zeros-zeros.result c.finds_zeros-zeros.ensures) z).nothing))
-    (granting.found_zeros _ c.self.invariant.sound c.args.node c.args.page c.args.write (subst (λ (e : EngineSeen). IsNext e (events.PageIn c.args.node c.args.page c.args.write)) (sym (c.self.view_is ∙ c.make_room.ensures.same)) c.requires.next) (record { ground = g.G.Ground.seen c.ask.new.ground; tables = c.ask.new.self; trail = c.enter.new.self.trail }) _ c.ask.ensures.same.file c.right-had.result c.right-had.ensures c.finds_zeros-zeros.result c.finds_zeros-zeros.ensures) (granting.found_others _ c.self.invariant.sound c.args.node c.args.page c.args.write (subst (λ (e : EngineSeen). IsNext e (events.PageIn c.args.node c.args.page c.args.write)) (sym (c.self.view_is ∙ c.make_room.ensures.same)) c.requires.next) (record { ground = g.G.Ground.seen c.ask.new.ground; tables = c.ask.new.self; trail = c.enter.new.self.trail }) _ c.ask.ensures.same.file c.right-had.result c.right-had.ensures c.finds_zeros-zeros.result c.finds_zeros-zeros.ensures) (granting.kept_are _ c.self.invariant.sound c.args.node c.args.page c.args.write (subst (λ (e : EngineSeen). IsNext e (events.PageIn c.args.node c.args.page c.args.write)) (sym (c.self.view_is ∙ c.make_room.ensures.same)) c.requires.next) (record { ground = g.G.Ground.seen c.ask.new.ground; tables = c.ask.new.self; trail = c.enter.new.self.trail }) _ c.in_ok-room.room.items c.keep_page-bytes.result (ap (λ (f : PagedFile). f.page_size) c.ask.ensures.same.file) (c.in_ok-room.ensures ∙ ap (λ (e : EngineSeen). kept_size e c.args.page) (sym c.self.view_is)) c.keep_page-bytes.ensures.none c.keep_page-bytes.ensures.kept) c.event_granted-2.result c.event_granted-2.ensures (ap (λ (t : TrailSeen). t.spare) c.enter.ensures.trail)
+    (granting.found_zeros _ c.self.invariant.sound c.args.node c.args.page c.args.write (subst (λ (e : EngineSeen). IsNext e (events.PageIn c.args.node c.args.page c.args.write)) (sym (c.self.view_is ∙ c.make_room.ensures.same)) c.requires.next) (record { ground = g.G.Ground.seen c.ask.new.ground; tables = c.ask.new.self; trail = c.enter.new.self.trail }) _ c.ask.ensures.same.file c.right-had.result c.right-had.ensures c.finds_zeros-zeros.result c.finds_zeros-zeros.ensures) (granting.found_others _ c.self.invariant.sound c.args.node c.args.page c.args.write (subst (λ (e : EngineSeen). IsNext e (events.PageIn c.args.node c.args.page c.args.write)) (sym (c.self.view_is ∙ c.make_room.ensures.same)) c.requires.next) (record { ground = g.G.Ground.seen c.ask.new.ground; tables = c.ask.new.self; trail = c.enter.new.self.trail }) _ c.ask.ensures.same.file c.right-had.result c.right-had.ensures c.finds_zeros-zeros.result c.finds_zeros-zeros.ensures) (granting.kept_are _ c.self.invariant.sound c.args.node c.args.page c.args.write (subst (λ (e : EngineSeen). IsNext e (events.PageIn c.args.node c.args.page c.args.write)) (sym (c.self.view_is ∙ c.make_room.ensures.same)) c.requires.next) (record { ground = g.G.Ground.seen c.ask.new.ground; tables = c.ask.new.self; trail = c.enter.new.self.trail }) _ c.in_ok-room.room.items c.keep_page-bytes.result (ap (λ (f : PagedFile). f.page_size) c.ask.ensures.same.file) (c.in_ok-room.ensures ∙ ap (λ (e : EngineSeen). kept_size e c.args.node c.args.page) (sym c.self.view_is)) c.keep_page-bytes.ensures.none c.keep_page-bytes.ensures.kept) c.event_granted-2.result c.event_granted-2.ensures (ap (λ (t : TrailSeen). t.spare) c.enter.ensures.trail)
     (λ needless. c.ask.ensures.idle (λ n. needless (needs.grant_needs _ c.args.node c.args.page c.args.write c.grant_asked.result c.grant_asked.ensures n))))
 
 pub returns-in-Err-clause-idle : goal.returns-in-Err-clause-idle

@@ -21,7 +21,7 @@ pub order-requires-clause-page : goal.order-requires-clause-page
 order-requires-clause-page g c κs within = (asking.order_calls _ c.self.invariant.sound c.args.node c.args.page c.args.what c.requires.about_page (subst (λ (e : EngineSeen). IsNext e (event_called c.args.what c.args.node c.args.page)) (sym (c.self.view_is ∙ c.make_room.ensures.same)) c.requires.next)).inside
 
 pub invariant_of-self : goal.invariant_of-self
-invariant_of-self g c = refusing.noted_engine c.args.caller c.in-Err.fault.disk c.in-Err.fault.count _ _ (record { file = c.order.ensures.same; left = c.in-Err.ensures.left; call = c.order.ensures.call; pages = c.in-Err.ensures.pages }) c.noted.ensures.noted (ap (λ (t : TrailSeen). t.page_size) c.noted.ensures.same) c.in-Err.ensures.fault c.self.inside.book.sheet c.self.inside.book.granted.items c.self.invariant
+invariant_of-self g c = refusing.noted_engine c.args.caller c.in-Err.fault.disk c.in-Err.fault.count _ _ (record { file = c.order.ensures.same; left = c.in-Err.ensures.left; call = c.order.ensures.call; pages = c.in-Err.ensures.pages }) c.noted.ensures.noted (ap (λ (t : TrailSeen). t.page_size) c.noted.ensures.same) c.in-Err.ensures.fault c.self.inside.book.sheet c.self.invariant
 
 pub returns-in-Err-clause-refused : goal.returns-in-Err-clause-refused
 returns-in-Err-clause-refused g c = subst (IsRefused c.args.caller c.args.self.now _) (sym c.noted.ensures.fault)
@@ -31,11 +31,12 @@ pub enter-requires-clause-count : goal.enter-requires-clause-count
 enter-requires-clause-count g c = rooms.counted _ c.self.inside.book.sheet c.self.invariant.sheet_is
 
 pub invariant_of-self-2 : goal.invariant_of-self-2
-invariant_of-self-2 g c = sending.sent_engine _ _ (event_called c.args.what c.args.node c.args.page) [] c.args.page (step_called c.args.what c.args.node) c.self.invariant.sound
+invariant_of-self-2 g c = sending.plain_engine _ _ (event_called c.args.what c.args.node c.args.page) c.args.page (step_called c.args.what c.args.node) c.self.invariant.sound (sending.order_plain c.args.what c.args.node c.args.page c.requires.about_page)
     (sending.message_of c.args.self.now _ _ c.make_room.new.self.trail.room (c.self.view_is ∙ c.make_room.ensures.same) _ c.plain_entry-entry.result (c.plain_entry-entry.ensures ∙ ap (λ (x : Event). making.entry_of x None []) c.event_called.ensures) c.args.page _ c.order.ensures.same c.order.ensures.call c.in-Ok.ensures.calm c.in-Ok.ensures.sent c.in-Ok.ensures.follows c.in-Ok.ensures.ground c.enter.ensures.log (ap (λ (t : TrailSeen). t.page_size) c.enter.ensures.trail) c.in_ok-make_room.ensures.few c.requires.next (sending.order_plain c.args.what c.args.node c.args.page c.requires.about_page) (asking.order_step (tree_in c.args.self.now) (events_in c.args.self.now) c.args.what c.args.node c.args.page c.requires.about_page) (sending.order_brings c.args.what c.args.node))
-    c.self.inside.book.sheet c.enter.new.self.sheet c.self.inside.book.granted.items c.enter.new.self.granted.items c.self.invariant
-    (making.booked _ c.tree.result.now c.self.inside.book.sheet c.enter.new.self.sheet c.self.inside.book.granted.items c.enter.new.self.granted.items
-    c.plain_entry-entry.result (making.entry_of (event_called c.args.what c.args.node c.args.page) None []) (c.plain_entry-entry.ensures ∙ ap (λ (x : Event). making.entry_of x None []) c.event_called.ensures) c.tree.ensures.value c.enter.ensures.nodes c.enter.ensures.pages c.enter.ensures.state c.enter.ensures.len c.enter.ensures.granted)
+    (sending.order_finds c.args.what c.args.node)
+    c.self.inside.book.sheet c.enter.new.self.sheet c.self.invariant
+    (making.booked _ c.tree.result.now c.self.inside.book.sheet c.enter.new.self.sheet
+    c.plain_entry-entry.result (making.entry_of (event_called c.args.what c.args.node c.args.page) None []) (c.plain_entry-entry.ensures ∙ ap (λ (x : Event). making.entry_of x None []) c.event_called.ensures) c.tree.ensures.value c.enter.ensures.nodes c.enter.ensures.pages c.enter.ensures.state)
 
 pub returns-clause-sends : goal.returns-clause-sends
 returns-clause-sends g c = rooms.sends_room c.args.self.now _ _ c.make_room.new.self.trail.room (c.self.view_is ∙ c.make_room.ensures.same) (event_called c.args.what c.args.node c.args.page) c.event_called-2.result

@@ -8,7 +8,7 @@ use Rattle.tower_log.specs.declared.logged.Logged.TheVariants.{Entered}
 use Rattle.tower_log.specs.Log.{place_of}
 use Rattle.tower_log.specs.Trail.{TrailSeen}
 use Rattle.stack_engine.specs.declared.refusal.StepErr.TheVariants as errors
-use Rattle.stack_engine.specs.Engine.{EngineSeen, events_in, log_in, state_in, tree_in}
+use Rattle.stack_engine.specs.Engine.{EngineSeen, IsNext, events_in, log_in, state_in, tree_in}
 use Rattle.stack_engine.proofs.Making as making
 use Rattle.stack_engine.proofs.Rooms as rooms
 use Rattle.stack_engine.proofs.engine.Engine.read.Goals as goal
@@ -25,9 +25,10 @@ pub invariant_of-self-2 : goal.invariant_of-self-2
 invariant_of-self-2 g c = making.made_engine _ _ (making.entry_of (events.Access c.args.at.caller c.args.at.number c.args.at.node c.args.at.life (ops.Read c.args.page c.args.off c.args.len)) (Some answers.Bytes) c.copy_from_slice.new.self.items) c.args.at.caller c.args.page (Reads c.args.at.node) None c.self.invariant.sound
     (making.made_of c.args.self.now _ _ c.args.self.now.trail.room c.self.view_is (making.entry_of c.event.result (Some answers.Bytes) c.from_vec.result) (making.entry_of (events.Access c.args.at.caller c.args.at.number c.args.at.node c.args.at.life (ops.Read c.args.page c.args.off c.args.len)) (Some answers.Bytes) c.copy_from_slice.new.self.items) (making.entry_is _ _ _ _ _ c.event.ensures c.from_vec.ensures) c.args.at.caller c.args.page (Reads c.args.at.node) None
     c.touch.ensures.same (inl refl) (making.read_sent _ _ _ _ _ _ c.touch.ensures.sides) c.touch.ensures.follows (c.enter.ensures.log ∙ ap (λ (t : TrailSeen). t.log ++ Entered (making.entry_of c.event.result (Some answers.Bytes) c.from_vec.result) ∷ []) c.make_read_room.ensures.same) (ap (λ (t : TrailSeen). t.page_size) c.enter.ensures.trail ∙ ap (λ (t : TrailSeen). t.page_size) c.make_read_room.ensures.same) (subst (λ (e : EngineSeen). place_of (log_in e) < MAX_EVENTS) c.self.view_is (omega (arith, c.len.ensures, c.if-len-ge-MAX_EVENTS.false))) c.requires.next refl c.requires.number (making.read_on (tree_in c.args.self.now) (events_in c.args.self.now) c.args.at.caller c.args.at.number c.args.at.node c.args.at.life c.args.page c.args.off c.args.len c.requires.life))
-    c.self.inside.book.sheet c.enter.new.self.sheet c.self.inside.book.granted.items c.enter.new.self.granted.items c.self.invariant
-    (making.booked _ c.tree.result.now c.self.inside.book.sheet c.enter.new.self.sheet c.self.inside.book.granted.items c.enter.new.self.granted.items
-    (making.entry_of c.event.result (Some answers.Bytes) c.from_vec.result) (making.entry_of (events.Access c.args.at.caller c.args.at.number c.args.at.node c.args.at.life (ops.Read c.args.page c.args.off c.args.len)) (Some answers.Bytes) c.copy_from_slice.new.self.items) (making.entry_is _ _ _ _ _ c.event.ensures c.from_vec.ensures) c.tree.ensures.value c.enter.ensures.nodes c.enter.ensures.pages c.enter.ensures.state c.enter.ensures.len c.enter.ensures.granted)
+    (making.read_tells _ c.self.invariant.sound c.args.at.caller c.args.at.number c.args.at.node c.args.at.life c.args.page (subst (λ (e : EngineSeen). c.args.at.life ≡ (state_in e).life c.args.at.node) (sym c.self.view_is) c.requires.life) c.args.off c.args.len c.copy_from_slice.new.self.items (c.copy_from_slice.ensures.items ∙ c.lend-lent.ensures.bytes) (subst (λ (e : EngineSeen). IsNext e (events.Access c.args.at.caller c.args.at.number c.args.at.node c.args.at.life (ops.Read c.args.page c.args.off c.args.len))) (sym c.self.view_is) c.requires.next))
+    c.self.inside.book.sheet c.enter.new.self.sheet c.self.invariant
+    (making.booked _ c.tree.result.now c.self.inside.book.sheet c.enter.new.self.sheet
+    (making.entry_of c.event.result (Some answers.Bytes) c.from_vec.result) (making.entry_of (events.Access c.args.at.caller c.args.at.number c.args.at.node c.args.at.life (ops.Read c.args.page c.args.off c.args.len)) (Some answers.Bytes) c.copy_from_slice.new.self.items) (making.entry_is _ _ _ _ _ c.event.ensures c.from_vec.ensures) c.tree.ensures.value c.enter.ensures.nodes c.enter.ensures.pages c.enter.ensures.state)
 
 pub returns-clause-makes : goal.returns-clause-makes
 returns-clause-makes g c = rooms.makes_room c.args.self.now _ _ c.args.self.now.trail.room c.self.view_is c.args.at.caller c.args.at.number c.args.at.node c.args.at.life (ops.Read c.args.page c.args.off c.args.len) answers.Bytes

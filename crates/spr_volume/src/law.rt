@@ -1,0 +1,29 @@
+//! What needed messages read from the ground, and what a log keeps of it. Each law is the contract of a function that does nothing.
+
+ghost use Rattle.std.specs.Prelude.{List, length, ℕ, ◌*◌, ◌≡◌, []};
+ghost use Rattle.std.specs.List.{AllByRecursion};
+ghost use Rattle.tower_core.specs.Legal.{FitsFile};
+ghost use Rattle.tower_core.specs.Trail.{IsRun, start};
+ghost use Rattle.tower_core.specs.TreeShape.{IsTree, TreeShape};
+ghost use Rattle.tower_log.specs.Log.{trail_of};
+ghost use Rattle.tower_log.specs.declared.logged.Logged.{Logged as ALogged};
+ghost use Rattle.stack_engine.specs.Answers.{FindsPagesOf, KeepsPagesOf, KeepsWholePages};
+ghost use Rattle.spr_volume.specs.Needed.{AreNeeded};
+ghost use Rattle.spr_volume.specs.Reads.{StandsByFirst};
+
+/// A run of a tree of which one layer alone stands on the ground, and each page message is needed. It reads each page from
+/// the ground once at most, by the page's first grant; so each file that has the pages which the log keeps is one of which the
+/// reads found the pages.
+pub fn needed_runs_read_once()
+    ensures { (tree : TreeShape) (size pages : ℕ) (opening : List ℕ) (log : List ALogged) →
+        IsTree tree → StandsByFirst tree → length opening ≡ pages * size →
+        IsRun tree pages start (trail_of log) → AllByRecursion (FitsFile size pages) (trail_of log) →
+        AreNeeded tree pages [] log → KeepsPagesOf size opening log →
+        FindsPagesOf tree size opening log }
+{}
+
+/// There is a file that has the pages which a log keeps, if these are whole.
+pub fn kept_pages_make_a_file()
+    ensures { (size pages : ℕ) (log : List ALogged) → KeepsWholePages size pages log →
+        (opening : List ℕ) × (length opening ≡ pages * size) × KeepsPagesOf size opening log }
+{}
