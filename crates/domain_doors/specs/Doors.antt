@@ -5,9 +5,10 @@ use Rattle.domain_doors.specs.declared.why.NoDoor.{NoDoor}
 use Rattle.domain_doors.specs.declared.why.DoorErr.{DoorErr}
 use Rattle.domain_doors.specs.declared.why.DoorErr.TheVariants as why
 
--- the door of each identifier from 0 on, or none
+-- the door of each identifier from 0 on, or none, and the identifier that is given next
 pub record Doors : Type 0 where
   pub slots : List (Option Door)
+  pub next : ℕ
 
 -- the door that the domain holds under the identifier
 abbrev pub door_at : Doors → ℕ → Option Door

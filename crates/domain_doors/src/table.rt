@@ -9,7 +9,8 @@ use slab::Slab;
 use std::alloc::{AllocError, Global};
 use std::marker::Model;
 
-/// The table of doors of a domain. A door's identifier is given again only after the door was taken out.
+/// The table of doors of a domain. A door's identifier is given again only after the door was taken out, and then it is the
+/// next one that is given.
 #[derive(Debug, Drop)]
 pub struct Domain {
     doors: Slab<Door>,
@@ -20,13 +21,14 @@ impl Model for Domain {
 
     ghost Value = { Doors };
 
-    ghost view = { λ d. record { slots = d.doors.slots } };
+    ghost view = { λ d. record { slots = d.doors.slots; next = d.doors.vacant_key } };
 }
 
 impl Domain {
-    /// A domain that holds no door. It takes no memory.
+    /// A domain that holds no door. The first identifier that it gives is 0. It takes no memory.
     pub fn new(alloc: Global) -> Domain
-        ensures { (id : ℕ) → door_at result id ≡ None }
+        ensures empty { (id : ℕ) → door_at result id ≡ None }
+        ensures first { result.next ≡ 0 }
     {
         Domain {
             doors: Slab::new(alloc),
@@ -36,6 +38,7 @@ impl Domain {
     /// Takes a door, and answers its identifier, which is in no other use. An error is that memory ran out, and leaves
     /// the domain as it was.
     pub fn add(&mut self, door: Door) -> Result<usize, AllocError>
+        ensures key { IfOk result (λ id. id ≡ self.old.next) }
         ensures vacant { IfOk result (λ id. door_at self.old id ≡ None) }
         ensures updates { IfOk result (λ id. Updates self.old self.new id (Some door)) }
         ensures err { OnErr result (self.new ≡ self.old) }
@@ -45,6 +48,7 @@ impl Domain {
 
     /// Answers a second identifier of the same door, which is in no other use. An error leaves the domain as it was.
     pub fn copy(&mut self, id: usize) -> Result<usize, DoorErr>
+        ensures key { IfOk result (λ new_id. new_id ≡ self.old.next) }
         ensures ok { IfOk result (λ new_id. Copies self.old self.new id new_id) }
         ensures why { IfErr result (RefusesCopy self.old id) }
         ensures err { OnErr result (self.new ≡ self.old) }
@@ -53,11 +57,12 @@ impl Domain {
         Ok(self.add(door)?)
     }
 
-    /// Gives a door away: it leaves the domain, and its identifier may be given again. It takes no memory. An error
-    /// leaves the domain as it was.
+    /// Gives a door away: it leaves the domain, and its identifier is the next one that is given. It takes no memory. An
+    /// error leaves the domain as it was.
     pub fn take_out(&mut self, id: usize) -> Result<Door, NoDoor>
         ensures value { MatchResult result (λ door. door_at self.old id ≡ Some door) (Lacks self.old id) }
         ensures updates { OnOk result (Updates self.old self.new id None) }
+        ensures next { OnOk result (self.new.next ≡ id) }
         ensures err { OnErr result (self.new ≡ self.old) }
     {
         self.doors.try_remove(id).ok_or(NoDoor { id })

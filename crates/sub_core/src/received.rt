@@ -41,7 +41,7 @@ pub fn unmarshal_as(
     Ok(object)
 }
 
-/// Takes what the bytes behind an identifier say. A refused call may leave the reader behind the door.
+/// Takes what the bytes behind an identifier say.
 fn get_fields(form: Form, from: &mut Reader<'_>) -> Result<Fields, ObjectErr>
     ensures value { IfOk result (λ fields. fields_at form from.old ≡ Ok fields) }
     ensures why { IfErr result (Refuses (fields_at form from.old)) }

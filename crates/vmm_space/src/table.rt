@@ -1,6 +1,6 @@
 //! The regions of a space.
 
-ghost use Rattle.std.specs.Prelude.{◌≡◌, ◌≤◌, ◌<◌, true, false, None, Some, IfOk, IfErr, IfSome, OnOk, OnErr, MatchResult, length, map, position};
+ghost use Rattle.std.specs.Prelude.{◌≡◌, ◌≤◌, ◌<◌, [], true, false, None, Some, IfOk, IfErr, IfSome, OnOk, OnErr, MatchResult, length, map, position};
 ghost use Rattle.std.specs.List.{list_any, find};
 ghost use Rattle.std.specs.Option.{option_map};
 ghost use Rattle.vmm_space.specs.Regions.{is_named, has_address, meets};
@@ -143,9 +143,10 @@ impl Space {
         Ok(())
     }
 
-    /// Sets the life of the last region.
+    /// Sets the life of the last region. If there is no region, nothing changes.
     pub fn set_life(&mut self, life: u32)
-        ensures { (space : SpaceShape) (region : Region) → self.old ≡ with_region space region → self.new ≡ with_region space (record region { life = life }) }
+        ensures last { (space : SpaceShape) (region : Region) → self.old ≡ with_region space region → self.new ≡ with_region space (record region { life = life }) }
+        ensures none { self.old.regions ≡ [] → self.new ≡ self.old }
     {
         let Some(last) = self.regions.last_mut() else {
             return;
@@ -153,9 +154,10 @@ impl Space {
         last.life = life;
     }
 
-    /// Gives the last region up.
+    /// Gives the last region up. If there is no region, nothing changes.
     pub fn give_up_last(&mut self)
-        ensures { (space : SpaceShape) (region : Region) → self.old ≡ with_region space region → self.new ≡ space }
+        ensures last { (space : SpaceShape) (region : Region) → self.old ≡ with_region space region → self.new ≡ space }
+        ensures none { self.old.regions ≡ [] → self.new ≡ self.old }
     {
         let _region = self.regions.pop();
     }
