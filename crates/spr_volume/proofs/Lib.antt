@@ -14,3 +14,4 @@ pub mod NamesStories
 pub mod Unwritten
 pub mod Reading
 pub mod Kept
+pub mod Drives

@@ -88,7 +88,7 @@ module _ (P : Type 0) (node page : ℕ) (write : Bool) (event : Event) (found : 
   planned_grant : as_planned event ≡ events.PageIn node page write
   planned_grant = by_test (is_grant node page write event) refl
 
-planned : (old new : EngineSeen) (asked event : Event) → IsPageMessage asked → StandsFor old new asked event → as_planned event ≡ asked
+pub planned : (old new : EngineSeen) (asked event : Event) → IsPageMessage asked → StandsFor old new asked event → as_planned event ≡ asked
 planned old new (events.PageIn node page write) event kind stands = planned_grant (FindsZeros old new node page) node page write event stands.0 stands.1
 planned old new (events.PageOut node page) event kind stands = ap as_planned stands
 planned old new (events.WriteOut node page) event kind stands = ap as_planned stands

@@ -11,3 +11,4 @@ pub mod Rows
 pub mod NamesCalls
 pub mod NamesShared
 pub mod Reads
+pub mod Drive

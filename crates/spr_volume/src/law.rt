@@ -1,13 +1,17 @@
-//! What needed messages read from the ground, and what a log keeps of it. Each law is the contract of a function that does nothing.
+//! What needed messages read from the ground, what a log keeps of it, and that tries come to an end. Each law is the contract of a function that does nothing.
 
-ghost use Rattle.std.specs.Prelude.{List, length, ℕ, ◌*◌, ◌≡◌, []};
+ghost use Rattle.std.specs.Prelude.{List, length, ℕ, ◌*◌, ◌≡◌, ◌≤◌, []};
 ghost use Rattle.std.specs.List.{AllByRecursion};
+ghost use Rattle.hist_plain.specs.declared.event.Op.{Op as AnOp};
 ghost use Rattle.tower_core.specs.Legal.{FitsFile};
 ghost use Rattle.tower_core.specs.Trail.{IsRun, start};
-ghost use Rattle.tower_core.specs.TreeShape.{IsTree, TreeShape};
+ghost use Rattle.tower_core.specs.TreeShape.{IsTree, IsUpper, TreeShape, nodes};
 ghost use Rattle.tower_log.specs.Log.{trail_of};
 ghost use Rattle.tower_log.specs.declared.logged.Logged.{Logged as ALogged};
+ghost use Rattle.stack_engine.specs.Engine.{IsSound, tree_in};
+ghost use Rattle.stack_engine.specs.Tower.{TowerSeen};
 ghost use Rattle.stack_engine.specs.Answers.{FindsPagesOf, KeepsPagesOf, KeepsWholePages};
+ghost use Rattle.spr_volume.specs.Drive.{Drives};
 ghost use Rattle.spr_volume.specs.Needed.{AreNeeded};
 ghost use Rattle.spr_volume.specs.Reads.{StandsByFirst};
 
@@ -26,4 +30,12 @@ pub fn needed_runs_read_once()
 pub fn kept_pages_make_a_file()
     ensures { (size pages : ℕ) (log : List ALogged) → KeepsWholePages size pages log →
         (opening : List ℕ) × (length opening ≡ pages * size) × KeepsPagesOf size opening log }
+{}
+
+/// Where nobody else steps between a caller's tries of an access, and none of them is refused or waits, at most as many of them send
+/// a message as the tree has nodes, the ground among them; then the access is made.
+pub fn tries_come_to_an_end()
+    ensures { (caller node life n : ℕ) (op : AnOp) (before after : TowerSeen) →
+        IsSound before.engine → IsUpper (tree_in before.engine) node → Drives caller node life op n before after →
+        n ≤ nodes (tree_in before.engine) }
 {}
