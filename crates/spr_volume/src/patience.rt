@@ -5,8 +5,11 @@ ghost use Rattle.spr_volume.specs.declared.patience.TheConstants.{LONGEST};
 
 use std::thread::yield_now;
 
-/// How many yields a pause has at most.
+/// How many yields a pause has at most, beside those by which callers differ.
 const LONGEST: u32 = 64;
+
+/// How many callers a volume has at most: the clients of a script, and who makes the closing syncs.
+const CALLERS: u32 = 17;
 
 /// The pauses of one call. A call that has made as many steps as there are nodes is in a race with another, and so is one that
 /// another caller is before: between its holds it pauses, each time twice as long, up to a limit, and a caller of another number
@@ -40,7 +43,7 @@ impl Patience {
 
     /// After a hold that another caller was before, and between the holds of a long race: yields some times.
     pub(crate) fn pause(&mut self) {
-        for _ in 0..self.yields + self.caller % 8 {
+        for _ in 0..self.yields + self.caller % CALLERS {
             yield_now();
         }
         self.yields = (self.yields * 2).min(LONGEST);
