@@ -159,7 +159,7 @@ answers_entered : (shape : TreeShape) (size : ℕ) (opening : List ℕ) (log : L
     → reply (plain_shape shape size) (file_after shape size opening (trail_of log)) entry.event ≡ told_by entry → AreAnswers shape size opening (log ++ Entered entry ∷ [])
 answers_entered shape size opening log entry answers told place other is = by (below_or_not place (length (entries_of log)))
   where
-    abbrev replied : List Event → Event → Option Told
+    replied : List Event → Event → Option Told
     replied es event = reply (plain_shape shape size) (file_after shape size opening es) event
 
     there : slice_get (entries_of log ++ entry ∷ []) place ≡ Some other

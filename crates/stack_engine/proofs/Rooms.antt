@@ -18,7 +18,7 @@ use Rattle.tower_log.specs.Log.{place_of}
 use Rattle.tower_log.specs.Trail.{TrailSeen}
 use Rattle.stack_engine.specs.declared.refusal.StepErr.{StepErr}
 use Rattle.stack_engine.specs.declared.refusal.StepErr.TheVariants as errors
-use Rattle.stack_engine.specs.Engine.{EngineSeen, IsSheetOf, events_in, log_in, tree_in}
+use Rattle.stack_engine.specs.Engine.{EngineSeen, IsEngine, IsSheetOf, events_in, log_in, tree_in}
 use Rattle.stack_engine.specs.Moves.{Enters, IsRefused, IsWhy, Makes, Sends, StandsFor}
 use Rattle.stack_engine.specs.Opened.{IsOf}
 use Rattle.stack_engine.specs.Start.{IsFullOrNoMemory}
@@ -42,6 +42,26 @@ of_spare opening old new spare room is of = subst (IsOf opening) (sym is) (recor
   answers = of.answers;
   synced = λ from last. let s = of.synced from last in record { reached = s.reached; ground = s.ground; disks = s.disks; behind = s.behind };
 })
+
+-- and so is all that holds of it
+pub engine_spare : (old new : EngineSeen) (sheet : Sheet) (spare room : ℕ) → new ≡ record old { trail = record old.trail { spare = spare; room = room } } → IsEngine old sheet → IsEngine new sheet
+engine_spare old new sheet spare room is kept = subst (λ (e : EngineSeen). IsEngine e sheet) (sym is) (record {
+  sound = record {
+    true_to = kept.sound.true_to;
+    under = kept.sound.under;
+    listed = kept.sound.listed;
+    few = kept.sound.few;
+    numbered = kept.sound.numbered;
+    notes = kept.sound.notes;
+    page_size = kept.sound.page_size;
+    shows = kept.sound.shows;
+    keeps = kept.sound.keeps;
+  };
+  sheet_is = record { nodes_are = kept.sheet_is.nodes_are; pages_are = kept.sheet_is.pages_are; state_is = kept.sheet_is.state_is };
+})
+
+pub engine_room : (old new : EngineSeen) (sheet : Sheet) (room : ℕ) → new ≡ record old { trail = record old.trail { room = room } } → IsEngine old sheet → IsEngine new sheet
+engine_room old new sheet room is kept = engine_spare old new sheet old.trail.spare room is kept
 
 -- THE SHEET counts the events
 pub counted : (e : EngineSeen) (sheet : Sheet) → IsSheetOf e sheet → (seen sheet).len ≡ place_of (log_in e)
