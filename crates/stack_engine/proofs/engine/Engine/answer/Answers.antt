@@ -1,4 +1,4 @@
-use Rattle.std.proofs.Common.{[], Some, None, inl, ap, refl, ◌∙◌}
+use Rattle.std.proofs.Common.{[], Some, None, inl, ap, refl, subst, sym, ◌∙◌}
 use Rattle.hist_plain.specs.declared.event.Event.TheVariants as events
 use Rattle.hist_plain.specs.declared.event.Op.{Op}
 use Rattle.tower_core.specs.declared.step.Step.TheVariants.{Untouched}

@@ -1,8 +1,11 @@
-use Rattle.std.proofs.Common.{◌<◌, None, ap, subst, sym, ◌∙◌}
+use Rattle.std.proofs.Common.{◌<◌, ℕ, None, ap, subst, sym, ◌∙◌}
 use Rattle.hist_plain.specs.declared.TheConstants.{MAX_EVENTS}
 use Rattle.hist_plain.specs.declared.event.Event.{Event}
 use Rattle.hist_plain.specs.declared.event.Event.TheVariants as events
 use Rattle.tower_core.specs.declared.step.Step.TheVariants.{Grants}
+use Rattle.tower_core.specs.Sheet.{pages_of, seen}
+use Rattle.tower_core.specs.Trail.{IsAllowed, State}
+use Rattle.tower_core.specs.TreeShape.{TreeShape}
 use Rattle.tower_log.specs.Log.{place_of}
 use Rattle.tower_log.specs.Trail.{TrailSeen}
 use Rattle.stack_engine.specs.declared.refusal.StepErr.TheVariants as errors
@@ -11,6 +14,7 @@ use Rattle.stack_engine.specs.Messages.{event_granted, kept_size}
 use Rattle.stack_engine.proofs.Asking as asking
 use Rattle.stack_engine.proofs.Making as making
 use Rattle.stack_engine.proofs.Needs as needs
+use Rattle.stack_engine.proofs.Planning as planning
 use Rattle.stack_engine.proofs.Refusing as refusing
 use Rattle.stack_engine.proofs.Rooms as rooms
 use Rattle.stack_engine.proofs.Sending as sending
@@ -50,6 +54,14 @@ keep_page-bytes-requires-clause-may g c = granting.grant_reads _ c.self.invarian
 
 pub enter-requires-clause-count : goal.enter-requires-clause-count
 enter-requires-clause-count g c = rooms.counted _ c.self.inside.book.sheet c.self.invariant.sheet_is
+
+pub enter-requires-clause-allowed : goal.enter-requires-clause-allowed
+enter-requires-clause-allowed g c =
+    let mid : EngineSeen = record { ground = g.G.Ground.seen c.self.inside.ground; tables = c.self.inside.tables; trail = c.self.inside.book.trail } in
+    subst (λ (x : Event). IsAllowed c.tree.result.now (pages_of c.self.inside.book.sheet) (seen c.self.inside.book.sheet) x) (sym c.event_granted.ensures)
+    (planning.sheet_told mid c.self.inside.book.sheet c.tree.result.now (λ (t : TreeShape) (n : ℕ) (s : State). IsAllowed t n s (event_granted c.finds_zeros-zeros.result c.args.node c.args.page c.args.write)) (c.tree.ensures.value ∙ c.ask.ensures.same.tree) c.self.invariant.sheet_is
+    (sending.grant_next mid c.finds_zeros-zeros.result c.args.node c.args.page c.args.write (subst (λ (e : EngineSeen). IsNext e (events.PageIn c.args.node c.args.page c.args.write)) (sym (c.self.view_is ∙ c.make_room.ensures.same)) c.requires.next)
+    (λ z. ((granting.found_zeros mid c.self.invariant.sound c.args.node c.args.page c.args.write (subst (λ (e : EngineSeen). IsNext e (events.PageIn c.args.node c.args.page c.args.write)) (sym (c.self.view_is ∙ c.make_room.ensures.same)) c.requires.next) (record { ground = g.G.Ground.seen c.ask.new.ground; tables = c.ask.new.self; trail = c.self.inside.book.trail }) _ c.ask.ensures.same.file c.right-had.result c.right-had.ensures c.finds_zeros-zeros.result c.finds_zeros-zeros.ensures) z).nothing)).allowed)
 
 pub invariant_of-self-2 : goal.invariant_of-self-2
 invariant_of-self-2 g c = sending.grant_engine _ _ c.self.invariant.sound c.args.node c.args.page c.args.write c.finds_zeros-zeros.result (subst (λ (e : EngineSeen). IsNext e (events.PageIn c.args.node c.args.page c.args.write)) (sym (c.self.view_is ∙ c.make_room.ensures.same)) c.requires.next) c.keep_page-bytes.result

@@ -18,6 +18,12 @@ returns-in_err-bytes-clause-refused g c = rooms.if_err c.from_residual.result er
     (rooms.lacking_read c.args.at.caller c.args.self.now _ _ c.self.view_is refl refl c.make_read_room.ensures.same
     (λ lt. let h = c.in_err-bytes.ensures.spare lt in let both : false ≡ true = h.0 in cc) c.make_read_room.ensures.none (omega (arith, c.len.ensures, c.if-len-ge-MAX_EVENTS.false)))
 
+pub invariant_of-self : goal.invariant_of-self
+invariant_of-self g c =
+    let old : EngineSeen = record { ground = g.G.Ground.seen c.self.inside.ground; tables = c.self.inside.tables; trail = c.self.inside.book.trail } in
+    let new : EngineSeen = record { ground = g.G.Ground.seen c.self.inside.ground; tables = c.self.inside.tables; trail = c.make_read_room.new.self } in
+    rooms.engine_spare old new c.self.inside.book.sheet c.make_read_room.new.self.spare c.make_read_room.new.self.room (ap (λ (t : TrailSeen). record old { trail = t }) c.make_read_room.ensures.same) c.self.invariant
+
 pub enter-requires-clause-count : goal.enter-requires-clause-count
 enter-requires-clause-count g c = rooms.counted _ c.self.inside.book.sheet c.self.invariant.sheet_is ∙ ap (λ (t : TrailSeen). place_of t.log) (sym c.make_read_room.ensures.same)
 
