@@ -11,4 +11,5 @@ pub mod Making
 pub mod Granting
 pub mod Needs
 pub mod Sparing
+pub mod Stepping
 pub mod Driving
