@@ -410,3 +410,12 @@ seen-life domain entries i entry life objects name target last is old =
     ∙ map-append (seen_entry domain) (take i entries) (of_life entry life ∷ [])
     ∙ ap (λ (os : List OpenObject). os ++ seen_entry domain (of_life entry life) ∷ []) ends.0
     ∙ ap (λ (o : OpenObject). with_object objects o.name (record o.target { life = life })) ends.1
+
+-- where no object is seen, there is no last one
+pub seen-no_last : {X : Type 0} (domain : Doors) (entries : List Entry) (i : ℕ) → suc i ≡ length entries → seen domain entries ≡ [] → X
+seen-no_last domain [] i last none = absurd (omega arith)
+seen-no_last domain (entry ∷ entries) i last none = absurd cc
+
+pub seen-no_end : {X : Type 0} (domain : Doors) (entries : List Entry) (entry : Entry) → seen domain (entries ++ entry ∷ []) ≡ [] → X
+seen-no_end domain [] entry none = absurd cc
+seen-no_end domain (first ∷ entries) entry none = absurd cc

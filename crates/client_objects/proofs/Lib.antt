@@ -1,4 +1,5 @@
 pub mod OpenLaws
+pub mod ChosenLaws
 pub mod HeldLaws
 pub mod ReceivedLaws
 pub mod FoundLaws

@@ -32,6 +32,7 @@ use Rattle.client_objects.specs.Objects.{OpenObject, IsOnStack, with_object}
 use Rattle.client_objects.specs.Stored.{is_built, form_of, file_of, target_of, leads, unread, has_size, target_by, object_by, received, stored_object, bound_object}
 use Rattle.client_objects.specs.Laws.{bound_target, BoundIsReceived, StartsBound, LeadsOntoStack, ReceivedLeads}
 use Rattle.client_objects.proofs.OpenLaws.{on_stack-with_object}
+use Rattle.client_objects.proofs.ChosenLaws.{chosen_of}
 
 both : (a b : Bool) → (a && b) ≡ true → (a ≡ true) × (b ≡ true)
 both true b is = (refl, is)
@@ -143,7 +144,7 @@ onto_stack mount sub fields target built is same =
     let outer = both (is_view_in mount.nodes fields.door.node && ltb fields.door.file (length mount.files)) (ltb (file_of sub fields) (length mount.files)) is in
     let inner = both (is_view_in mount.nodes fields.door.node) (ltb fields.door.file (length mount.files)) outer.0 in
     let there : LeadsOntoStack mount (target_of sub fields) =
-    record { built = built; view = inner.0; file = ltb-true (file_of sub fields) (length mount.files) outer.1 } in
+    record { built = built; view = inner.0; file = ltb-true (file_of sub fields) (length mount.files) outer.1; chosen = chosen_of sub fields } in
     subst (λ (t : Target). LeadsOntoStack mount t) (sym same) there
 
 pub received_leads : ReceivedLeads

@@ -7,7 +7,7 @@ use Rattle.name_context.specs.Names.{Kept}
 use Rattle.name_context.specs.Start.{file_object}
 use Rattle.client_objects.specs.declared.target.Target.{Target}
 use Rattle.client_objects.specs.Stored.{is_built, received, bound_object}
-use Rattle.client_objects.specs.Found.{node_of}
+use Rattle.client_objects.specs.Found.{node_of, IsChosen}
 
 -- where the calls go of an object that is bound for a file at a view: the object of a cluster has the file's number as its tag
 abbrev pub bound_target : ℕ → ℕ → ℕ → Target
@@ -22,11 +22,12 @@ BoundIsReceived = (mount : Mount) (sub node file : ℕ) → is_built sub ≡ tru
 abbrev pub StartsBound : Type 0
 StartsBound = (node file : ℕ) → file_object node file ≡ bound_object SINGLETON node file
 
--- what is received is of a subcontract that the program has, and leads to a view and a file of the stack
+-- what is received is of a subcontract that the program has, and leads to a view and a file of the stack, as the subcontract chooses it
 pub record LeadsOntoStack (mount : Mount) (target : Target) : Type 0 where
   pub built : is_built target.sub ≡ true
   pub view : is_view_in mount.nodes target.view ≡ true
   pub file : target.file < length mount.files
+  pub chosen : IsChosen target
 
 abbrev pub ReceivedLeads : Type 0
 ReceivedLeads = (mount : Mount) (kept : Option Kept) (target : Target) → received mount kept ≡ Some target → LeadsOntoStack mount target

@@ -1,13 +1,13 @@
 //! A client's open objects.
 
-ghost use Rattle.std.specs.Prelude.{◌≡◌, ◌<◌, ℕ, List, [], Some, IsSome, IfOk, IfErr, OnOk, OnErr, length};
+ghost use Rattle.std.specs.Prelude.{◌≡◌, ◌<◌, ℕ, List, [], Some, IsSome, IfSome, IfOk, IfErr, OnOk, OnErr, length};
 ghost use Rattle.std.specs.List.{AllByRecursion};
 ghost use Rattle.std.specs.Option.{option_map};
 ghost use Rattle.client_objects.specs.declared.target.Target.{Target};
 ghost use Rattle.name_context.specs.Names.{kept_object};
 ghost use Rattle.client_objects.specs.Objects.{OpenObject, IsOnStack, object_of, with_object, without};
 ghost use Rattle.client_objects.specs.Stored.{received};
-ghost use Rattle.client_objects.specs.Found.{found_on};
+ghost use Rattle.client_objects.specs.Found.{found_on, IsChosen};
 ghost use Rattle.client_objects.specs.Received.{RefusesReceived};
 
 use crate::entry::{Entry, copy_of, found_of, give_up, place_of};
@@ -53,11 +53,13 @@ impl Objects {
     }
 
     /// Where the object of a name leads, and to which node its calls go from a machine of the stack, as its subcontract
-    /// says. None if there is no object of the name. It takes no memory.
+    /// says; the file that it leads to is the one that the subcontract chooses. None if there is no object of the name. It takes
+    /// no memory.
     pub fn find(&self, mount: &Mounted, machine: u32, name: &Text) -> Option<Found>
         requires machine { machine < length mount.now.machines }
         requires leads { AllByRecursion (IsOnStack mount.now) self.now }
-        ensures { result ≡ option_map (found_on mount.now machine) (object_of name.now self.now) }
+        ensures is { result ≡ option_map (found_on mount.now machine) (object_of name.now self.now) }
+        ensures chosen { IfSome result (λ found. IsChosen found.target) }
     {
         let place = place_of(&self.entries, name)?;
         let object = &self.entries[place].object;
@@ -92,9 +94,10 @@ impl Objects {
         Ok(Found { target, node })
     }
 
-    /// Sets the life of the last object.
+    /// Sets the life of the last object. If there is no object, nothing changes.
     pub fn set_life(&mut self, life: u32)
-        ensures { (objects : List OpenObject) (name : List ℕ) (target : Target) → self.old ≡ with_object objects name target → self.new ≡ with_object objects name (record target { life = life }) }
+        ensures last { (objects : List OpenObject) (name : List ℕ) (target : Target) → self.old ≡ with_object objects name target → self.new ≡ with_object objects name (record target { life = life }) }
+        ensures none { self.old ≡ [] → self.new ≡ [] }
     {
         let Some(last) = self.entries.last_mut() else {
             return;
@@ -102,9 +105,10 @@ impl Objects {
         last.object.life = life;
     }
 
-    /// Gives the last object up: its door leaves the domain.
+    /// Gives the last object up: its door leaves the domain. If there is no object, nothing changes.
     pub fn give_up_last(&mut self)
-        ensures { (objects : List OpenObject) (name : List ℕ) (target : Target) → self.old ≡ with_object objects name target → self.new ≡ objects }
+        ensures last { (objects : List OpenObject) (name : List ℕ) (target : Target) → self.old ≡ with_object objects name target → self.new ≡ objects }
+        ensures none { self.old ≡ [] → self.new ≡ [] }
     {
         if let Some(Entry { name: _, object }) = self.entries.pop() {
             give_up(object, &mut self.domain);

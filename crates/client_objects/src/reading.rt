@@ -66,8 +66,8 @@ fn leads(mount: &Mounted, sub: u16, fields: Fields) -> bool
         && (file_of(sub, fields) as usize) < files
 }
 
-/// The file of an object of these fields.
-fn file_of(sub: u16, fields: Fields) -> u32
+/// The file of an object of these fields: a cluster's is that of the tag, and another's is that of the door.
+pub fn file_of(sub: u16, fields: Fields) -> u32
     ensures { result ≡ file_of sub fields }
 {
     if sub == CLUSTER {

@@ -1,5 +1,9 @@
 //! Where the calls of an open object go.
 
+ghost use Rattle.std.specs.Prelude.{◌≡◌};
+
+use marshal_buf::Door;
+
 /// Where an open object leads, and of which life it is.
 #[derive(Clone, Copy, Debug, PartialEq, Eq)]
 pub struct Target {
@@ -13,6 +17,20 @@ pub struct Target {
     pub file: u32,
     /// The life that the node had when the object was opened.
     pub life: u32,
+}
+
+impl Target {
+    ghost use Rattle.client_objects.specs.Found.{door_to};
+
+    /// The door by which its calls go: to the view and the file.
+    pub fn door(&self) -> Door
+        ensures { result ≡ door_to self.now }
+    {
+        Door {
+            node: self.view,
+            file: self.file,
+        }
+    }
 }
 
 /// Where an open object leads, and to which node its calls go from a machine.
