@@ -58,11 +58,11 @@ one_less caller node life op t u event s =
     let kind : IsPageMessage s.asked = plan_kind (tree_in t.engine) (file_in t.engine).pages (state_in t.engine) node s.page s.want s.asked s.steps.plan in
     let goes : events_in u.engine ≡ events_in t.engine ++ event ∷ [] = ap trail_of s.sends.enters.log ∙ trail_of-entered (log_in t.engine) _ in
     let moved : state_of (tree_in t.engine) (events_in t.engine ++ event ∷ []) ≡ state_after (tree_in t.engine) (state_in t.engine) s.asked
-        = state_of-snoc (tree_in t.engine) (events_in t.engine) event ∙ stands_state (tree_in t.engine) (state_in t.engine) t.engine u.engine s.asked event kind s.sends.stands in
+    = state_of-snoc (tree_in t.engine) (events_in t.engine) event ∙ stands_state (tree_in t.engine) (state_in t.engine) t.engine u.engine s.asked event kind s.sends.stands in
     let here : left_of (tree_in t.engine) (file_in t.engine) (events_in t.engine ++ event ∷ []) node s.page s.want + 1 ≡ left_in t.engine node s.page s.want
-        = subst (λ (st : State). cost_of (tree_in t.engine) (file_in t.engine).pages st node s.page s.want + 1 ≡ left_in t.engine node s.page s.want) (sym moved) s.steps.cheaper in
+    = subst (λ (st : State). cost_of (tree_in t.engine) (file_in t.engine).pages st node s.page s.want + 1 ≡ left_in t.engine node s.page s.want) (sym moved) s.steps.cheaper in
     at_same (λ tree file. left_of tree file (events_in u.engine) node s.page s.want + 1 ≡ left_in t.engine node s.page s.want) t.engine.tables u.engine.tables s.sends.enters.goes.file
-        (subst (λ (trail : List Event). left_of (tree_in t.engine) (file_in t.engine) trail node s.page s.want + 1 ≡ left_in t.engine node s.page s.want) (sym goes) here)
+    (subst (λ (trail : List Event). left_of (tree_in t.engine) (file_in t.engine) trail node s.page s.want + 1 ≡ left_in t.engine node s.page s.want) (sym goes) here)
 
 some_is : {A : Type 0} (x y : A) (o : Option A) → o ≡ Some x → o ≡ Some y → x ≡ y
 some_is x y o a b = let both : Some x ≡ Some y = sym a ∙ b in cc
@@ -73,8 +73,8 @@ driven caller node life op page want at wants n t v (drives_one {n = m} {u = u} 
     let page_is : s.page ≡ page = some_is s.page page (page_of_op op) s.wants.page_is at in
     let want_is : s.want ≡ want = some_is s.want want (wanted op) s.wants.want_is wants in
     let less : left_in u.engine node page want + 1 ≡ left_in t.engine node page want
-        = subst (λ (w : Right). left_in u.engine node page w + 1 ≡ left_in t.engine node page w) want_is
-            (subst (λ (p : ℕ). left_in u.engine node p s.want + 1 ≡ left_in t.engine node p s.want) page_is (one_less caller node life op t u event s)) in
+    = subst (λ (w : Right). left_in u.engine node page w + 1 ≡ left_in t.engine node page w) want_is
+    (subst (λ (p : ℕ). left_in u.engine node p s.want + 1 ≡ left_in t.engine node p s.want) page_is (one_less caller node life op t u event s)) in
     let rest : m ≤ left_in u.engine node page want = driven caller node life op page want at wants m u v more in
     omega (arith, less, rest)
 
@@ -83,6 +83,6 @@ pub tries_end : (caller node life n : ℕ) (op : Op) (before after : TowerSeen) 
 tries_end caller node life n op before after sound upper drives_none = omega arith
 tries_end caller node life n op before after sound upper (drives_one s more) =
     let few : left_in before.engine node s.page s.want ≤ nodes (tree_in before.engine)
-        = cost_of-le (tree_in before.engine) (file_in before.engine).pages (state_in before.engine) node s.page s.want sound.true_to.tree upper (ground_in before.engine sound s.page) in
+    = cost_of-le (tree_in before.engine) (file_in before.engine).pages (state_in before.engine) node s.page s.want sound.true_to.tree upper (ground_in before.engine sound s.page) in
     let many = driven caller node life op s.page s.want s.wants.page_is s.wants.want_is n before after (drives_one s more) in
     omega (arith, few, many)

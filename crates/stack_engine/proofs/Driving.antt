@@ -96,7 +96,7 @@ opened_of tree file ground e over opens opening told is long pages = record {
 pub shows_start : (shape : TreeShape) (size pages : ℕ) (sides : ℕ → ℕ → Side) → IsTree shape → AreBare sides → ShowsWhatItRead shape size pages [] sides
 shows_start shape size pages sides tree bare opening sized finds = (
   began_shown shape size pages opening [] sides (Some (pages_by (page_in size opening) pages))
-  (bytes_start shape size pages opening sides (pages_by (page_in size opening) pages) tree bare sized (record { many = pages_many (page_in size opening) pages; each = λ page inside. pages_each (page_in size opening) pages page inside })),
+      (bytes_start shape size pages opening sides (pages_by (page_in size opening) pages) tree bare sized (record { many = pages_many (page_in size opening) pages; each = λ page inside. pages_each (page_in size opening) pages page inside })),
   λ place entry none. absurd cc,
 )
 

@@ -211,14 +211,13 @@ shows_left : (shape : TreeShape) (size pages : ℕ) (log log' : List Logged) (ol
     → ShowsWhatItRead shape size pages log old → ShowsWhatItRead shape size pages log' new
 shows_left shape size pages log log' old new trail entries same shows opening sized finds =
     let was = shows opening sized (λ place page entry is read.
-        finds place page entry (ap (λ (es : List Entry). slice_get es place) entries ∙ is) (subst (λ (es : List Event). IsRead shape (take place es) page entry.event) (sym trail) read)
-        ∙ ap (λ (es : List Event). ground_shown shape size opening (take place es) page) trail) in
-    (
+    finds place page entry (ap (λ (es : List Entry). slice_get es place) entries ∙ is) (subst (λ (es : List Event). IsRead shape (take place es) page entry.event) (sym trail) read)
+    ∙ ap (λ (es : List Event). ground_shown shape size opening (take place es) page) trail) in (
       subst (λ (es : List Event). Shows shape size pages opening es new) (sym trail)
-      (began_shown shape size pages opening (trail_of log) new (told_shown shape size pages opening (trail_of log))
-      (bytes_same shape size pages opening (trail_of log) old new (told_shown shape size pages opening (trail_of log)) (shown_began shape size pages opening (trail_of log) old was.0) same)),
+          (began_shown shape size pages opening (trail_of log) new (told_shown shape size pages opening (trail_of log))
+          (bytes_same shape size pages opening (trail_of log) old new (told_shown shape size pages opening (trail_of log)) (shown_began shape size pages opening (trail_of log) old was.0) same)),
       λ place other is. ap (λ (es : List Event). reply (plain_shape shape size) (file_after shape size opening (take place es)) other.event) trail
-      ∙ was.1 place other (sym (ap (λ (es : List Entry). slice_get es place) entries) ∙ is),
+          ∙ was.1 place other (sym (ap (λ (es : List Entry). slice_get es place) entries) ∙ is),
     )
 
 module _ (old new : EngineSeen) (entry : Entry) (sound : IsSound old) (file : IsSameFile old.tables new.tables) (log : log_in new ≡ log_in old ++ Entered entry ∷ [])

@@ -89,11 +89,10 @@ module _ (old new : EngineSeen) (entry : Entry) (caller page : ℕ) (step : Step
   -- over each file, as of a ground that told it
   made_shows : ShowsWhatItRead (tree_in old) (file_in old).page_size (file_in old).pages (log_in old ++ Entered entry ∷ []) (sides_in new)
   made_shows = shows_entered (tree_in old) (file_in old).page_size (file_in old).pages (log_in old) entry (sides_in old) (sides_in new) sound.shows (λ opening finds began.
-      let pages : Option (List (List ℕ)) = told_shown (tree_in old) (file_in old).page_size (file_in old).pages opening (events_in old) in
-      (
+      let pages : Option (List (List ℕ)) = told_shown (tree_in old) (file_in old).page_size (file_in old).pages opening (events_in old) in (
         began_shown (tree_in old) (file_in old).page_size (file_in old).pages opening (events_in old ++ entry.event ∷ []) (sides_in new) (pages_given page (given_up (tree_in old) step (sides_in old page)) pages)
-        (bytes_step (tree_in old) (file_in old).page_size (file_in old).pages opening (events_in old) entry.event page step brings (sides_in old) (sides_in new) pages (pages_given page (given_up (tree_in old) step (sides_in old page)) pages)
-        sound.true_to m.next m.on m.sent began (tells.filled opening) (λ base is. tells.comes opening pages began (base page)) refl),
+            (bytes_step (tree_in old) (file_in old).page_size (file_in old).pages opening (events_in old) entry.event page step brings (sides_in old) (sides_in new) pages (pages_given page (given_up (tree_in old) step (sides_in old page)) pages)
+            sound.true_to m.next m.on m.sent began (tells.filled opening) (λ base is. tells.comes opening pages began (base page)) refl),
         tells.told opening pages began,
       ))
 

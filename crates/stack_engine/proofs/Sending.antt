@@ -92,12 +92,11 @@ module _ (old new : EngineSeen) (event : Event) (bytes : List ℕ) (page : ℕ) 
   sent_shows filled found = shows_entered (tree_in old) (file_in old).page_size (file_in old).pages (log_in old) entry (sides_in old) (sides_in new) sound.shows (λ opening finds began.
       let told : Option (List (List ℕ)) = told_shown (tree_in old) (file_in old).page_size (file_in old).pages opening (events_in old) in
       let sent : IsSent (tree_in old) told page step (sides_in old) (sides_in new) =
-      sent_shown (tree_in old) old.ground.pages page (file_in old).pages step (sides_in old) (sides_in new) (ground_shown (tree_in old) (file_in old).page_size opening (events_in old)) m.sent (found opening finds) in
-      (
+      sent_shown (tree_in old) old.ground.pages page (file_in old).pages step (sides_in old) (sides_in new) (ground_shown (tree_in old) (file_in old).page_size opening (events_in old)) m.sent (found opening finds) in (
         began_shown (tree_in old) (file_in old).page_size (file_in old).pages opening (events_in old ++ event ∷ []) (sides_in new) (pages_given page (given_up (tree_in old) step (sides_in old page)) told)
-        (bytes_step (tree_in old) (file_in old).page_size (file_in old).pages opening (events_in old) event page step sent.brings (sides_in old) (sides_in new) told (pages_given page (given_up (tree_in old) step (sides_in old page)) told)
-        sound.true_to m.next m.on sent.sent began (filled opening told began sent)
-        (λ base tells. m.no_write sent.brings (base page) [] (page_next (tree_in old) (file_in old).page_size opening (events_in old) event page) (sent.brought base [] (λ read. (began.is_told, tells)))) refl),
+            (bytes_step (tree_in old) (file_in old).page_size (file_in old).pages opening (events_in old) event page step sent.brings (sides_in old) (sides_in new) told (pages_given page (given_up (tree_in old) step (sides_in old page)) told)
+            sound.true_to m.next m.on sent.sent began (filled opening told began sent)
+            (λ base tells. m.no_write sent.brings (base page) [] (page_next (tree_in old) (file_in old).page_size opening (events_in old) event page) (sent.brought base [] (λ read. (began.is_told, tells)))) refl),
         m.no_answer (tree_in old) (file_in old).page_size opening,
       ))
 
@@ -258,10 +257,13 @@ module _ (old new : EngineSeen) (sound : IsSound old) (node page : ℕ) (write z
 
   finds : (opening : List ℕ) → FindsPagesOf (tree_in old) (file_in old).page_size opening (log_in old ++ Entered (record { event = event_granted zeros node page write; answer = None; bytes = bytes }) ∷ [])
       → FindsShown (tree_in old) (file_in old).pages page (Grants node write) (sides_in old) (sides_in new) (ground_shown (tree_in old) (file_in old).page_size opening (events_in old))
-  finds opening all = (asked.fits page refl, (λ read.
-      sym (read_bytes read.0 read.1)
-      ∙ finds_last (tree_in old) (file_in old).page_size opening (log_in old) (record { event = event_granted zeros node page write; answer = None; bytes = bytes }) page all
-      (read_here (tree_in old) (events_in old) (event_granted zeros node page write) page (Grants node write) m.on (read.0, sym own_right ∙ read.1))))
+  finds opening all = (
+    asked.fits page refl,
+    (λ read.
+        sym (read_bytes read.0 read.1)
+        ∙ finds_last (tree_in old) (file_in old).page_size opening (log_in old) (record { event = event_granted zeros node page write; answer = None; bytes = bytes }) page all
+        (read_here (tree_in old) (events_in old) (event_granted zeros node page write) page (Grants node write) m.on (read.0, sym own_right ∙ read.1))),
+  )
 
   grant_shows : ShowsWhatItRead (tree_in old) (file_in old).page_size (file_in old).pages (log_in old ++ Entered (record { event = event_granted zeros node page write; answer = None; bytes = bytes }) ∷ []) (sides_in new)
   grant_shows = sent_shows old new (event_granted zeros node page write) bytes page (Grants node write) sound m (λ opening told began sent. filled opening told began sent zeros refl) finds
