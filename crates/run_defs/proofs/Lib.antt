@@ -1,4 +1,3 @@
 pub mod Logs
 pub mod Parts
 pub mod Views
-pub mod RefusedLaws

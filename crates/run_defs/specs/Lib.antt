@@ -2,4 +2,3 @@ pub mod Stack
 pub mod Log
 pub mod Plan
 pub mod Fits
-pub mod Refused
