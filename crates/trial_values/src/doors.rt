@@ -68,6 +68,10 @@ impl Doors {
                     Err(DoorErr::Memory) => say(answer, "memory"),
                 }
             }
+            ["id", word] => {
+                let id = id_of(&self.held, word);
+                writeln!(answer, "identifier {id}")
+            }
             ["look", word] => {
                 let id = id_of(&self.held, word);
                 match self.domain.look(id) {

@@ -18,7 +18,7 @@ returns-in_default-clause-done g c = λ objects name is.
     let state : ClientState = holding c.args.client.now.state objects in
     let target = c.args.found.target in
     let go_on : Told → Plan = λ told. ends (reply_of told) (holding state (with_object objects name (opened target told))) in
-    subst (λ (os : List OpenObject). PlanDone mount c.args.client.now.caller (plan_found mount state name (Some target)) c.args.pass.now c.args.pass.now replies.Memory (holding state os)) (sym (c.give_up_last.ensures objects name target is))
+    subst (λ (os : List OpenObject). PlanDone mount c.args.client.now.caller (plan_found mount state name (Some target)) c.args.pass.now c.args.pass.now replies.Memory (holding state os)) (sym (c.give_up_last.ensures.last objects name target is))
     (plan-lacks mount c.args.client.now.caller (plan_found mount state name (Some target)) (asking target.file (access (node_at mount state target) 0 ops.Open)) state go_on c.args.pass.now refl)
 
 pub returns-in-Ok-access_at-clause-done : goal.returns-in-Ok-access_at-clause-done
@@ -38,7 +38,7 @@ returns-in-Ok-access_at-clause-done g c = λ objects name is.
     (λ t answer bytes.
     let said : c.reply_to.result ≡ reply_of t = c.reply_to.ensures t answer (λ read. bytes read ∙ (no-bytes out c.access_at.auto.out ∙ sym c.new.ensures.items)) in
     let life : life_in t.answer ≡ c.life_in.result = ap life_in answer ∙ sym c.life_in.ensures in
-    let held = c.set_life.ensures objects name target is in
+    let held = c.set_life.ensures.last objects name target is in
     let left : holding state (with_object objects name (opened target t)) ≡ holding state c.set_life.new.self =
     ap (λ (n : ℕ). holding state (with_object objects name (record target { life = n }))) life ∙ ap (holding state) (sym held) in
     ap (λ (r : Reply). ends r (holding state (with_object objects name (opened target t)))) (sym said) ∙ ap (λ (s : ClientState). ends c.reply_to.result s) left)

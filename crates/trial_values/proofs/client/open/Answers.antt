@@ -8,6 +8,6 @@ use Rattle.trial_values.proofs.client.open.Goals as goal
 pub returns : goal.returns
 returns c =
     let got = c.in_ok-found.ensures in
-    let now = c.set_life.ensures c.args.objects.now c.in_ok-clone.field-0 c.in_ok-found.found.target got.opened in
+    let now = c.set_life.ensures.last c.args.objects.now c.in_ok-clone.field-0 c.in_ok-found.found.target got.opened in
     subst (λ (os : List OpenObject). AllByRecursion (IsOnStack c.args.mounted.now) os) (sym now)
     (on_stack-opened c.args.mounted.now c.args.objects.now (Some (kept_object c.args.stored.now)) c.in_ok-found.found.target c.in_ok-clone.field-0 7 c.requires.stack got.read)
