@@ -8,12 +8,12 @@ use Rattle.tower_log.specs.Log.{kept_in}
 use Rattle.stack_engine.specs.Answers.{KeepsPagesOf, KeepsWholePages}
 
 -- a file of these pages
-file_of : (ℕ → List ℕ) → ℕ → List ℕ
+abbrev file_of : (ℕ → List ℕ) → ℕ → List ℕ
 file_of page zero = []
 file_of page (suc pages) = file_of page pages ++ page pages
 
 file_long : (size : ℕ) (page : ℕ → List ℕ) (pages : ℕ) → ((k : ℕ) → length (page k) ≡ size) → length (file_of page pages) ≡ pages * size
-file_long size page zero whole = refl
+file_long size page zero whole = omega arith
 file_long size page (suc pages) whole = omega (arith, length-append (file_of page pages) (page pages), file_long size page pages whole, whole pages)
 
 drop-all : (xs ys : List ℕ) → drop (length xs) (xs ++ ys) ≡ ys
@@ -22,7 +22,7 @@ drop-all (x ∷ xs) ys = drop-all xs ys
 
 file_page : (size : ℕ) (page : ℕ → List ℕ) (pages k : ℕ) → ((k : ℕ) → length (page k) ≡ size) → k < pages → page_in size (file_of page pages) k ≡ page k
 file_page size page zero k whole inside = absurd (omega arith)
-file_page size page (suc pages) k whole inside = by (last_or k pages (omega arith))
+file_page size page (suc pages) k whole inside = by (last_or k pages (omega arith)) (λ lt. file_page size page pages k whole lt)
   where
     last_or : (a b : ℕ) → a ≤ b → (a < b) ⊎ (a ≡ b)
     last_or a b le = grind arith
@@ -30,14 +30,14 @@ file_page size page (suc pages) k whole inside = by (last_or k pages (omega arit
     long : length (file_of page pages) ≡ pages * size
     long = file_long size page pages whole
 
-    by : (k < pages) ⊎ (k ≡ pages) → page_in size (file_of page (suc pages)) k ≡ page k
-    by (inl lt) =
+    by : (k < pages) ⊎ (k ≡ pages) → (k < pages → page_in size (file_of page pages) k ≡ page k) → page_in size (file_of page (suc pages)) k ≡ page k
+    by (inl lt) below_here =
         let fits : k * size + size ≤ pages * size = below size k pages lt in
         let left : size ≤ length (drop (k * size + 0) (file_of page pages)) = omega (arith, length-drop (k * size + 0) (file_of page pages), long, fits) in
         ap (take size) (drop-append-le (k * size + 0) (file_of page pages) (page pages) (omega (arith, long, fits)))
         ∙ take-append-le size (drop (k * size + 0) (file_of page pages)) (page pages) left
-        ∙ file_page size page pages k whole lt
-    by (inr is) =
+        ∙ below_here lt
+    by (inr is) below_here =
         let at : k * size + 0 ≡ length (file_of page pages) = (let same : k * size ≡ pages * size = ap (λ (n : ℕ). n * size) is in omega (arith, same, long)) in
         let own : length (page pages) ≡ size = whole pages in
         ap (λ (n : ℕ). take size (drop n (file_of page pages ++ page pages))) at
@@ -46,7 +46,7 @@ file_page size page (suc pages) k whole inside = by (last_or k pages (omega arit
         ∙ ap page (sym is)
 
 -- what is kept, or zeros
-or_zeros : ℕ → Option (List ℕ) → List ℕ
+abbrev or_zeros : ℕ → Option (List ℕ) → List ℕ
 or_zeros size (Some bytes) = bytes
 or_zeros size None = replicate size 0
 
