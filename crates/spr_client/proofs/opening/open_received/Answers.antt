@@ -55,5 +55,5 @@ returns-clause-done g c = λ objects name is.
     let there = subst (λ (op : Op). CallDone caller (asking target.file (access c.args.found.node 0 op)) c.args.pass.now c.access_at.new.pass out c.access_at.result) c.in-Ok.ensures c.access_at.ensures in
     let called = subst (λ n. CallDone caller (asking target.file (access n 0 ops.Open)) c.args.pass.now c.access_at.new.pass out c.access_at.result) c.requires.node there in
     let done = subst (λ r. CallDone caller ask c.args.pass.now c.access_at.new.pass out r) c.in-Err.is called in
-    subst (λ (os : List OpenObject). PlanDone mount caller (plan_found mount state name (Some target)) c.args.pass.now c.access_at.new.pass c.refused.result (holding state os)) (sym (c.give_up_last-in-Err.ensures objects name target is))
+    subst (λ (os : List OpenObject). PlanDone mount caller (plan_found mount state name (Some target)) c.args.pass.now c.access_at.new.pass c.refused.result (holding state os)) (sym (c.give_up_last-in-Err.ensures.last objects name target is))
     (plan-refused mount c.args.common.now.volume.now caller (plan_found mount state name (Some target)) ask state go_on c.args.pass.now c.access_at.new.pass out c.in-Err.err c.refused.result c.requires.may refl done c.refused.ensures)
