@@ -86,7 +86,7 @@ module _ (m : Mount) (sound : IsMount m) where
 
   first-alone : (number : ℕ) → IsUpper (tree_of m.nodes) number → parent (tree_of m.nodes) number ≡ 0 → number ≡ 1
   first-alone number upper on_ground =
-      let inside : number < length m.nodes = subst (λ (k : ℕ). number < k) (length-map (λ (node : NodeEntry). via m.nodes node.below node.machine) m.nodes) upper.inside in
+      let inside : number < length m.nodes = subst (λ (k : ℕ). number < k) (length-map m.nodes (λ (node : NodeEntry). via m.nodes node.below node.machine)) upper.inside in
       let n = node-there m.nodes number inside in
       let to_ground : via m.nodes n.0.below n.0.machine ≡ 0 = sym (mapped-at (λ (node : NodeEntry). via m.nodes node.below node.machine) m.nodes number n.0 n.1) ∙ on_ground in
       elim (eqb_tells n.0.below 0) [
