@@ -6,12 +6,11 @@ use Rattle.std.specs.Str.{bytes_eq}
 use Rattle.std.specs.Cmp.Lexicographic.{pointwise}
 use Rattle.std.proofs.lemmas.List.{length-map}
 use Rattle.std.proofs.lemmas.Slice.Eq.{bytes_eq-Decides}
-use Rattle.stack_accept.specs.declared.entries.Kind.{Kind}
-use Rattle.stack_accept.specs.declared.entries.Kind.TheVariants as kinds
 use Rattle.stack_accept.specs.declared.entries.FileEntry.{FileEntry}
 use Rattle.stack_accept.specs.declared.entries.NodeEntry.{NodeEntry}
 use Rattle.stack_accept.specs.Mount.{Mount, is_view, is_view_in}
 use Rattle.stack_accept.specs.Sound.{IsMount, IsStorageKind}
+use Rattle.stack_accept.proofs.KindLaws.{storage_no_view}
 use Rattle.name_context.specs.Names.{Kept, context, Name, kept_at}
 use Rattle.name_context.specs.Start.{file_object, object_names, view_names, start_names}
 use Rattle.client_objects.specs.Views.{views_from, file_names, names_at_start}
@@ -27,17 +26,10 @@ view-inside [] number view = absurd cc
 view-inside (node ∷ nodes) zero view = omega arith
 view-inside (node ∷ nodes) (suc number) view = let inside = view-inside nodes number view in omega arith
 
-storage-no-view : (kind : Kind) → IsStorageKind kind → is_view kind ≡ true → ⊥
-storage-no-view kinds.Disk storage view = cc
-storage-no-view kinds.Mirror storage view = cc
-storage-no-view kinds.Coherency storage view = storage
-storage-no-view kinds.Dfs storage view = storage
-storage-no-view kinds.Vmm storage view = storage
-
 -- the ground has no view
 view-layer : (nodes : List NodeEntry) (number : ℕ) → ((d : NodeEntry) → IsStorageKind (slice_index_or nodes 0 d).kind) → is_view_in nodes number ≡ true → 0 < number
 view-layer [] number storage view = absurd cc
-view-layer (node ∷ nodes) zero storage view = absurd (storage-no-view node.kind (storage node) view)
+view-layer (node ∷ nodes) zero storage view = absurd (storage_no_view node.kind (storage node) view)
 view-layer (node ∷ nodes) (suc number) storage view = omega arith
 
 objects-stand : (mount : Mount) (view : List ℕ) (node number : ℕ) (files : List (List ℕ)) → is_view_in mount.nodes node ≡ true → 0 < node → number + length files ≤ length mount.files

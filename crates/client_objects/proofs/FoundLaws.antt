@@ -13,54 +13,33 @@ use Rattle.stack_accept.specs.declared.entries.Kind.TheVariants as kinds
 use Rattle.stack_accept.specs.declared.entries.NodeEntry.{NodeEntry}
 use Rattle.stack_accept.specs.Mount.{Mount, is_view, is_view_in}
 use Rattle.stack_accept.specs.Sound.{IsStorageKind, IsGroundNode, IsMount}
+use Rattle.stack_accept.proofs.KindLaws.{storage_unseen}
 use Rattle.memory_object.specs.declared.binding.CacheRights.{CacheRights}
 use Rattle.memory_object.specs.Managers.{rights_of, IsFirstManager}
 use Rattle.sub_core.specs.declared.values.Object.{Object}
 use Rattle.sub_core.specs.declared.values.Route.{Route}
-use Rattle.sub_core.specs.Calls.{door_of}
-use Rattle.sub_basic.specs.declared.TheConstants.{CLUSTER}
-use Rattle.sub_basic.specs.Routes.{singleton_route, cluster_route}
-use Rattle.sub_caching.specs.declared.TheConstants.{CACHING}
+use Rattle.sub_core.specs.Calls.{door_of, route_of}
 use Rattle.sub_caching.specs.Routes.{local_or, caching_route}
 use Rattle.sub_caching.specs.Laws.{GoesLocal}
 use Rattle.sub_caching.proofs.RouteLaws.{calls_go_local}
+use Rattle.client_objects.specs.declared.kind.ObjectKind.{ObjectKind}
+use Rattle.client_objects.specs.declared.kind.ObjectKind.TheVariants.{Singleton, Cluster, Caching, Reconnectable}
 use Rattle.client_objects.specs.declared.target.Target.{Target}
 use Rattle.client_objects.specs.declared.target.Found.{Found}
-use Rattle.client_objects.specs.Stored.{is_built, file_of}
-use Rattle.client_objects.specs.Held.{no_door, target_at, target_in, routed}
-use Rattle.client_objects.specs.Found.{found_on}
+use Rattle.client_objects.specs.Kinds.{file_of}
+use Rattle.client_objects.specs.Held.{no_door, target_at, target_in, route_by}
+use Rattle.client_objects.specs.Found.{door_to, node_by, found_on}
 use Rattle.client_objects.specs.Laws.{IsAboveGround, FoundLeads}
-use Rattle.client_objects.proofs.ReceivedLaws.{built_is}
-
--- what a subcontract's route gives for a door and a tag
-abbrev route_by : ℕ → Mount → ℕ → Door → ℕ → Route
-route_by sub mount machine door tag =
-    cond (eqb sub CLUSTER) (cluster_route mount machine door tag) (cond (eqb sub CACHING) (caching_route mount machine door tag) (singleton_route mount machine door tag))
-
-one_of : {X : Type 0} (b c : Bool) (x y z : X) → cond b (Some x) (cond c (Some y) (Some z)) ≡ Some (cond b x (cond c y z))
-one_of true c x y z = refl
-one_of false true x y z = refl
-one_of false false x y z = refl
 
 some_same : {X : Type 0} (x y : X) → Some x ≡ Some y → x ≡ y
 some_same x y is = cc
 
-routed_by : (sub : ℕ) (mount : Mount) (machine : ℕ) (domain : Doors) (object : Object) (door : Door) (route : Route) → door_of domain object ≡ Some door → routed sub mount machine domain object ≡ Some route → route_by sub mount machine door object.tag ≡ route
-routed_by sub mount machine domain object door route held is =
-    let by : (Mount → ℕ → Door → ℕ → Route) → Option Door → Option Route = λ way found. option_map (λ d. way mount machine d object.tag) found in
-    let all : Option Door → Option Route = λ found. cond (eqb sub CLUSTER) (by cluster_route found) (cond (eqb sub CACHING) (by caching_route found) (by singleton_route found)) in
-    some_same (route_by sub mount machine door object.tag) route (
-    sym (one_of (eqb sub CLUSTER) (eqb sub CACHING) (cluster_route mount machine door object.tag) (caching_route mount machine door object.tag) (singleton_route mount machine door object.tag))
-    ∙ sym (ap all held)
-    ∙ is
-    )
-
-abbrev target_with : ℕ → ℕ → ℕ → Door → Target
-target_with sub tag life door = record { sub = sub; tag = tag; view = door.node; file = file_of sub (record { door = door; tag = tag }); life = life }
-
 -- what is found by a route
-abbrev found_by : ℕ → ℕ → ℕ → Door → Route → Found
-found_by sub tag life door route = record { target = record { sub = sub; tag = tag; view = door.node; file = route.file; life = life }; node = route.node }
+abbrev found_by : ObjectKind → ℕ → ℕ → Door → Route → Found
+found_by kind tag life door route = record { target = record { kind = kind; tag = tag; view = door.node; file = route.file; life = life }; node = route.node }
+
+abbrev target_with : ObjectKind → ℕ → ℕ → Door → Target
+target_with kind tag life door = record { kind = kind; tag = tag; view = door.node; file = file_of kind door tag; life = life }
 
 local_file : (door : Door) (rights : Option CacheRights) → (local_or door rights).file ≡ door.file
 local_file door (Some rights) = refl
@@ -70,45 +49,28 @@ local_node : (door : Door) (rights : Option CacheRights) → (local_or door righ
 local_node door (Some rights) = refl
 local_node door None = refl
 
-by_caching : (mount : Mount) (machine tag life : ℕ) (door : Door) → found_by CACHING tag life door (caching_route mount machine door tag) ≡ found_on mount machine (target_with CACHING tag life door)
-by_caching mount machine tag life door =
+by_route : (kind : ObjectKind) (mount : Mount) (machine tag life : ℕ) (door : Door) → found_by kind tag life door (route_by kind mount machine door tag) ≡ found_on mount machine (target_with kind tag life door)
+by_route Singleton mount machine tag life door = refl
+by_route Cluster mount machine tag life door = refl
+by_route Reconnectable mount machine tag life door = refl
+by_route Caching mount machine tag life door =
     let rights : Option CacheRights = rights_of mount (record { view = door.node; file = door.file }) machine in
-    let there : ℕ → ℕ → Found = λ node file. record { target = record { sub = CACHING; tag = tag; view = door.node; file = file; life = life }; node = node } in
+    let there : ℕ → ℕ → Found = λ node file. record { target = record { kind = Caching; tag = tag; view = door.node; file = file; life = life }; node = node } in
     ap (λ (n : ℕ). there n (local_or door rights).file) (local_node door rights)
     ∙ ap (λ (f : ℕ). there (local_or (record { node = door.node; file = door.file }) rights).node f) (local_file door rights)
 
-by_route : (sub : ℕ) (mount : Mount) (machine tag life : ℕ) (door : Door) → is_built sub ≡ true → found_by sub tag life door (route_by sub mount machine door tag) ≡ found_on mount machine (target_with sub tag life door)
-by_route sub mount machine tag life door built =
-    let IsFound : ℕ → Type 0 = λ n. found_by n tag life door (route_by n mount machine door tag) ≡ found_on mount machine (target_with n tag life door) in
-    elim (built_is sub built) [
-      | inl one ↦ subst IsFound (sym one) refl
-      | inr more ↦ elim more [
-        | inl two ↦ subst IsFound (sym two) refl
-        | inr three ↦ subst IsFound (sym three) (by_caching mount machine tag life door)
-      ]
-    ]
-
 -- what the subcontract's route gives is what is found on the machine
-pub found-routed : (mount : Mount) (machine : ℕ) (domain : Doors) (object : Object) (door : Door) (route : Route) → is_built object.sub ≡ true → door_of domain object ≡ Some door → routed object.sub mount machine domain object ≡ Some route
-    → record { target = record { sub = object.sub; tag = object.tag; view = door.node; file = route.file; life = object.life }; node = route.node } ≡ found_on mount machine (target_in domain object)
-found-routed mount machine domain object door route built held is =
-    ap (found_by object.sub object.tag object.life door) (sym (routed_by object.sub mount machine domain object door route held is))
-    ∙ by_route object.sub mount machine object.tag object.life door built
-    ∙ ap (λ (found : Option Door). found_on mount machine (target_at object (unwrap_or found no_door))) (sym held)
-
-storage_unseen : (kind : Kind) → IsStorageKind kind → is_view kind ≡ false
-storage_unseen kinds.Disk h = refl
-storage_unseen kinds.Mirror h = refl
-storage_unseen kinds.Coherency h = absurd h
-storage_unseen kinds.Dfs h = absurd h
-storage_unseen kinds.Vmm h = absurd h
+pub found-routed : (mount : Mount) (machine : ℕ) (domain : Doors) (kind : ObjectKind) (object : Object) (door : Door) (route : Route) → door_of domain object ≡ Some door → route_of (route_by kind) mount machine domain object ≡ Some route
+    → record { target = record { kind = kind; tag = object.tag; view = door.node; file = route.file; life = object.life }; node = route.node } ≡ found_on mount machine (target_in domain kind object)
+found-routed mount machine domain kind object door route held is =
+    let by : Option Door → Option Route = λ found. option_map (λ d. route_by kind mount machine d object.tag) found in
+    let same : route_by kind mount machine door object.tag ≡ route = some_same (route_by kind mount machine door object.tag) route (sym (ap by held) ∙ is) in
+    ap (found_by kind object.tag object.life door) (sym same)
+    ∙ by_route kind mount machine object.tag object.life door
+    ∙ ap (λ (found : Option Door). found_on mount machine (target_at kind object (unwrap_or found no_door))) (sym held)
 
 storage_manages_none : (kind : Kind) → IsStorageKind kind → kind ≡ kinds.Vmm → ⊥
-storage_manages_none kinds.Disk h is = cc
-storage_manages_none kinds.Mirror h is = cc
-storage_manages_none kinds.Coherency h is = absurd h
-storage_manages_none kinds.Dfs h is = absurd h
-storage_manages_none kinds.Vmm h is = absurd h
+storage_manages_none kind h is = subst IsStorageKind is h
 
 -- a view is one of the nodes
 view_inside : (nodes : List NodeEntry) (node : ℕ) → is_view_in nodes node ≡ true → node < length nodes
@@ -153,12 +115,12 @@ local_leads mount machine door route sound view goes =
       | inr none ↦ subst (λ (n : ℕ). IsAboveGround mount n) (sym none.1) (view_leads mount door.node sound view)
     ]
 
-one_leads : (mount : Mount) (b : Bool) (local view : ℕ) → IsAboveGround mount local → IsAboveGround mount view → IsAboveGround mount (cond b local view)
-one_leads mount true local view here there = here
-one_leads mount false local view here there = there
+node_leads : (kind : ObjectKind) (mount : Mount) (machine : ℕ) (door : Door) (tag : ℕ) → IsMount mount → is_view_in mount.nodes door.node ≡ true → IsAboveGround mount (node_by kind mount machine door tag)
+node_leads Singleton mount machine door tag sound view = view_leads mount door.node sound view
+node_leads Cluster mount machine door tag sound view = view_leads mount door.node sound view
+node_leads Caching mount machine door tag sound view =
+    local_leads mount machine door (caching_route mount machine door tag) sound view (calls_go_local mount machine door tag sound)
+node_leads Reconnectable mount machine door tag sound view = view_leads mount door.node sound view
 
 pub found_leads : FoundLeads
-found_leads mount machine target sound view =
-    let door : Door = record { node = target.view; file = target.file } in
-    let route : Route = caching_route mount machine door target.tag in
-    one_leads mount (eqb target.sub CACHING) route.node target.view (local_leads mount machine door route sound view (calls_go_local mount machine door target.tag sound)) (view_leads mount target.view sound view)
+found_leads mount machine target sound view = node_leads target.kind mount machine (door_to target) target.tag sound view

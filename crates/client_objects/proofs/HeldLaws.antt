@@ -10,19 +10,22 @@ use Rattle.marshal_buf.specs.declared.door.Door.{Door}
 use Rattle.marshal_buf.specs.Reading.{Reading}
 use Rattle.stack_accept.specs.Mount.{Mount, is_view_in}
 use Rattle.domain_doors.specs.Doors.{Doors, door_at, Updates}
-use Rattle.sub_core.specs.declared.values.Fields.{Fields}
+use Rattle.sub_core.specs.Fields.{Fields}
 use Rattle.sub_core.specs.declared.values.Object.{Object}
 use Rattle.sub_core.specs.Forms.{IsOf}
 use Rattle.sub_core.specs.Calls.{door_of, CopiesObject, LeadsToView}
 use Rattle.sub_core.specs.Received.{UnmarshalsAny}
 use Rattle.client_objects.specs.declared.target.Target.{Target}
 use Rattle.client_objects.specs.declared.entry.Entry.{Entry}
-use Rattle.client_objects.specs.Stored.{is_built, form_of, file_of, target_of}
+use Rattle.client_objects.specs.declared.kind.ObjectKind.{ObjectKind}
+use Rattle.client_objects.specs.Kinds.{is_built, form_at, id_of, form_of, file_of}
+use Rattle.client_objects.specs.Stored.{target_of}
+use Rattle.client_objects.proofs.KindLaws.{form_at-id}
 use Rattle.client_objects.specs.Objects.{OpenObject, IsOnStack, object_of, with_object, without}
 use Rattle.client_objects.specs.Held.{no_door, target_at, target_in, seen_entry, seen, IsHeld, IsOther, AreApart, AreHeld}
 
 abbrev HeldBy : Doors → Entry → Type 0
-HeldBy domain entry = IsHeld domain entry.object
+HeldBy domain entry = IsHeld domain entry.kind entry.object
 
 all_append : {X : Type 0} (P : X → Type 0) (xs : List X) (y : X) → AllByRecursion P xs → P y → AllByRecursion P (xs ++ y ∷ [])
 all_append P [] y all last = (last, tt)
@@ -50,7 +53,7 @@ all_at P (y ∷ ys) (suc i) x all lt is = all_at P ys i x all.1 (omega arith) is
 -- an entry whose door has another identifier stays
 entry_stays : (old new : Doors) (id : ℕ) (what : Option Door) (entry : Entry) → Updates old new id what → IsOther id entry → seen_entry new entry ≡ seen_entry old entry
 entry_stays old new id what entry updates other =
-    ap (λ (held : Option Door). let seen : OpenObject = record { name = entry.name; target = target_at entry.object (unwrap_or held no_door) } in seen) (updates.others entry.object.door other)
+    ap (λ (held : Option Door). let seen : OpenObject = record { name = entry.name; target = target_at entry.kind entry.object (unwrap_or held no_door) } in seen) (updates.others entry.object.door other)
 
 seen_stays : (old new : Doors) (id : ℕ) (what : Option Door) (entries : List Entry) → Updates old new id what → AllByRecursion (IsOther id) entries → seen new entries ≡ seen old entries
 seen_stays old new id what [] updates others = refl
@@ -63,7 +66,7 @@ held_stays old new id what [] updates others held = tt
 held_stays old new id what (entry ∷ entries) updates others held = (
   record {
     door = ap (λ (door : Option Door). is_some door) (updates.others entry.object.door others.0) ∙ held.0.door;
-    built = held.0.built;
+    sub = held.0.sub;
     of = held.0.of;
   },
   held_stays old new id what entries updates others.1 held.1,
@@ -92,25 +95,25 @@ only_push old new entries entry what held updates id others =
 
 -- the domain took a door in for one more entry
 pub are_held-push : (old new : Doors) (entries : List Entry) (entry : Entry) (what : Option Door) → AreHeld old entries → door_at old entry.object.door ≡ None → Updates old new entry.object.door what → IsSome what
-    → is_built entry.object.sub ≡ true → IsOf (form_of entry.object.sub) entry.object → AreHeld new (entries ++ entry ∷ [])
-are_held-push old new entries entry what held vacant updates some built of =
+    → entry.object.sub ≡ id_of entry.kind → IsOf (form_of entry.kind) entry.object → AreHeld new (entries ++ entry ∷ [])
+are_held-push old new entries entry what held vacant updates some sub of =
     let others = others_of_vacant old entry.object.door entries vacant held.held in
     let stay = held_stays old new entry.object.door what entries updates others held.held in
     record {
       held =
           all_append (HeldBy new) entries entry stay
-          (record { door = ap (λ (door : Option Door). is_some door) updates.changed ∙ some; built = built; of = of });
+          (record { door = ap (λ (door : Option Door). is_some door) updates.changed ∙ some; sub = sub; of = of });
       apart = apart_push entries entry held.apart others;
       only = only_push old new entries entry what held updates;
     }
 
 pub seen-push : (old new : Doors) (entries : List Entry) (entry : Entry) (what : Option Door) → AreHeld old entries → door_at old entry.object.door ≡ None → Updates old new entry.object.door what
-    → seen new (entries ++ entry ∷ []) ≡ with_object (seen old entries) entry.name (target_at entry.object (unwrap_or what no_door))
+    → seen new (entries ++ entry ∷ []) ≡ with_object (seen old entries) entry.name (target_at entry.kind entry.object (unwrap_or what no_door))
 seen-push old new entries entry what held vacant updates =
     let others = others_of_vacant old entry.object.door entries vacant held.held in
     map-append (seen_entry new) entries (entry ∷ [])
     ∙ ap (λ (os : List OpenObject). os ++ seen_entry new entry ∷ []) (seen_stays old new entry.object.door what entries updates others)
-    ∙ ap (λ (door : Option Door). with_object (seen old entries) entry.name (target_at entry.object (unwrap_or door no_door))) updates.changed
+    ∙ ap (λ (door : Option Door). with_object (seen old entries) entry.name (target_at entry.kind entry.object (unwrap_or door no_door))) updates.changed
 
 apart_front : (entries : List Entry) (entry : Entry) → AreApart (entries ++ entry ∷ []) → AreApart entries
 apart_front [] entry apart = tt
@@ -145,7 +148,7 @@ are_held-pop old new entries entry held updates =
 pub seen-pop : (old new : Doors) (entries : List Entry) (entry : Entry) → AreHeld old (entries ++ entry ∷ []) → Updates old new entry.object.door None → seen new entries ≡ seen old entries
 seen-pop old new entries entry held updates = seen_stays old new entry.object.door None entries updates (others_front entries entry held.apart)
 
-pub held-last : (domain : Doors) (entries : List Entry) (entry : Entry) → AreHeld domain (entries ++ entry ∷ []) → IsHeld domain entry.object
+pub held-last : (domain : Doors) (entries : List Entry) (entry : Entry) → AreHeld domain (entries ++ entry ∷ []) → IsHeld domain entry.kind entry.object
 held-last domain entries entry held = all_last (HeldBy domain) entries entry held.held
 
 apart_remove : (entries : List Entry) (i : ℕ) → AreApart entries → AreApart (remove entries i)
@@ -241,21 +244,21 @@ abbrev first_named : List ℕ → List OpenObject → Option OpenObject
 first_named name objects = find (λ (o : OpenObject). bytes_eq o.name name) objects
 
 found_step : (domain : Doors) (b : Bool) (first entry : Entry) (entries : List Entry) (i rest : ℕ) (found : Option OpenObject) → cond (not b) (1 + rest) 0 ≡ i → i < length (first ∷ entries) → entry ≡ slice_index_or (first ∷ entries) i entry
-    → ((j : ℕ) → rest ≡ j → j < length entries → entry ≡ slice_index_or entries j entry → target_found found ≡ Some (target_in domain entry.object))
-    → target_found (cond b (Some (seen_entry domain first)) found) ≡ Some (target_in domain entry.object)
-found_step domain true first entry entries zero rest found is lt at then = ap (λ (e : Entry). Some (target_in domain e.object)) (sym at)
+    → ((j : ℕ) → rest ≡ j → j < length entries → entry ≡ slice_index_or entries j entry → target_found found ≡ Some (target_in domain entry.kind entry.object))
+    → target_found (cond b (Some (seen_entry domain first)) found) ≡ Some (target_in domain entry.kind entry.object)
+found_step domain true first entry entries zero rest found is lt at then = ap (λ (e : Entry). Some (target_in domain e.kind e.object)) (sym at)
 found_step domain true first entry entries (suc i) rest found is lt at then = absurd (omega arith)
 found_step domain false first entry entries zero rest found is lt at then = absurd (omega arith)
 found_step domain false first entry entries (suc i) rest found is lt at then = then i (omega arith) (omega arith) at
 
-found_at : (domain : Doors) (name : List ℕ) (entries : List Entry) (i : ℕ) (entry : Entry) → place name entries ≡ i → i < length entries → entry ≡ slice_index_or entries i entry → object_of name (seen domain entries) ≡ Some (target_in domain entry.object)
+found_at : (domain : Doors) (name : List ℕ) (entries : List Entry) (i : ℕ) (entry : Entry) → place name entries ≡ i → i < length entries → entry ≡ slice_index_or entries i entry → object_of name (seen domain entries) ≡ Some (target_in domain entry.kind entry.object)
 found_at domain name [] i entry is lt at = absurd (omega arith)
 found_at domain name (first ∷ entries) i entry is lt at =
     found_step domain (IsNamed name first) first entry entries i (place name entries) (first_named name (seen domain entries)) is lt at
     (λ j next below there. found_at domain name entries j entry next below there)
 
 -- the object of a name
-pub object_of-at : (domain : Doors) (name : List ℕ) (entries : List Entry) (i : ℕ) (entry : Entry) → position (IsNamed name) entries ≡ Some i → entry ≡ slice_index_or entries i entry → object_of name (seen domain entries) ≡ Some (target_in domain entry.object)
+pub object_of-at : (domain : Doors) (name : List ℕ) (entries : List Entry) (i : ℕ) (entry : Entry) → position (IsNamed name) entries ≡ Some i → entry ≡ slice_index_or entries i entry → object_of name (seen domain entries) ≡ Some (target_in domain entry.kind entry.object)
 object_of-at domain name entries i entry at is =
     let first = placed name entries i at in
     found_at domain name entries i entry first.0 first.1 is
@@ -274,57 +277,64 @@ pub object_of-none : (domain : Doors) (name : List ℕ) (entries : List Entry) �
 object_of-none domain name entries none = missed domain name entries (unplaced name entries none)
 
 -- a copy leads where its object leads
-target_copy : (old new : Doors) (object copy : Object) → CopiesObject object copy old new → target_at copy (unwrap_or (door_of old object) no_door) ≡ target_in old object
-target_copy old new object copy copies =
-    ap (λ (o : Object). target_at o (unwrap_or (door_of old object) no_door)) copies.same
+target_copy : (old new : Doors) (kind : ObjectKind) (object copy : Object) → CopiesObject object copy old new → target_at kind copy (unwrap_or (door_of old object) no_door) ≡ target_in old kind object
+target_copy old new kind object copy copies =
+    ap (λ (o : Object). target_at kind o (unwrap_or (door_of old object) no_door)) copies.same
 
-is_of_copy : (object copy : Object) → copy ≡ record object { door = copy.door } → IsOf (form_of object.sub) object → IsOf (form_of copy.sub) copy
-is_of_copy object copy same of =
-    let there : IsOf (form_of object.sub) (record object { door = copy.door }) = record { tag = of.tag; name = of.name } in
-    subst (λ (o : Object). IsOf (form_of o.sub) o) (sym same) there
+is_of_copy : (kind : ObjectKind) (object copy : Object) → copy ≡ record object { door = copy.door } → IsOf (form_of kind) object → IsOf (form_of kind) copy
+is_of_copy kind object copy same of =
+    let there : IsOf (form_of kind) (record object { door = copy.door }) = record { tag = of.tag; name = of.name } in
+    subst (λ (o : Object). IsOf (form_of kind) o) (sym same) there
+
+-- the entry of a copy, under another name
+abbrev pub copied : Entry → List ℕ → Object → Entry
+copied entry name copy = record { name = name; kind = entry.kind; object = copy }
 
 -- an entry's object was copied under another name
 pub are_held-copy : (old new : Doors) (entries : List Entry) (i : ℕ) (entry : Entry) (name : List ℕ) (copy : Object) → AreHeld old entries → i < length entries → entry ≡ slice_index_or entries i entry → CopiesObject entry.object copy old new
-    → AreHeld new (entries ++ record { name = name; object = copy } ∷ [])
+    → AreHeld new (entries ++ copied entry name copy ∷ [])
 are_held-copy old new entries i entry name copy held lt is copies =
-    let original : IsHeld old entry.object = all_at (HeldBy old) entries i entry held.held lt is in
-    are_held-push old new entries (record { name = name; object = copy }) (door_of old entry.object) held copies.door.vacant copies.door.updates copies.door.held
-    (ap (λ (o : Object). is_built o.sub) copies.same ∙ original.built)
-    (is_of_copy entry.object copy copies.same original.of)
+    let original : IsHeld old entry.kind entry.object = all_at (HeldBy old) entries i entry held.held lt is in
+    are_held-push old new entries (copied entry name copy) (door_of old entry.object) held copies.door.vacant copies.door.updates copies.door.held
+    (ap (λ (o : Object). o.sub) copies.same ∙ original.sub)
+    (is_of_copy entry.kind entry.object copy copies.same original.of)
 
 pub seen-copy : (old new : Doors) (entries : List Entry) (entry : Entry) (name : List ℕ) (copy : Object) → AreHeld old entries → CopiesObject entry.object copy old new
-    → seen new (entries ++ record { name = name; object = copy } ∷ []) ≡ with_object (seen old entries) name (target_in old entry.object)
+    → seen new (entries ++ copied entry name copy ∷ []) ≡ with_object (seen old entries) name (target_in old entry.kind entry.object)
 seen-copy old new entries entry name copy held copies =
-    seen-push old new entries (record { name = name; object = copy }) (door_of old entry.object) held copies.door.vacant copies.door.updates
-    ∙ ap (λ (t : Target). with_object (seen old entries) name t) (target_copy old new entry.object copy copies)
+    seen-push old new entries (copied entry name copy) (door_of old entry.object) held copies.door.vacant copies.door.updates
+    ∙ ap (λ (t : Target). with_object (seen old entries) name t) (target_copy old new entry.kind entry.object copy copies)
+
+-- what was received has the form of its subcontract
+form_received : (kind : ObjectKind) (object : Object) → object.sub ≡ id_of kind → IsOf (form_at object.sub) object → IsOf (form_of kind) object
+form_received kind object sub of = subst (λ form. IsOf form object) (ap form_at sub ∙ form_at-id kind) of
 
 -- what was received was entered
-pub are_held-receive : (old new : Doors) (entries : List Entry) (name : List ℕ) (object : Object) (from end : Reading) → AreHeld old entries → UnmarshalsAny is_built form_of old new from end object
-    → AreHeld new (entries ++ record { name = name; object = object } ∷ [])
-are_held-receive old new entries name object from end held got =
-    are_held-push old new entries (record { name = name; object = object }) (Some got.reads.fields.door) held got.reads.vacant got.reads.enters refl got.known got.reads.of
+pub are_held-receive : (old new : Doors) (entries : List Entry) (name : List ℕ) (kind : ObjectKind) (object : Object) (from end : Reading) → AreHeld old entries → object.sub ≡ id_of kind → UnmarshalsAny is_built form_at old new from end object
+    → AreHeld new (entries ++ record { name = name; kind = kind; object = object } ∷ [])
+are_held-receive old new entries name kind object from end held sub got =
+    are_held-push old new entries (record { name = name; kind = kind; object = object }) (Some got.reads.fields.door) held got.reads.vacant got.reads.enters refl sub (form_received kind object sub got.reads.of)
 
-target_received : (sub : ℕ) (object : Object) (fields : Fields) → object.sub ≡ sub → object.tag ≡ fields.tag → object.life ≡ 0 → target_at object fields.door ≡ target_of sub fields
-target_received sub object fields which tag life =
-    ap (λ (n : ℕ). let t : Target = record { sub = n; tag = object.tag; view = fields.door.node; file = file_of n (record { door = fields.door; tag = object.tag }); life = object.life } in t) which
-    ∙ ap (λ (n : ℕ). let t : Target = record { sub = sub; tag = n; view = fields.door.node; file = file_of sub (record { door = fields.door; tag = n }); life = object.life } in t) tag
-    ∙ ap (λ (n : ℕ). let t : Target = record { sub = sub; tag = fields.tag; view = fields.door.node; file = file_of sub fields; life = n } in t) life
+target_received : (kind : ObjectKind) (object : Object) (fields : Fields) → object.tag ≡ fields.tag → object.life ≡ 0 → target_at kind object fields.door ≡ target_of kind fields
+target_received kind object fields tag life =
+    ap (λ (n : ℕ). let t : Target = record { kind = kind; tag = n; view = fields.door.node; file = file_of kind fields.door n; life = object.life } in t) tag
+    ∙ ap (λ (n : ℕ). let t : Target = record { kind = kind; tag = fields.tag; view = fields.door.node; file = file_of kind fields.door fields.tag; life = n } in t) life
 
-pub seen-receive : (old new : Doors) (entries : List Entry) (name : List ℕ) (object : Object) (from end : Reading) → AreHeld old entries → (got : UnmarshalsAny is_built form_of old new from end object)
-    → seen new (entries ++ record { name = name; object = object } ∷ []) ≡ with_object (seen old entries) name (target_of object.sub got.reads.fields)
-seen-receive old new entries name object from end held got =
-    seen-push old new entries (record { name = name; object = object }) (Some got.reads.fields.door) held got.reads.vacant got.reads.enters
-    ∙ ap (λ (t : Target). with_object (seen old entries) name t) (target_received object.sub object got.reads.fields refl got.reads.tag got.reads.life)
+pub seen-receive : (old new : Doors) (entries : List Entry) (name : List ℕ) (kind : ObjectKind) (object : Object) (from end : Reading) → AreHeld old entries → (got : UnmarshalsAny is_built form_at old new from end object)
+    → seen new (entries ++ record { name = name; kind = kind; object = object } ∷ []) ≡ with_object (seen old entries) name (target_of kind got.reads.fields)
+seen-receive old new entries name kind object from end held got =
+    seen-push old new entries (record { name = name; kind = kind; object = object }) (Some got.reads.fields.door) held got.reads.vacant got.reads.enters
+    ∙ ap (λ (t : Target). with_object (seen old entries) name t) (target_received kind object got.reads.fields got.reads.tag got.reads.life)
 
 -- a received object is held, and its target is where its fields lead
-pub held-receive : (old new : Doors) (object : Object) (from end : Reading) → UnmarshalsAny is_built form_of old new from end object → IsHeld new object
-held-receive old new object from end got =
-    record { door = ap (λ (door : Option Door). is_some door) got.reads.enters.changed; built = got.known; of = got.reads.of }
+pub held-receive : (old new : Doors) (kind : ObjectKind) (object : Object) (from end : Reading) → object.sub ≡ id_of kind → UnmarshalsAny is_built form_at old new from end object → IsHeld new kind object
+held-receive old new kind object from end sub got =
+    record { door = ap (λ (door : Option Door). is_some door) got.reads.enters.changed; sub = sub; of = form_received kind object sub got.reads.of }
 
-pub target_in-receive : (old new : Doors) (object : Object) (from end : Reading) → (got : UnmarshalsAny is_built form_of old new from end object) → target_in new object ≡ target_of object.sub got.reads.fields
-target_in-receive old new object from end got =
-    ap (λ (held : Option Door). target_at object (unwrap_or held no_door)) got.reads.enters.changed
-    ∙ target_received object.sub object got.reads.fields refl got.reads.tag got.reads.life
+pub target_in-receive : (old new : Doors) (kind : ObjectKind) (object : Object) (from end : Reading) → (got : UnmarshalsAny is_built form_at old new from end object) → target_in new kind object ≡ target_of kind got.reads.fields
+target_in-receive old new kind object from end got =
+    ap (λ (held : Option Door). target_at kind object (unwrap_or held no_door)) got.reads.enters.changed
+    ∙ target_received kind object got.reads.fields got.reads.tag got.reads.life
 
 -- two lists with one more each
 ends_same : {X : Type 0} (xs ys : List X) (x y : X) → xs ++ x ∷ [] ≡ ys ++ y ∷ [] → (xs ≡ ys) × (x ≡ y)
@@ -381,15 +391,15 @@ set_end {X} (y ∷ z ∷ zs) (suc i) x last =
 
 -- the entry, with its object of another life
 abbrev pub of_life : Entry → ℕ → Entry
-of_life entry life = record { name = entry.name; object = record entry.object { life = life } }
+of_life entry life = record { name = entry.name; kind = entry.kind; object = record entry.object { life = life } }
 
 held_of_life : (domain : Doors) (entries : List Entry) (entry : Entry) (life : ℕ) → AreHeld domain (entries ++ entry ∷ []) → AreHeld domain (entries ++ of_life entry life ∷ [])
 held_of_life domain entries entry life held =
-    let last : IsHeld domain entry.object = all_last (HeldBy domain) entries entry held.held in
+    let last : IsHeld domain entry.kind entry.object = all_last (HeldBy domain) entries entry held.held in
     record {
       held =
           all_append (HeldBy domain) entries (of_life entry life) (all_front (HeldBy domain) entries entry held.held)
-          (record { door = last.door; built = last.built; of = record { tag = last.of.tag; name = last.of.name } });
+          (record { door = last.door; sub = last.sub; of = record { tag = last.of.tag; name = last.of.name } });
       apart = apart_push entries (of_life entry life) (apart_front entries entry held.apart) (others_front entries entry held.apart);
       only = λ id others.
           held.only id

@@ -1,3 +1,4 @@
+pub mod KindLaws
 pub mod OpenLaws
 pub mod ChosenLaws
 pub mod HeldLaws

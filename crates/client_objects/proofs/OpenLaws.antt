@@ -7,8 +7,8 @@ use Rattle.std.specs.Str.{bytes_eq}
 use Rattle.std.proofs.lemmas.Slice.Eq.{bytes_eq-Decides}
 use Rattle.stack_accept.specs.Mount.{Mount, is_view_in}
 use Rattle.client_objects.specs.declared.target.Target.{Target}
+use Rattle.client_objects.specs.Found.{IsChosen}
 use Rattle.client_objects.specs.Objects.{OpenObject, IsOnStack, object_of, with_object, without}
-use Rattle.client_objects.specs.Stored.{is_built}
 
 -- the target of an object that was found
 abbrev target_found : Option OpenObject → Option Target
@@ -54,13 +54,13 @@ object_of-other (o ∷ os) name other target differ =
 
 -- an object that leads onto the stack does so under any name and of any life
 pub on_stack-renamed : (mount : Mount) (object : OpenObject) (name : List ℕ) (life : ℕ) → IsOnStack mount object → IsOnStack mount (record { name = name; target = record object.target { life = life } })
-on_stack-renamed mount object name life on = record { built = on.built; view = on.view; file = on.file }
+on_stack-renamed mount object name life on = record { view = on.view; file = on.file; chosen = on.chosen }
 
 -- all lead onto the stack, with one more that does
-pub on_stack-with_object : (mount : Mount) (objects : List OpenObject) (name : List ℕ) (target : Target) → AllByRecursion (IsOnStack mount) objects → is_built target.sub ≡ true → is_view_in mount.nodes target.view ≡ true → target.file < length mount.files
+pub on_stack-with_object : (mount : Mount) (objects : List OpenObject) (name : List ℕ) (target : Target) → AllByRecursion (IsOnStack mount) objects → is_view_in mount.nodes target.view ≡ true → target.file < length mount.files → IsChosen target
     → AllByRecursion (IsOnStack mount) (with_object objects name target)
-on_stack-with_object mount [] name target all built view file = (record { built = built; view = view; file = file }, tt)
-on_stack-with_object mount (o ∷ os) name target all built view file = (all.0, on_stack-with_object mount os name target all.1 built view file)
+on_stack-with_object mount [] name target all view file chosen = (record { view = view; file = file; chosen = chosen }, tt)
+on_stack-with_object mount (o ∷ os) name target all view file chosen = (all.0, on_stack-with_object mount os name target all.1 view file chosen)
 
 all_if : (P : OpenObject → Type 0) (b : Bool) (xs ys : List OpenObject) → AllByRecursion P xs → AllByRecursion P ys → AllByRecursion P (cond b xs ys)
 all_if P true xs ys here there = here
@@ -76,7 +76,7 @@ on_stack_if : (mount : Mount) (b : Bool) (o : OpenObject) (rest : Option OpenObj
     → IsOnStack mount (record { name = name; target = t })
 on_stack_if mount true o rest name t on then is =
     let same : o.target ≡ t = cc in
-    subst (λ (at : Target). IsOnStack mount (record { name = name; target = at })) same (record { built = on.built; view = on.view; file = on.file })
+    subst (λ (at : Target). IsOnStack mount (record { name = name; target = at })) same (record { view = on.view; file = on.file; chosen = on.chosen })
 on_stack_if mount false o rest name t on then is = then is
 
 -- where the calls of an object go that is found
@@ -89,7 +89,7 @@ on_stack-object_of mount (o ∷ os) name t all is =
 pub on_stack-copied : (mount : Mount) (objects : List OpenObject) (name other : List ℕ) (t : Target) → AllByRecursion (IsOnStack mount) objects → object_of name objects ≡ Some t → AllByRecursion (IsOnStack mount) (with_object objects other t)
 on_stack-copied mount objects name other t all is =
     let on = on_stack-object_of mount objects name t all is in
-    on_stack-with_object mount objects other t all on.built on.view on.file
+    on_stack-with_object mount objects other t all on.view on.file on.chosen
 
 copied_by : (mount : Mount) (old new : List OpenObject) (name other : List ℕ) (found : Option Target) → found ≡ object_of name old → IsSome found → AllByRecursion (IsOnStack mount) old → ((t : Target) → object_of name old ≡ Some t → new ≡ with_object old other t)
     → AllByRecursion (IsOnStack mount) new

@@ -1,7 +1,8 @@
+pub mod Kinds
+pub mod Found
 pub mod Objects
 pub mod Stored
 pub mod Received
-pub mod Found
 pub mod Held
 pub mod Laws
 pub mod Views

@@ -4,7 +4,7 @@ use Rattle.std.specs.Option.{option_map}
 use Rattle.std.specs.Str.{bytes_eq}
 use Rattle.stack_accept.specs.Mount.{Mount, is_view_in}
 use Rattle.client_objects.specs.declared.target.Target.{Target}
-use Rattle.client_objects.specs.Stored.{is_built}
+use Rattle.client_objects.specs.Found.{IsChosen}
 
 -- an open object: its name, and where its calls go
 pub record OpenObject : Type 0 where
@@ -24,8 +24,8 @@ abbrev pub without : List ℕ → List OpenObject → List OpenObject
 without name [] = []
 without name (o ∷ os) = if bytes_eq o.name name then os else o ∷ without name os
 
--- the object is one of a subcontract that the program has, and its calls go to a view and a file of the stack
+-- the calls of the object go to a view and a file of the stack, which its subcontract chooses
 pub record IsOnStack (mount : Mount) (object : OpenObject) : Type 0 where
-  pub built : is_built object.target.sub ≡ true
   pub view : is_view_in mount.nodes object.target.view ≡ true
   pub file : object.target.file < length mount.files
+  pub chosen : IsChosen object.target

@@ -9,6 +9,7 @@
 
 mod begun;
 mod entry;
+mod kind;
 mod laws;
 mod objects;
 mod reading;
@@ -19,9 +20,9 @@ mod target;
 mod why;
 
 pub use begun::{start_is_of_stack, start_names};
+pub use kind::ObjectKind;
 pub use laws::{bound_is_received, found_leads, received_leads};
 pub use objects::Objects;
-pub use reading::file_of;
 pub use state::ClientState;
 pub use stored::bound_object;
 pub use target::{Found, Target};

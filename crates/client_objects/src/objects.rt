@@ -62,8 +62,8 @@ impl Objects {
         ensures chosen { IfSome result (λ found. IsChosen found.target) }
     {
         let place = place_of(&self.entries, name)?;
-        let object = &self.entries[place].object;
-        Some(found_of(object, &self.domain, mount, machine))
+        let Entry { kind, object, .. } = &self.entries[place];
+        Some(found_of(*kind, object, &self.domain, mount, machine))
     }
 
     /// Receives the object that the names keep, under a name, of life 0, and says to which node its calls go from a machine
@@ -89,8 +89,9 @@ impl Objects {
         self.entries.reserve(1)?;
         let mut from = stored.reader();
         let object = take_in(alloc, &mut self.domain, &mut from)?;
-        let node = found_of(&object, &self.domain, mount, machine).node;
-        self.entries.push_reserved(Entry { name, object });
+        let kind = target.kind;
+        let node = found_of(kind, &object, &self.domain, mount, machine).node;
+        self.entries.push_reserved(Entry { name, kind, object });
         Ok(Found { target, node })
     }
 
@@ -110,8 +111,15 @@ impl Objects {
         ensures last { (objects : List OpenObject) (name : List ℕ) (target : Target) → self.old ≡ with_object objects name target → self.new ≡ objects }
         ensures none { self.old ≡ [] → self.new ≡ [] }
     {
-        if let Some(Entry { name: _, object }) = self.entries.pop() {
-            give_up(object, &mut self.domain);
+        if let Some(
+            Entry {
+                name: _,
+                kind,
+                object,
+            },
+        ) = self.entries.pop()
+        {
+            give_up(kind, object, &mut self.domain);
         }
     }
 
@@ -126,9 +134,12 @@ impl Objects {
             unreachable!();
         };
         self.entries.reserve(1)?;
-        let object = copy_of(&self.entries[place].object, &mut self.domain)?;
+        let Entry { kind, object, .. } = &self.entries[place];
+        let kind = *kind;
+        let object = copy_of(kind, object, &mut self.domain)?;
         self.entries.push_reserved(Entry {
             name: other,
+            kind,
             object,
         });
         Ok(())
@@ -141,7 +152,11 @@ impl Objects {
         let Some(place) = place_of(&self.entries, name) else {
             return;
         };
-        let Entry { name: _, object } = self.entries.remove(place);
-        give_up(object, &mut self.domain);
+        let Entry {
+            name: _,
+            kind,
+            object,
+        } = self.entries.remove(place);
+        give_up(kind, object, &mut self.domain);
     }
 }

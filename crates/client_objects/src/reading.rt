@@ -1,80 +1,73 @@
 //! What the bytes and doors of an object of the names say.
 
-ghost use Rattle.std.specs.Prelude.{◌≡◌, Some, Ok, IsOk, IfOk, OnErr};
+ghost use Rattle.std.specs.Prelude.{◌≡◌, ◌==◌, ◌&&◌, Some, IsOk, IfOk, OnErr, length};
+ghost use Rattle.marshal_buf.specs.Reading.{rest_of};
 ghost use Rattle.stack_accept.specs.Mount.{is_view_in};
 ghost use Rattle.sub_core.specs.Fields.{any_fields_at};
 ghost use Rattle.sub_core.specs.Received.{UnmarshalsAny};
 ghost use Rattle.name_context.specs.Names.{kept_object};
-ghost use Rattle.client_objects.specs.Stored.{is_built, form_of, file_of, has_size, leads, target_by, received};
+ghost use Rattle.client_objects.specs.Kinds.{is_built, form_at};
+ghost use Rattle.client_objects.specs.Stored.{leads, target_of, received};
 
-use crate::registry::{Built, form_of};
+use crate::kind::ObjectKind;
+use crate::registry::Built;
 use crate::target::Target;
 use domain_doors::Domain;
 use marshal_buf::{Buf, Reader};
 use stack_accept::Mounted;
 use std::alloc::{AllocError, Global};
-use sub_basic::CLUSTER;
-use sub_core::{AnyErr, Fields, Object, Registry, object_len, read_fields, unmarshal_any};
+use sub_core::{AnyErr, Fields, Object, read_fields, unmarshal_any};
 
 /// Where the object that the names keep leads, if the program can receive it. It takes no memory.
 pub(crate) fn received_target(mount: &Mounted, stored: &Buf) -> Option<Target>
     ensures { result ≡ received mount.now (Some (kept_object stored.now)) }
 {
     let mut from = stored.reader();
-    let Ok(sub) = from.get_u16() else {
+    let Ok(id) = from.get_u16() else {
         return None;
     };
-    if !Built.has(sub) || !has_size(sub, stored) {
+    let kind = ObjectKind::of(id)?;
+    let Ok(fields) = read_fields(kind.form(), &mut from) else {
+        return None;
+    };
+    if !ends_there(&from, stored) {
         return None;
     }
-    match read_fields(form_of(sub), &mut from) {
-        Ok(fields) => target_by(mount, sub, fields),
-        Err(_) => None,
-    }
-}
-
-/// Whether there are as many bytes and doors as an object of the subcontract has.
-fn has_size(sub: u16, stored: &Buf) -> bool
-    ensures { result ≡ has_size sub stored.now.bytes stored.now.doors }
-{
-    stored.bytes_len() == object_len(form_of(sub)) && stored.doors_len() == 1
-}
-
-/// Where an object of these fields leads, if that is on the stack.
-fn target_by(mount: &Mounted, sub: u16, fields: Fields) -> Option<Target>
-    ensures { result ≡ target_by mount.now sub (Ok fields) }
-{
-    if !leads(mount, sub, fields) {
+    if !leads(mount, kind, &fields) {
         return None;
     }
-    Some(Target {
-        sub,
-        tag: fields.tag,
-        view: fields.door.node,
-        file: file_of(sub, fields),
+    Some(target_of(kind, &fields))
+}
+
+/// Whether nothing is left behind an object that was read, whose door is the one door.
+fn ends_there(from: &Reader<'_>, stored: &Buf) -> bool
+    ensures { result ≡ ((length (rest_of from.now) == 0) && (length stored.now.doors == 1)) }
+{
+    from.rest().is_empty() && stored.doors_len() == 1
+}
+
+/// Where an object of these fields leads.
+fn target_of(kind: ObjectKind, fields: &Fields<'_>) -> Target
+    ensures { result ≡ target_of kind fields.now }
+{
+    let (door, tag) = (fields.door(), fields.tag());
+    Target {
+        kind,
+        tag,
+        view: door.node,
+        file: kind.file(door, tag),
         life: 0,
-    })
+    }
 }
 
 /// Whether an object of these fields leads to a view and a file of the stack.
-fn leads(mount: &Mounted, sub: u16, fields: Fields) -> bool
-    ensures { result ≡ leads mount.now sub fields }
+fn leads(mount: &Mounted, kind: ObjectKind, fields: &Fields<'_>) -> bool
+    ensures { result ≡ leads mount.now kind fields.now }
 {
-    let files = mount.files().len();
-    is_view(mount, fields.door.node)
-        && (fields.door.file as usize) < files
-        && (file_of(sub, fields) as usize) < files
-}
-
-/// The file of an object of these fields: a cluster's is that of the tag, and another's is that of the door.
-pub fn file_of(sub: u16, fields: Fields) -> u32
-    ensures { result ≡ file_of sub fields }
-{
-    if sub == CLUSTER {
-        fields.tag
-    } else {
-        fields.door.file
-    }
+    let (door, files) = (fields.door(), mount.files().len());
+    is_view(mount, door.node)
+        && (door.file as usize) < files
+        && (kind.file(door, fields.tag()) as usize) < files
 }
 
 /// Whether the node of the number is a view.
@@ -93,8 +86,8 @@ pub(crate) fn take_in(
     domain: &mut Domain,
     from: &mut Reader<'_>,
 ) -> Result<Object, AllocError>
-    requires { IsOk (any_fields_at is_built form_of from.old) }
-    ensures ok { IfOk result (UnmarshalsAny is_built form_of domain.old domain.new from.old from.new) }
+    requires { IsOk (any_fields_at is_built form_at from.old) }
+    ensures ok { IfOk result (UnmarshalsAny is_built form_at domain.old domain.new from.old from.new) }
     ensures err { OnErr result (domain.new ≡ domain.old) }
 {
     match unmarshal_any(&Built, alloc, domain, from) {

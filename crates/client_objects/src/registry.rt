@@ -1,28 +1,27 @@
-//! The subcontracts that the program has.
+//! The registry of the subcontracts that the program has.
 
-ghost use Rattle.std.specs.Prelude.{◌≡◌};
-ghost use Rattle.client_objects.specs.Stored.{form_of};
-
+use crate::kind::ObjectKind;
 use domain_doors::Domain;
 use marshal_buf::Reader;
 use std::alloc::Global;
-use sub_basic::{CLUSTER, Cluster, SINGLETON, Singleton};
-use sub_caching::{CACHING, Caching};
-use sub_core::{Form, Object, ObjectErr, Registry, Subcontract};
+use sub_basic::{Cluster, Singleton};
+use sub_caching::Caching;
+use sub_core::{Object, ObjectErr, Registry, Subcontract};
+use sub_reconnect::Reconnectable;
 
 /// The subcontracts that the program has.
 #[derive(Clone, Copy, Debug)]
 pub(crate) struct Built;
 
 impl Registry for Built {
-    ghost use Rattle.client_objects.specs.Stored.{is_built, form_of};
+    ghost use Rattle.client_objects.specs.Kinds.{is_built, form_at};
 
     ghost has = { is_built };
 
-    ghost form = { form_of };
+    ghost form = { form_at };
 
     fn has(&self, id: u16) -> bool {
-        id == SINGLETON || id == CLUSTER || id == CACHING
+        ObjectKind::of(id).is_some()
     }
 
     fn unmarshal(
@@ -32,25 +31,12 @@ impl Registry for Built {
         domain: &mut Domain,
         from: &mut Reader<'_>,
     ) -> Result<Object, ObjectErr> {
-        if id == CLUSTER {
-            Cluster.unmarshal(alloc, domain, from)
-        } else if id == CACHING {
-            Caching.unmarshal(alloc, domain, from)
-        } else {
-            Singleton.unmarshal(alloc, domain, from)
+        match ObjectKind::of(id) {
+            Some(ObjectKind::Singleton) => Singleton.unmarshal(alloc, domain, from),
+            Some(ObjectKind::Cluster) => Cluster.unmarshal(alloc, domain, from),
+            Some(ObjectKind::Caching) => Caching.unmarshal(alloc, domain, from),
+            Some(ObjectKind::Reconnectable) => Reconnectable.unmarshal(alloc, domain, from),
+            None => unreachable!(),
         }
-    }
-}
-
-/// The form of the objects of a subcontract.
-pub(crate) fn form_of(sub: u16) -> Form
-    ensures { result ≡ form_of sub }
-{
-    if sub == CLUSTER {
-        Form::Tagged
-    } else if sub == CACHING {
-        Form::Managed
-    } else {
-        Form::Bare
     }
 }

@@ -2,13 +2,14 @@
 
 ghost use Rattle.std.specs.Prelude.{◌≡◌};
 
+use crate::kind::ObjectKind;
 use marshal_buf::Door;
 
 /// Where an open object leads, and of which life it is.
 #[derive(Clone, Copy, Debug, PartialEq, Eq)]
 pub struct Target {
-    /// The identifier of the object's subcontract.
-    pub sub: u16,
+    /// The object's subcontract.
+    pub kind: ObjectKind,
     /// The tag that the subcontract keeps beside the door, or 0.
     pub tag: u32,
     /// The node of the view that the door names.

@@ -5,8 +5,7 @@ ghost use Rattle.marshal_buf.specs.Held.{IsAsBefore};
 ghost use Rattle.pager_channel.specs.Frame.{IsFrame};
 ghost use Rattle.page_messages.specs.declared.refusal.NodeErr.{NodeErr as ARefusal};
 ghost use Rattle.page_messages.specs.Paged.{about_of};
-ghost use Rattle.page_messages.specs.Rights.{IsForPage};
-ghost use Rattle.page_messages.specs.Letters.{question, answer, order, reply};
+ghost use Rattle.page_messages.specs.Letters.{question, order};
 ghost use Rattle.page_messages.specs.Sealed.{sealed, PutsFrame};
 ghost use Rattle.coherency_layer.specs.Node.{file_of, side, HasChild, MayAskAbout, MayCallAbout, AllowsFirst, IsRefusal, WritesReply, WritesAnswer};
 
@@ -15,7 +14,6 @@ use marshal_buf::Buf;
 use page_messages::{Asked, Called, Letter, NodeErr, asked_in, called_in};
 use pager_channel::{Frame, Ops};
 use std::alloc::AllocError;
-use tower_core::Right;
 
 impl Node {
     /// Writes what the node asks its pager about a page; the end of the channel is about no page. It cannot be refused
@@ -139,45 +137,5 @@ impl Node {
             Ok(()) => Ok(()),
             Err(_) => Err(NodeErr::Memory),
         }
-    }
-
-    /// Writes what this node is answered by the ground, which has no table, where it has this page. It cannot be refused
-    /// where there is room for a head and a page; want of memory leaves the bytes as they were.
-    pub fn ground_answer(
-        &self,
-        ops: &Ops,
-        what: Asked,
-        page: u32,
-        bytes: &[u8],
-        buf: &mut Buf,
-    ) -> Result<(), AllocError>
-        requires page { page < (file_of self.now).pages }
-        requires bytes { IsForPage what → length bytes.now ≡ (file_of self.now).page_size }
-        requires few { length buf.old.bytes < 2 ^ 31 }
-        ensures ok { OnOk result (PutsFrame (sealed ops.now (file_of self.now) page (answer (side self.now page).right bytes.now what)) buf.old buf.new) }
-        ensures frame { IsFrame ops.now (sealed ops.now (file_of self.now) page (answer (side self.now page).right bytes.now what)) }
-        ensures err { OnErr result (IsAsBefore buf.old buf.new) }
-        ensures room { 24 + (file_of self.now).page_size ≤ buf.old.spare → IsOk result }
-    {
-        let letter = Letter::answer(self.right(page), bytes, what);
-        self.file.put(ops, page, &letter, buf)
-    }
-
-    /// Writes what this node is ordered to do by the ground, which has no table. It cannot be refused where there is room
-    /// for a head and a page; want of memory leaves the bytes as they were.
-    pub fn ground_order(
-        &self,
-        ops: &Ops,
-        what: Called,
-        page: u32,
-        buf: &mut Buf,
-    ) -> Result<(), AllocError>
-        requires few { length buf.old.bytes < 2 ^ 31 }
-        ensures ok { OnOk result (PutsFrame (sealed ops.now (file_of self.now) page (order what)) buf.old buf.new) }
-        ensures frame { IsFrame ops.now (sealed ops.now (file_of self.now) page (order what)) }
-        ensures err { OnErr result (IsAsBefore buf.old buf.new) }
-        ensures room { 24 + (file_of self.now).page_size ≤ buf.old.spare → IsOk result }
-    {
-        self.file.put(ops, page, &Letter::order(what), buf)
     }
 }

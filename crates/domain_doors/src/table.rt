@@ -8,6 +8,7 @@ use marshal_buf::Door;
 use slab::Slab;
 use std::alloc::{AllocError, Global};
 use std::marker::Model;
+use std::mem::replace;
 
 /// The table of doors of a domain. A door's identifier is given again only after the door was taken out, and then it is the
 /// next one that is given.
@@ -66,6 +67,20 @@ impl Domain {
         ensures err { OnErr result (self.new ≡ self.old) }
     {
         self.doors.try_remove(id).ok_or(NoDoor { id })
+    }
+
+    /// Holds another door under an identifier that has one, and answers the one that it had. It takes no memory. An error
+    /// leaves the domain as it was.
+    pub fn exchange(&mut self, id: usize, door: Door) -> Result<Door, NoDoor>
+        ensures value { MatchResult result (λ had. door_at self.old id ≡ Some had) (Lacks self.old id) }
+        ensures updates { OnOk result (Updates self.old self.new id (Some door)) }
+        ensures next { self.new.next ≡ self.old.next }
+        ensures err { OnErr result (self.new ≡ self.old) }
+    {
+        match self.doors.get_mut(id) {
+            Some(held) => Ok(replace(held, door)),
+            None => Err(NoDoor { id }),
+        }
     }
 
     /// The door that the domain holds under an identifier. It takes no memory.

@@ -19,15 +19,45 @@ pub enum FileCall {
     Sync,
 }
 
-/// A call that was read from a frame, and the object that it is a call on.
+/// A call that was read from a frame, and the object that it is a call on. Only `read_call` makes one.
 #[derive(Clone, Debug, Drop)]
 pub struct Received {
+    subcontract: u16,
+    tag: u32,
+    call: FileCall,
+}
+
+impl Received {
+    pub(crate) fn new(subcontract: u16, tag: u32, call: FileCall) -> Received
+        ensures { result ≡ record { subcontract = subcontract; tag = tag; call = call } }
+    {
+        Received {
+            subcontract,
+            tag,
+            call,
+        }
+    }
+
     /// The subcontract of the object, from 1 to 4.
-    pub subcontract: u16,
+    pub fn subcontract(&self) -> u16
+        ensures { result ≡ self.now.subcontract }
+    {
+        self.subcontract
+    }
+
     /// The tag of the object, where the subcontract needs it.
-    pub tag: u32,
-    /// The call.
-    pub call: FileCall,
+    pub fn tag(&self) -> u32
+        ensures { result ≡ self.now.tag }
+    {
+        self.tag
+    }
+
+    /// Gives the call.
+    pub fn into_call(self) -> FileCall
+        ensures { result ≡ self.call }
+    {
+        self.call
+    }
 }
 
 impl FileCall {

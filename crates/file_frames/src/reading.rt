@@ -113,11 +113,7 @@ fn received(
     if !is_head_of(ops, page_size, &head, &call) {
         return Err(CallWhy::NoCall);
     }
-    Ok(Received {
-        subcontract: head.subcontract,
-        tag: head.tag,
-        call,
-    })
+    Ok(Received::new(head.subcontract, head.tag, call))
 }
 
 /// The call whose frame the bytes are, all of them, where a page has so many bytes; or why it is

@@ -7,7 +7,7 @@ ghost use Rattle.file_frames.specs.Frames.{call_bytes};
 
 use crate::putting::put_call;
 use crate::reading::read_call;
-use crate::{CallWhy, FileCall};
+use crate::{CallWhy, FileCall, Received};
 use marshal_buf::Buf;
 use pager_channel::Ops;
 use std::alloc::{AllocError, Global};
@@ -41,15 +41,15 @@ pub fn through_frame(
     subcontract: u16,
     tag: u32,
     call: FileCall,
-) -> Result<FileCall, AllocError>
+) -> Result<Received, AllocError>
     requires size { IsPageSize page_size }
     requires subcontract { (1 ≤ subcontract) × (subcontract ≤ 4) }
     requires call { IsOnePage page_size call }
-    ensures { IfOk result (λ read. read ≡ call) }
+    ensures { IfOk result (λ read. read ≡ record { subcontract = subcontract; tag = tag; call = call }) }
 {
     let buf = framed(alloc, ops, page_size, subcontract, tag, &call)?;
     match read_call(alloc, ops, page_size, buf.as_slice()) {
-        Ok(received) => Ok(received.call),
+        Ok(received) => Ok(received),
         Err(CallWhy::Memory) => Err(AllocError),
         Err(CallWhy::Frame { .. }) => unreachable!(),
         Err(CallWhy::NoCall) => unreachable!(),

@@ -1,19 +1,29 @@
--- The disks of a ground in their row, by what is told of them: from the disks when it was opened to those when it was closed.
+-- The disks of a ground in their row, by what is told of them: from the disks when it was opened to those when it was closed, and then their stores.
 use Rattle.std.proofs.Common.{◌≡◌, ◌≢◌, ◌⊎◌, inl, inr, ℕ, zero, suc, ◌≤◌, Bool, true, false, List, [], ◌∷◌, length, map, Option, Some, None, refl, sym, ap, subst, ◌∙◌, arith}
-use Rattle.std.specs.Prelude.{Contains}
+use Rattle.std.specs.Prelude.{Contains, IfSome, is_some, slice_get}
+use Rattle.std.specs.Option.{option_map}
 use Rattle.std.proofs.lemmas.Bool.{eq-eqb, ne_eqb}
+use Rattle.spr_io.specs.Content.{Content}
+use Rattle.disk_format.specs.declared.shape.ImageShape.{ImageShape}
+use Rattle.disk_format.specs.Image.{image}
 use Rattle.page_ground.specs.Seen.{Imaged}
 use Rattle.page_ground.specs.Seen.{DiskSeen, held_in, is_up_in, live_in}
 use Rattle.mirror_rules.specs.Tree.{Image, Cell, Seat, In, Out}
-use Rattle.mirror_rules.specs.Claims.{Pairs, pairs_none, pairs_more, Every, Nth, nth_here, nth_later}
-use Rattle.mirror_rules.specs.Guards.{Within, Among}
+use Rattle.mirror_rules.specs.Tree as machine
+use Rattle.mirror_rules.specs.Claims.{Pairs, pairs_none, pairs_more, Every, every_more, Has, has_here, has_later, Nth, nth_here, nth_later}
+use Rattle.mirror_rules.specs.Guards.{Direct, Leaves, leaves, leaves_none, shows_kept, shows_now, shows_out, Within, Among}
 use Rattle.mirror_rules.specs.History.{Goes, goes_out, goes_same, goes_later}
 use Rattle.mirror_rules.proofs.OpenLaws.{nth-same}
 use Rattle.mirror_rules.proofs.GuardLaws.{every-nth}
+use Rattle.mirror_rules.proofs.ChainLaws.{direct-not-caching}
 use Rattle.mirror_layer.specs.View.{Beside, as_image}
 use Rattle.mirror_layer.specs.Ground.{Counted, Differ, as_imaged, disk_seen, disks_seen, image_told}
+use Rattle.mirror_layer.specs.Stores.{Stored, stored, Left, left}
+use Rattle.file_stores.specs.Held.{StoreSeen}
+use Rattle.file_stores.specs.Opening.{content_of, faults_of}
+use Rattle.file_stores.proofs.GroundLists.{same-item}
 use Rattle.file_stores.proofs.Lists.{some-is}
-use Rattle.file_stores.proofs.SpotLaws.{live-first, live-rest, seen-disk}
+use Rattle.file_stores.proofs.SpotLaws.{imaged-twice, live-first, live-rest, other, seen-disk}
 
 held-first : (a : DiskSeen) (ds : List DiskSeen) (n : ℕ) → n ≡ a.disk → held_in (a ∷ ds) n ≡ a.holds
 held-first a ds n e = rw (eq-eqb n a.disk e) refl
@@ -47,7 +57,7 @@ live-told {b = b} {x = x} (pairs_more {xs = bs} {ys = xs} c h) nth_here nth_here
 live-told {b = b} (pairs_more {x = a} {y = z} {xs = bs} {ys = xs} c h) (nth_later p) (nth_later q) e = live-rest (disk_seen a z) (disks_seen bs xs) b.disk (live-told h p q e)
 
 -- a disk that is told as live stands in the row
-live-seat : (bs : List Beside) (xs : List Seat) (k : ℕ) → Pairs Counted bs xs → Contains (live_in (disks_seen bs xs)) k → (m : ℕ) × (b : Beside) × (c : Cell) × Nth m bs b × Nth m xs (In true c) × (b.disk ≡ k)
+pub live-seat : (bs : List Beside) (xs : List Seat) (k : ℕ) → Pairs Counted bs xs → Contains (live_in (disks_seen bs xs)) k → (m : ℕ) × (b : Beside) × (c : Cell) × Nth m bs b × Nth m xs (In true c) × (b.disk ≡ k)
 live-seat _ _ k pairs_none h = absurd (omega (arith, h.1))
 live-seat _ _ k (pairs_more {x = b} {y = In true c} {xs = bs} {ys = xs} e h) (zero, lt, is) = (zero, b, c, nth_here, nth_here, sym (seen-disk b (In true c) e) ∙ is)
 live-seat _ _ k (pairs_more {x = b} {y = In true c} {xs = bs} {ys = xs} e h) (suc j, lt, is) = let r = live-seat bs xs k h (j, omega arith, is) in (suc r.0, r.1, r.2, nth_later r.3, nth_later r.4, r.5)
@@ -190,3 +200,31 @@ module _ (V : ℕ → ℕ → List ℕ) {bs cs : List Beside} {xs ys : List Seat
       beside-of pairs_none at = elim at [ ]
       beside-of (pairs_more {x = b} c h) nth_here = (b, nth_here)
       beside-of (pairs_more c h) (nth_later at) = let r = beside-of h at in (r.0, nth_later r.1)
+
+-- WHEN THE DISKS WERE CLOSED the store of this number reads as the image that its disk has, if it tells
+seat-left : {x : Seat} {s : machine.Store} → Leaves Direct x s → s.image ≡ seat-image x
+seat-left (leaves shows_now e) = e
+seat-left (leaves (shows_kept q k) e) = absurd (direct-not-caching q)
+seat-left (leaves (shows_out q) e) = e ∙ sym q
+seat-left (leaves_none q e) = e ∙ sym q
+
+held-image : (shape own : ImageShape) (content : Option Content) (told : Bool) (has : Option Image) (s : machine.Store) → own ≡ shape → is_some content ≡ told → s.image ≡ has → IfSome content (λ c. s.image ≡ option_map {T = Imaged} as_image (image own c.blocks))
+    → IfSome content (λ c. image_told told has ≡ image shape c.blocks)
+held-image shape own None told has s is t e h = tt
+held-image shape own (Some c) true has s is t e h =
+    ap (λ (o : Option Image). option_map {T = Image} as_imaged o) (sym e ∙ h) ∙ (imaged-twice (image own c.blocks) ∙ ap (λ (v : ImageShape). image v c.blocks) is)
+held-image shape own (Some c) false has s is t e h = absurd cc
+
+pub held-after : {stores : List StoreSeen} {bs : List Beside} {ss : List machine.Store} {xs : List Seat} (shape : ImageShape) (k : ℕ) (new : StoreSeen) → Pairs (Stored content_of faults_of stores) bs ss → Pairs Left xs ss
+    → Pairs Counted bs xs → Every (λ b. b.shape ≡ shape) bs → Differ bs → Has (λ b. b.disk ≡ k) bs → slice_get stores k ≡ Some new → IfSome new.state.content (λ c. held_in (disks_seen bs xs) k ≡ image shape c.blocks)
+held-after shape k new pairs_none i j q differ h is = elim h [ ]
+held-after shape k new (pairs_more {x = b} {y = s} (stored {t = t} p f told later) h) (pairs_more {x = x} (left shows count kept) i) (pairs_more {xs = bs} {ys = xs} c j) (every_more own q) differ (has_here z) is =
+    let here : k ≡ (disk_seen b x).disk = sym (seen-disk b x c ∙ z) in
+    let same : t ≡ new = same-item new p z is in
+    let tells : is_some new.state.content ≡ b.told = ap (λ (v : StoreSeen). is_some v.state.content) (sym same) ∙ told in
+    let now : IfSome new.state.content (λ c. s.image ≡ option_map {T = Imaged} as_image (image b.shape c.blocks)) =
+    subst (λ (v : StoreSeen). IfSome v.state.content (λ c. s.image ≡ option_map {T = Imaged} as_image (image b.shape c.blocks))) same f.now in
+    subst (λ (o : Option Imaged). IfSome new.state.content (λ c. o ≡ image shape c.blocks)) (sym (held-first (disk_seen b x) (disks_seen bs xs) k here ∙ seat-holds b x)) (held-image shape b.shape new.state.content b.told (seat-image x) s own tells (seat-left shows) now)
+held-after shape k new (pairs_more {x = b} p h) (pairs_more {x = x} q i) (pairs_more {xs = bs} {ys = xs} c j) (every_more own r) differ (has_later z) is =
+    let ne : k ≢ b.disk = other k b.disk bs differ.0 z in
+    subst (λ (o : Option Imaged). IfSome new.state.content (λ c. o ≡ image shape c.blocks)) (sym (held-rest (disk_seen b x) (disks_seen bs xs) k (λ e. ne (e ∙ seen-disk b x c)))) (held-after shape k new h i j r differ.1 z is)

@@ -76,7 +76,7 @@ told-kept true kept = refl
 told-kept false kept = refl
 
 -- another number than that of a disk that differs from all behind it
-other : (k d : ℕ) (bs : List Beside) → Every (λ b. b.disk ≢ d) bs → Has (λ b. b.disk ≡ k) bs → k ≢ d
+pub other : (k d : ℕ) (bs : List Beside) → Every (λ b. b.disk ≢ d) bs → Has (λ b. b.disk ≡ k) bs → k ≢ d
 other k d _ every_none h = elim h [ ]
 other k d bs (every_more p q) (has_here e) = λ is. p (e ∙ is)
 other k d bs (every_more p q) (has_later h) = other k d _ q h

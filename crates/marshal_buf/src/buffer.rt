@@ -2,6 +2,7 @@
 
 ghost use Rattle.std.specs.Prelude.{◌≡◌, ◌+◌, ◌<◌, ◌≤◌, ◌^◌, ◌∷◌, [], IfOk, OnOk, OnErr, IsOk, length};
 ghost use Rattle.marshal_buf.specs.Numbers.{number_bytes};
+ghost use Rattle.marshal_buf.specs.Counted.{counted};
 ghost use Rattle.marshal_buf.specs.Held.{Puts, IsAsBefore};
 
 use crate::door::Door;
@@ -153,6 +154,20 @@ impl Buf {
         let mut bytes = [0; 8];
         BigEndian::write_u64(&mut bytes, number);
         self.put_bytes(&bytes)
+    }
+
+    /// Puts bytes behind their length, a number of four bytes. It cannot be refused where there is room for both.
+    pub fn put_counted(&mut self, bytes: &[u8]) -> Result<(), AllocError>
+        requires { length self.old.bytes + 4 + length bytes.now < 2 ^ 32 }
+        ensures ok { OnOk result (Puts (counted bytes.now) [] self.old self.new) }
+        ensures len { OnOk result (length self.new.bytes ≡ length self.old.bytes + 4 + length bytes.now) }
+        ensures err { OnErr result (IsAsBefore self.old self.new) }
+        ensures room { 4 + length bytes.now ≤ self.old.spare → IsOk result }
+    {
+        let len = bytes.len() as u32;
+        self.reserve(4 + len)?;
+        self.put_u32(len)?;
+        self.put_bytes(bytes)
     }
 
     /// Puts a door, and its index as a number of four bytes: how many doors stand before it. It cannot be

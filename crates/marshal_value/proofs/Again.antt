@@ -12,7 +12,8 @@ use Rattle.marshal_buf.proofs.Readings.{door_is_read}
 use Rattle.idl_reader.specs.Tree.{TypeTree, OfBool, OfU8, OfU32, OfU64, OfString, OfBytes, SequenceOf, OfName}
 use Rattle.idl_reader.specs.declared.idl.Word.{Word}
 use Rattle.marshal_value.specs.Tree.{Tree, AsBool, AsU8, AsU32, AsU64, AsText, AsBytes, AsSequence, AsStruct, AsEnum, AsReference, Trees, none, one}
-use Rattle.marshal_value.specs.Spelling.{counted, count, spelling, spelling_of_all, doors_of, doors_of_all}
+use Rattle.marshal_buf.specs.Counted.{counted}
+use Rattle.marshal_value.specs.Spelling.{count, spelling, spelling_of_all, doors_of, doors_of_all}
 use Rattle.marshal_value.specs.declared.why.ValueWhy.TheVariants as why
 use Rattle.marshal_value.specs.Types.{Kind, Fields, Names, Object, Table, IsOf, AreOfOne, AreOf, IsNamed, AreNamed, IsKind, IsDeclared}
 use Rattle.marshal_value.specs.Reading.{Reads, ◌>>=◌, part_from, flag_at, bool_at, u8_at, u32_at, u64_at, counted_at, bytes_at, text_at, enum_at, or_index, reference_at, values_at, sequence_at, fields_at, kind_at, type_at, named_at, ComesNext, behind}

@@ -14,7 +14,8 @@ use Rattle.marshal_buf.proofs.NumberLaws.{length-number_bytes, number_of_part, n
 use Rattle.idl_reader.specs.Tree.{TypeTree, OfBool, OfU8, OfU32, OfU64, OfString, OfBytes, SequenceOf, OfName}
 use Rattle.idl_reader.specs.declared.idl.Word.{Word}
 use Rattle.marshal_value.specs.Tree.{Tree, AsBool, AsU8, AsU32, AsU64, AsText, AsBytes, AsSequence, AsStruct, AsEnum, AsReference, Trees, none, one}
-use Rattle.marshal_value.specs.Spelling.{counted, count, spelling, spelling_of_all, doors_of, doors_of_all}
+use Rattle.marshal_buf.specs.Counted.{counted}
+use Rattle.marshal_value.specs.Spelling.{count, spelling, spelling_of_all, doors_of, doors_of_all}
 use Rattle.marshal_value.specs.declared.why.BadValue.{BadValue}
 use Rattle.marshal_value.specs.declared.why.ValueWhy.TheVariants as why
 use Rattle.marshal_value.specs.Types.{Kind, Fields, Names, Object, Table, IsOf, AreOfOne, AreOf}

@@ -6,7 +6,8 @@ use Rattle.marshal_buf.specs.Numbers.{number_bytes, number_of}
 use Rattle.marshal_buf.proofs.NumberLaws.{length-number_bytes, number_of-number_bytes}
 use Rattle.idl_reader.specs.Tree.{TypeTree, OfBool, OfU8, OfU32, OfU64, OfString, OfBytes, SequenceOf, OfName}
 use Rattle.marshal_value.specs.Tree.{Tree, AsBool, AsU8, AsU32, AsU64, AsText, AsBytes, AsSequence, AsStruct, AsEnum, AsReference, Trees, none, one}
-use Rattle.marshal_value.specs.Spelling.{counted, count, spelling, spelling_of_all, doors_of, doors_of_all, HasSpelling, HaveSpelling}
+use Rattle.marshal_buf.specs.Counted.{counted}
+use Rattle.marshal_value.specs.Spelling.{count, spelling, spelling_of_all, doors_of, doors_of_all, HasSpelling, HaveSpelling}
 use Rattle.marshal_value.specs.Types.{Table, IsOf, AreOfOne, AreOf}
 use Rattle.marshal_value.specs.Laws.{IsOne, OneSpelling, WrittenIsRead}
 use Rattle.marshal_value.proofs.Again.{value_again}

@@ -1,6 +1,7 @@
 -- How a value is spelled, and which doors it brings.
 use Rattle.std.specs.Prelude.{◌<◌, ℕ, suc, ◌+◌, ◌^◌, ◌++◌, List, [], ◌∷◌, length, Bool, true, false}
 use Rattle.marshal_buf.specs.declared.door.Door.{Door}
+use Rattle.marshal_buf.specs.Counted.{counted}
 use Rattle.marshal_buf.specs.Numbers.{number_bytes}
 use Rattle.marshal_value.specs.Tree.{Tree, AsBool, AsU8, AsU32, AsU64, AsText, AsBytes, AsSequence, AsStruct, AsEnum, AsReference, Trees, none, one}
 
@@ -8,10 +9,6 @@ use Rattle.marshal_value.specs.Tree.{Tree, AsBool, AsU8, AsU32, AsU64, AsText, A
 abbrev pub flag : Bool → List ℕ
 flag false = 0 ∷ []
 flag true = 1 ∷ []
-
--- the length, and the bytes
-abbrev pub counted : List ℕ → List ℕ
-counted bytes = number_bytes 4 (length bytes) ++ bytes
 
 abbrev pub count : Trees → ℕ
 count none = 0

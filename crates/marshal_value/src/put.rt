@@ -3,7 +3,7 @@
 ghost use Rattle.std.specs.Prelude.{◌≡◌, ◌+◌, ◌<◌, ◌^◌, ◌↔◌, [], IsTrue, IsOk, OnOk, OnErr, length};
 ghost use Rattle.marshal_buf.specs.Held.{Puts, IsAsBefore};
 ghost use Rattle.marshal_value.specs.Tree.{tree_of, trees_of};
-ghost use Rattle.marshal_value.specs.Spelling.{flag, counted, count, spelling, spelling_of_all, doors_of, doors_of_all, size_of, size_of_all, HasSpelling, HaveSpelling};
+ghost use Rattle.marshal_value.specs.Spelling.{flag, count, spelling, spelling_of_all, doors_of, doors_of_all, size_of, size_of_all, HasSpelling, HaveSpelling};
 ghost use Rattle.idl_reader.specs.Tree.{type_tree};
 ghost use Rattle.marshal_value.specs.Lookup.{table_of};
 ghost use Rattle.marshal_value.specs.Types.{IsOf};
@@ -28,16 +28,6 @@ fn put_flag(v: bool, buf: &mut Buf) -> Result<(), AllocError>
     }
 }
 
-fn put_counted(bytes: &[u8], buf: &mut Buf) -> Result<(), AllocError>
-    requires fits { length bytes.now < 2 ^ 32 }
-    requires room { HasRoom (4 + length bytes.now) 0 buf.old }
-    ensures ok { IsOk result }
-    ensures put { Puts (counted bytes.now) [] buf.old buf.new }
-{
-    buf.put_u32(bytes.len() as u32)?;
-    buf.put_bytes(bytes)
-}
-
 /// Puts a value for which there is room.
 #[cycle(puts)]
 fn put_one(value: &Value, buf: &mut Buf) -> Result<(), AllocError>
@@ -51,8 +41,8 @@ fn put_one(value: &Value, buf: &mut Buf) -> Result<(), AllocError>
         Value::U8 { v } => buf.put_bytes(&[*v]),
         Value::U32 { v } => buf.put_u32(*v),
         Value::U64 { v } => buf.put_u64(*v),
-        Value::Str { v } => put_counted(v.as_str().as_bytes(), buf),
-        Value::Bytes { v } => put_counted(v.as_slice(), buf),
+        Value::Str { v } => buf.put_counted(v.as_str().as_bytes()),
+        Value::Bytes { v } => buf.put_counted(v.as_slice()),
         Value::Sequence { items } => {
             buf.put_u32(items.len() as u32)?;
             put_all(items, buf)

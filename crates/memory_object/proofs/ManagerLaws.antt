@@ -9,7 +9,7 @@ use Rattle.std.proofs.lemmas.List.Quantifiers.{position-Some}
 use Rattle.std.proofs.lemmas.List.Sums.{fails_before_first}
 use Rattle.tower_core.specs.TreeShape.{TreeShape, parent}
 use Rattle.stack_accept.specs.declared.entries.Kind.{Kind}
-use Rattle.stack_accept.specs.declared.entries.Kind.TheVariants.{Disk, Mirror, Coherency, Dfs, Vmm}
+use Rattle.stack_accept.specs.declared.entries.Kind.TheVariants.{Disk, Vmm}
 use Rattle.stack_accept.specs.declared.entries.NodeEntry.{NodeEntry}
 use Rattle.stack_accept.specs.Mount.{Mount, via, tree_of}
 use Rattle.stack_accept.specs.Sound.{IsMount}
@@ -27,11 +27,8 @@ parent_is m number node sound here =
     ap (λ (t : TreeShape). parent t number) sound.served ∙ get_or_from_slice_get (tree_of m.nodes).parents number (over node) 0 at
 
 vmm_when : (kind : Kind) → is_vmm kind ≡ true → kind ≡ Vmm
-vmm_when Disk h = cc
-vmm_when Mirror h = cc
-vmm_when Coherency h = cc
-vmm_when Dfs h = cc
 vmm_when Vmm h = refl
+vmm_when _ h = cc
 
 and_both : (a b : Bool) → a ≡ true → b ≡ true → (a && b) ≡ true
 and_both true true x y = refl

@@ -130,15 +130,14 @@ module _ (ops : Ops) (own : Table) (above : Node) (node page : ℕ) (what : Aske
   pub question_made : (above' : Node) → IsChange above above' (Some node) asks → IsAboveChange above above' node (about_asked what page) (asked_right what) (asked_up (tables.side own page) what)
   question_made above' c = above_changed above above' node asks (about_asked what page) (asked_right what) (asked_up (tables.side own page) what) asks_about (meant.question_right ops (tables.file_of own) page (tables.side own page) what) (meant.question_up ops (tables.file_of own) page (tables.side own page) what) c
 
-  -- what the parent answers is what a node of this right is answered
-  pub answer_is : (side above page).kids node ≡ (tables.side own page).right → answer_to ops above node what (about_asked what page) ≡ sealed ops (tables.file_of own) page (answer (tables.side own page).right (side above page).copy what)
-  answer_is known = same what
+  -- what the parent answers is of its own table
+  pub answer_of : answer_to ops above node what (about_asked what page) ≡ sealed ops (tables.file_of own) page (answer ((side above page).kids node) (side above page).copy what)
+  answer_of = same what
     where
-      at_page : (what : Asked) → sealed ops above.file page (answer ((side above page).kids node) (side above page).copy what) ≡ sealed ops (tables.file_of own) page (answer (tables.side own page).right (side above page).copy what)
+      at_page : (what : Asked) → sealed ops above.file page (answer ((side above page).kids node) (side above page).copy what) ≡ sealed ops (tables.file_of own) page (answer ((side above page).kids node) (side above page).copy what)
       at_page what = ap (λ (file : PagedFile). sealed ops file page (answer ((side above page).kids node) (side above page).copy what)) pair.file
-          ∙ ap (λ (r : Right). sealed ops (tables.file_of own) page (answer r (side above page).copy what)) known
 
-      same : (what : Asked) → answer_to ops above node what (about_asked what page) ≡ sealed ops (tables.file_of own) page (answer (tables.side own page).right (side above page).copy what)
+      same : (what : Asked) → answer_to ops above node what (about_asked what page) ≡ sealed ops (tables.file_of own) page (answer ((side above page).kids node) (side above page).copy what)
       same Asked.PageInRead = at_page Asked.PageInRead
       same Asked.PageInWrite = at_page Asked.PageInWrite
       same Asked.PageOut = at_page Asked.PageOut

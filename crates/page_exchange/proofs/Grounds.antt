@@ -81,6 +81,17 @@ pub unless_memory : {A : Type 0} (r : Result A GroundErr) (P : Type 0) → IsErr
 unless_memory {A = A} (Ok x) P is h = h
 unless_memory {A = A} (Err e) P is h = subst (λ (e : GroundErr). UnlessFault {A = A} (Err e) P) (sym is) h
 
+-- what the ground writes is of the node's file and right
+pub answer_of_own : (ops : Ops) (own : Table) (page : ℕ) (what : Asked) (bytes second : List ℕ) (file : PagedFile) (right : Right) → file ≡ file_of own → right ≡ (side own page).right
+    → AreSent ops second (sealed ops file page (answer right bytes what)) → AreSent ops second (sealed ops (file_of own) page (answer (side own page).right bytes what))
+answer_of_own ops own page what bytes second file right is has sent =
+    subst (λ (f : PagedFile). AreSent ops second (sealed ops f page (answer (side own page).right bytes what))) is
+    (subst (λ (r : Right). AreSent ops second (sealed ops file page (answer r bytes what))) has sent)
+
+pub order_of_own : (ops : Ops) (own : Table) (page : ℕ) (what : Called) (first : List ℕ) (file : PagedFile) → file ≡ file_of own
+    → AreSent ops first (sealed ops file page (order what)) → AreSent ops first (sealed ops (file_of own) page (order what))
+order_of_own ops own page what first file is sent = subst (λ (f : PagedFile). AreSent ops first (sealed ops f page (order what))) is sent
+
 -- A QUESTION of a node, and the ground's answer
 module _ (ops : Ops) (own : Table) (page : ℕ) (what : Asked) (first : List ℕ) (q : FrameSeen) (may : MayAskAbout own what page) (asked : AreSent ops first (sealed ops (file_of own) page (question (side own page) what))) (read : Reads ops first q) where
   q_is : q ≡ sealed ops (file_of own) page (question (side own page) what)
@@ -125,10 +136,11 @@ module _ (ops : Ops) (own : Table) (page : ℕ) (what : Asked) (first : List ℕ
     pub ground_same : (pages pages' new : Option (List (List ℕ))) → pages ≡ pages' → new ≡ pages_given page (bytes_up q) pages → IsForFirstCopy own a → new ≡ pages'
     ground_same pages pages' new e is h = is ∙ ap (λ (u : Option (List ℕ)). pages_given page u pages) (q_up ∙ gives_nothing own what page may (ground_lacks h).nothing) ∙ e
 
-    pub ground_answered : (pages : Option (List (List ℕ))) (own' : Table) → length bytes ≡ (file_of own).page_size → IsOfGround pages own what page bytes → Takes own own' a → IsAnswered pages own own' what page
+    pub ground_answered : (pages : Option (List (List ℕ))) (own' : Table) → length bytes ≡ (file_of own).page_size → IsOfGround pages own what page bytes → Takes own own' a → IsAnswered pages (record { ops = ops; first = first; second = second }) own own' what page
     ground_answered pages own' long of c = record {
       bytes = bytes;
       read = of;
+      frames = record { asks = asked; answers = answered };
       change = frames.answer_made ops own page what bytes may own' (λ h. long) (subst (Takes own own') a_is c);
     }
 

@@ -10,6 +10,8 @@ pub mod Using
 pub mod Pairs
 pub mod Singles
 pub mod Sending
+pub mod Going
+pub mod Taking
 pub mod Lent
 pub mod Fresh
 pub mod Copies

@@ -31,6 +31,8 @@ use Rattle.page_exchange.specs.Table.{file_of, frames_of, is_layer, uses_asked, 
 use Rattle.page_exchange.specs.Allowed.{AllowAsking, AllowCalling}
 use Rattle.page_exchange.specs.Exchange.{IsPair, IsOwnChange, IsAboveChange, LacksCopy, may_be_full}
 use Rattle.page_exchange.specs.Moved.{AreExchangedAt}
+use Rattle.page_exchange.specs.Wire.{WentOver, WireSeen}
+use Rattle.page_messages.specs.Written.{asked_by, called_of}
 use Rattle.page_exchange.specs.Steps.{step_asked, step_called}
 use Rattle.page_exchange.proofs.Moved.{exchanged_between}
 use Rattle.page_exchange.specs.Listed.{side_seen, sides_in, uses_seen, uses_in, held_in, FramesAllow, IsTableOf, AreTablesOf, AreTablesWith, AreSameTables, LacksRoom, UsesFollow}
@@ -207,6 +209,19 @@ module _ (shape : TreeShape) (xs ys : List Table) (node : ℕ) (own own' : Table
   called_moved page what d o a =
       subst (λ (s : Side). AreExchangedAt shape node page (called_right what) None (called_up s what) (sides_in xs) (sides_in ys)) (sym (at_own page))
       (exchanged page (about_called what page) (called_right what) None (called_up (tables.side own page) what) (uses_called what page (uses_of own)) (orders_of_page what page d) o a)
+
+  pub asked_frames : (wire : WireSeen) (page : ℕ) (what : Asked) → WentOver wire (file_of own) (asked_by (tables.side own page) (side upper page).copy page what)
+      → (file : PagedFile) → AreTablesOf shape file xs → WentOver wire file (asked_by (sides_in xs page node) (sides_in xs page (parent shape node)).copy page what)
+  asked_frames wire page what went file are =
+      subst (λ (s : Side). WentOver wire file (asked_by s (sides_in xs page (parent shape node)).copy page what)) (sym (at_own page))
+      (subst (λ (s : Side). WentOver wire file (asked_by (tables.side own page) s.copy page what)) (sym (at_above page))
+      (subst (λ (f : PagedFile). WentOver wire f (asked_by (tables.side own page) (side upper page).copy page what)) (are.each node own two.old_own).file_is went))
+
+  pub called_frames : (wire : WireSeen) (page : ℕ) (what : Called) → WentOver wire (file_of own) (called_of (tables.side own page) page what)
+      → (file : PagedFile) → AreTablesOf shape file xs → WentOver wire file (called_of (sides_in xs page node) page what)
+  called_frames wire page what went file are =
+      subst (λ (s : Side). WentOver wire file (called_of s page what)) (sym (at_own page))
+      (subst (λ (f : PagedFile). WentOver wire f (called_of (tables.side own page) page what)) (are.each node own two.old_own).file_is went)
 
   pub still : tables.IsLeft own own' → layers.IsLeft upper upper' → AreSameTables xs ys
   still lo lu = record {

@@ -92,7 +92,7 @@ called_sent shape told page node Called.DeleteRange old new of_page apart x = re
 called_sent shape told page node Called.Destroy old new of_page apart x = absurd (of_page refl)
 
 -- THE PARENT IS A NODE: the bytes are its copy, and nothing comes up to the ground
-no_ground : (shape : TreeShape) (node : ℕ) → IsUpper shape (parent shape node) → (parent shape node == 0) ≡ false
+pub no_ground : (shape : TreeShape) (node : ℕ) → IsUpper shape (parent shape node) → (parent shape node == 0) ≡ false
 no_ground shape node above = elim (eqb_tells (parent shape node) 0) [
   | inl same ↦ let e = same.1 in let a = above.above in absurd (omega (arith, e, a))
   | inr other ↦ other.0

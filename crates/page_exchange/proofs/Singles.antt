@@ -27,13 +27,16 @@ use Rattle.page_exchange.specs.Table.{file_of, frames_of, side, uses_asked, uses
 use Rattle.page_exchange.specs.Allowed.{AllowCalling}
 use Rattle.page_exchange.specs.Exchange.{IsOwnChange}
 use Rattle.page_exchange.specs.Ground.{IsAnswered}
-use Rattle.page_exchange.specs.Moved.{AreExchangedAt}
+use Rattle.page_exchange.specs.Moved.{AreAskedAt, AreExchangedAt}
+use Rattle.page_exchange.specs.Wire.{WentOver, WireSeen}
 use Rattle.page_exchange.specs.Steps.{AreSentAt, IsSent, step_asked, step_called}
 use Rattle.page_exchange.proofs.Moved.{exchanged_with_ground}
 use Rattle.page_exchange.proofs.Owns.{like_same}
 use Rattle.page_exchange.specs.Listed.{side_seen, sides_in, uses_seen, uses_in, held_in, FramesAllow, IsTableOf, AreTablesOf, UsesFollow}
 use Rattle.page_exchange.proofs.Pairs.{asks_of_page, orders_of_page, still_of, table_asks, table_obeys}
 use Rattle.page_exchange.proofs.Sending.{asked_sent, called_sent, read_above}
+use Rattle.page_exchange.proofs.Going.{asked_at, base_above}
+use Rattle.page_messages.specs.Written.{asked_by, called_of}
 use Rattle.page_exchange.proofs.Using.{asked_after, asked_other, called_after, called_other, reads_after, reads_other, writes_after, writes_other}
 
 pub record IsOne (xs ys : List Table) (node : ℕ) (own own' : Table) : Type 0 where
@@ -169,12 +172,21 @@ module _ (shape : TreeShape) (file : PagedFile) (xs ys : List Table) (node : ℕ
     apart : parent shape node < node
     apart = let a = upper.above in omega (arith, a, ground)
 
-    pub answered_sent : (told : Option (List (List ℕ))) (what : Asked) → what ≢ Asked.Done → MayAsk (sides_in xs page node) what → IsAnswered told own own' what page
+    pub answered_sent : (told : Option (List (List ℕ))) (wire : WireSeen) (what : Asked) → what ≢ Asked.Done → MayAsk (sides_in xs page node) what → IsAnswered told wire own own' what page
         → IsSent shape told page (step_asked what node) (sides_in xs) (sides_in ys)
-    answered_sent told what of_page may answered = asked_sent shape told page node what (sides_in xs) (sides_in ys) answered.bytes of_page apart may
+    answered_sent told wire what of_page may answered = asked_sent shape told page node what (sides_in xs) (sides_in ys) answered.bytes of_page apart may
         (read_above shape told page (sides_in xs page) node what answered.bytes ground (λ asks none. answered.read asks (sym (ap (λ (s : Side). s.right) (at_own page)) ∙ none)))
         (asked_moved page what answered.bytes ground of_page answered.change)
 
     pub obeyed_sent : (told : Option (List (List ℕ))) (what : Called) → what ≢ Called.Destroy → IsOwnChange own own' (about_called what page) (called_right what) None (uses_called what page (uses_of own))
         → IsSent shape told page (step_called what node) (sides_in xs) (sides_in ys)
     obeyed_sent told what of_page change = called_sent shape told page node what (sides_in xs) (sides_in ys) of_page apart (called_moved page what ground of_page change)
+
+    pub answered_frames : (told : Option (List (List ℕ))) (wire : WireSeen) (what : Asked) → what ≢ Asked.Done → IsAnswered told wire own own' what page → AreAskedAt shape wire file node page what (sides_in xs) (sides_in ys)
+    answered_frames told wire what of_page answered = asked_at shape wire file node page what (sides_in xs) (sides_in ys) answered.bytes answered.bytes (base_above shape (sides_in xs page) node answered.bytes ground)
+        (asked_moved page what answered.bytes ground of_page answered.change)
+        (subst (λ (s : Side). WentOver wire file (asked_by s answered.bytes page what)) (sym (at_own page)) (subst (λ (f : PagedFile). WentOver wire f (asked_by (side own page) answered.bytes page what)) own_file answered.frames))
+
+  pub called_frames : (wire : WireSeen) (page : ℕ) (what : Called) → WentOver wire (file_of own) (called_of (side own page) page what) → WentOver wire file (called_of (sides_in xs page node) page what)
+  called_frames wire page what went =
+      subst (λ (s : Side). WentOver wire file (called_of s page what)) (sym (at_own page)) (subst (λ (f : PagedFile). WentOver wire f (called_of (side own page) page what)) own_file went)

@@ -4,6 +4,9 @@ use Rattle.tower_core.specs.declared.right.Right.{Right}
 use Rattle.layer_laws.specs.Side.{Side, own_after, kid_after}
 use Rattle.page_messages.specs.declared.kinds.Asked.{Asked}
 use Rattle.page_messages.specs.declared.paged.About.{About}
+use Rattle.page_messages.specs.declared.refusal.NodeErr.{NodeErr}
+use Rattle.page_messages.specs.declared.refusal.NodeErr.TheVariants as errors
+use Rattle.page_messages.specs.Written.{Letters, asked_of}
 use Rattle.coherency_layer.specs.declared.node.Node.{Node}
 use Rattle.coherency_layer.specs.Node as layers
 use Rattle.page_exchange.specs.declared.table.Table.{Table}
@@ -42,3 +45,15 @@ pub record IsAboveChange (old new : Node) (node : ℕ) (about : About) (right : 
 pub record LacksCopy (table : Table) (page : ℕ) : Type 0 where
   pub nothing : (side table page).right ≡ Right.Nothing
   pub no_copy : (side table page).copy ≡ []
+
+-- the parent's table has the node's right
+abbrev pub Knows : Node → Table → ℕ → ℕ → Type 0
+Knows above own node page = (layers.side above page).kids node ≡ (side own page).right
+
+-- what goes over the wire for a question: each of the two writes by its own table
+abbrev pub letters_asked : Table → Node → ℕ → ℕ → Asked → Letters
+letters_asked own above node page what = asked_of (side own page) ((layers.side above page).kids node) (layers.side above page).copy page what
+
+-- why a question was not answered, where the parent knows the node's right
+abbrev pub IsLack : Table → ℕ → NodeErr → Type 0
+IsLack own page err = (err ≡ errors.Memory) × LacksCopy own page

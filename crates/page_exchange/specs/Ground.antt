@@ -7,12 +7,14 @@ use Rattle.page_ground.specs.Seen.{Seen, IsCalm, IsFault, Keeps, ReadsPage, with
 use Rattle.page_messages.specs.declared.kinds.Asked.{Asked}
 use Rattle.page_messages.specs.Carried.{asked_down}
 use Rattle.page_messages.specs.Rights.{IsForPage, asked_right}
+use Rattle.page_messages.specs.Written.{asked_by}
 use Rattle.coherency_layer.specs.Node.{about_asked}
 use Rattle.page_exchange.specs.declared.table.Table.{Table}
 use Rattle.page_exchange.specs.Table.{file_of, side, uses_asked, uses_of}
 use Rattle.page_exchange.specs.declared.ground.GroundErr.{GroundErr}
 use Rattle.page_exchange.specs.declared.ground.GroundErr.TheVariants as errors
 use Rattle.page_exchange.specs.Exchange.{IsOwnChange, LacksCopy}
+use Rattle.page_exchange.specs.Wire.{WentOver, WireSeen}
 
 -- the ground has the pages of the node's file
 pub record IsUnder (ground : Seen) (table : Table) : Type 0 where
@@ -44,10 +46,11 @@ IsCalmCall before after = (after ≡ before) ⊎ IsCalm before after
 abbrev pub IsOfGround : Option (List (List ℕ)) → Table → Asked → ℕ → List ℕ → Type 0
 IsOfGround pages table what page bytes = IsForPage what → (side table page).right ≡ Right.Nothing → ReadsPage pages page bytes
 
--- the node's own table after the ground's answer, where the page has these bytes
-pub record IsAnswered (pages : Option (List (List ℕ))) (old new : Table) (what : Asked) (page : ℕ) : Type 0 where
+-- the ground's answer, where the page has these bytes: the frames that went, and the node's own table after it
+pub record IsAnswered (pages : Option (List (List ℕ))) (wire : WireSeen) (old new : Table) (what : Asked) (page : ℕ) : Type 0 where
   pub bytes : List ℕ
   pub read : IsOfGround pages old what page bytes
+  pub frames : WentOver wire (file_of old) (asked_by (side old page) bytes page what)
   pub change : IsOwnChange old new (about_asked what page) (asked_right what) (asked_down (side old page).right bytes what) (uses_asked what page (uses_of old))
 
 -- when each error comes

@@ -8,6 +8,8 @@ use Rattle.page_messages.specs.declared.kinds.Asked.{Asked}
 use Rattle.page_messages.specs.declared.kinds.Called.{Called}
 use Rattle.page_messages.specs.declared.paged.About.{About}
 use Rattle.page_messages.specs.declared.paged.PagedFile.{PagedFile}
+use Rattle.page_messages.specs.declared.refusal.NodeErr.{NodeErr}
+use Rattle.page_messages.specs.declared.refusal.NodeErr.TheVariants as errors
 use Rattle.page_messages.specs.Letters.{reply}
 use Rattle.page_messages.specs.Paged.{page_about}
 use Rattle.page_messages.specs.Rules.{MayObey}
@@ -118,6 +120,11 @@ Takes old new f = ⊥
 abbrev pub IsForFirstCopy : Table → FrameSeen → Type 0
 IsForFirstCopy (Layer node) f = layers.IsForFirstCopy node f
 IsForFirstCopy (Leaf leaf) f = leaves.IsForFirstCopy leaf f
+
+-- why an answer is not taken: the table does not allow it, or memory lacks for a first copy
+abbrev pub IsNotTaken : Table → FrameSeen → NodeErr → Type 0
+IsNotTaken table f (errors.NotAllowed page) = AllowsAnswer table f → ⊥
+IsNotTaken table f errors.Memory = IsForFirstCopy table f
 
 -- what the node replies to an order
 abbrev pub reply_to : Ops → Table → Called → About → FrameSeen

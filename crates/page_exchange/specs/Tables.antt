@@ -9,6 +9,7 @@ use Rattle.page_messages.specs.declared.paged.PagedFile.{PagedFile}
 use Rattle.page_exchange.specs.declared.ground.GroundErr.{GroundErr}
 use Rattle.page_exchange.specs.declared.ground.GroundErr.TheVariants as errors
 use Rattle.page_exchange.specs.declared.tables.Tables.{Tables}
+use Rattle.page_exchange.specs.Wire.{WireSeen}
 use Rattle.page_exchange.specs.Listed.{held_in, sides_in, uses_in, FramesAllow, LacksRoom, UsesFollow}
 
 -- WHAT CONTRACTS SEE OF THE TABLES: the tree, the file, and by page and node that node's own table
@@ -25,6 +26,10 @@ sides t = sides_in t.nodes.items
 abbrev pub uses : Tables → ℕ → List ℕ
 uses t = uses_in t.nodes.items
 
+-- the frames that went last between two of them, or between one and the ground
+abbrev pub wire_of : Tables → WireSeen
+wire_of t = t.wire
+
 -- the frames of a node allow that it asks
 abbrev pub MayAskFrames : Tables → ℕ → Asked → ℕ → Type 0
 MayAskFrames t node what page = FramesAllow (frames_of t.tree node) (held_in (sides t) t.file.pages node) (sides t page node).right (uses t node) what page
@@ -37,6 +42,7 @@ Follow page step old new = UsesFollow old.tree page step (uses old) (uses new)
 pub record IsSameFile (old new : Tables) : Type 0 where
   pub tree : tree_of new ≡ tree_of old
   pub file : paged_of new ≡ paged_of old
+  pub ops : (wire_of new).ops ≡ (wire_of old).ops
 
 -- no table differs
 pub record AreLeft (old new : Tables) : Type 0 where

@@ -6,11 +6,13 @@ ghost use Rattle.pager_channel.specs.Flags.{has_data};
 ghost use Rattle.page_messages.specs.Carried.{asked_down, asked_up, called_up};
 ghost use Rattle.page_messages.specs.Kinds.{bytes_up};
 ghost use Rattle.page_messages.specs.Rights.{IsForPage, asked_right, called_right};
+ghost use Rattle.page_messages.specs.Written.{called_of};
 ghost use Rattle.coherency_layer.specs.Node.{about_called};
 ghost use Rattle.vmm_cache.specs.Uses.{uses_called};
 ghost use Rattle.page_exchange.specs.Table.{file_of, side, uses_of, MayAskAbout, MayObeyAbout, IsLeft};
 ghost use Rattle.page_exchange.specs.Exchange.{IsOwnChange};
 ghost use Rattle.page_exchange.specs.Ground.{IsUnder, pages_given, IsOneCall, IsCalmCall, IsOfGround, IsAnswered, IsWhy, UnlessFault};
+ghost use Rattle.page_exchange.specs.Wire.{WentOver};
 
 use crate::steps::{answer_of_ground, ask, obey, order_of_ground, sent};
 use crate::table::Table;
@@ -113,13 +115,14 @@ impl Wire {
         requires under { IsUnder (G.seen ground.old) own.old }
         requires may { MayAskAbout own.old what page }
         requires scratch { length scratch.old ≡ (file_of own.old).page_size }
-        ensures own { OnOk result (IsAnswered (G.seen ground.old).pages own.old own.new what page) }
+        ensures own { OnOk result (IsAnswered (G.seen ground.old).pages self.new own.old own.new what page) }
         ensures ground { OnOk result ((G.seen ground.new).pages ≡ pages_given page (asked_up (side own.old page) what) (G.seen ground.old).pages) }
         ensures why { IfErr result (IsWhy (G.seen ground.old) (G.seen ground.new) own.old page) }
         ensures own_left { OnErr result (IsLeft own.old own.new) }
         ensures ground_left { OnErr result ((G.seen ground.new).pages ≡ (G.seen ground.old).pages) }
         ensures call { IsOneCall (G.seen ground.old) (G.seen ground.new) }
         ensures calm { UnlessFault result (IsCalmCall (G.seen ground.old) (G.seen ground.new)) }
+        ensures ops { self.new.ops ≡ self.old.ops }
         ensures scratch { length scratch.new ≡ length scratch.old }
         ensures idle { (IsForPage what → (side own.old page).right ≢ Right.Nothing) → asked_up (side own.old page) what ≡ None →
             G.seen ground.new ≡ G.seen ground.old }
@@ -127,7 +130,15 @@ impl Wire {
         ask(own, &self.ops, what, page, &mut self.first);
         let question = sent(&self.ops, &self.first);
         read_for(ground, own, what, page, scratch)?;
-        answer_of_ground(own, &self.ops, what, page, scratch, &mut self.second);
+        answer_of_ground(
+            own.file(),
+            own.right(page),
+            &self.ops,
+            what,
+            page,
+            scratch,
+            &mut self.second,
+        );
         let answer = sent(&self.ops, &self.second);
         write_for(ground, &question, page)?;
         own.take(&answer)?;
@@ -148,6 +159,8 @@ impl Wire {
         requires obeys { MayObeyAbout own.old what page }
         ensures own { OnOk result (IsOwnChange own.old own.new (about_called what page) (called_right what) None (uses_called what page (uses_of own.old))) }
         ensures ground { OnOk result ((G.seen ground.new).pages ≡ pages_given page (called_up (side own.old page) what) (G.seen ground.old).pages) }
+        ensures went { OnOk result (WentOver self.new (file_of own.old) (called_of (side own.old page) page what)) }
+        ensures ops { self.new.ops ≡ self.old.ops }
         ensures fault { IfErr result (IsFault (G.seen ground.old) (G.seen ground.new)) }
         ensures own_left { OnErr result (IsLeft own.old own.new) }
         ensures ground_left { OnErr result ((G.seen ground.new).pages ≡ (G.seen ground.old).pages) }
@@ -155,7 +168,7 @@ impl Wire {
         ensures calm { OnOk result (IsCalmCall (G.seen ground.old) (G.seen ground.new)) }
         ensures idle { called_up (side own.old page) what ≡ None → G.seen ground.new ≡ G.seen ground.old }
     {
-        order_of_ground(own, &self.ops, what, page, &mut self.first);
+        order_of_ground(own.file(), &self.ops, what, page, &mut self.first);
         let order = sent(&self.ops, &self.first);
         obey(own, &self.ops, &order, &mut self.second);
         let reply = sent(&self.ops, &self.second);

@@ -7,7 +7,7 @@ ghost use Rattle.page_messages.specs.declared.kinds.Called.{Called as AnOrder};
 ghost use Rattle.page_messages.specs.declared.paged.About.{About as AnAbout};
 ghost use Rattle.page_messages.specs.Kinds.{asked_in, called_in};
 ghost use Rattle.page_messages.specs.Letters.{question, answer, order};
-ghost use Rattle.page_messages.specs.Paged.{about_of};
+ghost use Rattle.page_messages.specs.Paged.{IsPagedFile, about_of};
 ghost use Rattle.page_messages.specs.Sealed.{sealed};
 ghost use Rattle.coherency_layer.specs.Node as layers;
 ghost use Rattle.vmm_cache.specs.Leaf as leaves;
@@ -15,10 +15,12 @@ ghost use Rattle.page_exchange.specs.Table.{file_of, side, MayAskAbout, AllowsOr
 ghost use Rattle.page_exchange.specs.Wire.{HasRoom, AreSent};
 
 use crate::table::Table;
-use coherency_layer::{Asked, Called, Node, NodeErr};
+use coherency_layer::{Asked, Called, Node, NodeErr, PagedFile};
 use marshal_buf::Buf;
+use page_messages::Letter;
 use pager_channel::{Frame, Ops, read_frame};
 use std::alloc::AllocError;
+use tower_core::Right;
 use vmm_cache::Leaf;
 
 /// The frame that was written, read from its bytes.
@@ -62,40 +64,40 @@ pub(crate) fn call(node: &Node, ops: &Ops, child: u32, what: Called, page: u32, 
     }
 }
 
-/// The ground answers a node that asks, where the page has these bytes.
+/// The ground answers a node of this right that asks, where the page has these bytes. It has no table.
 pub(crate) fn answer_of_ground(
-    table: &Table,
+    file: PagedFile,
+    right: Right,
     ops: &Ops,
     what: Asked,
     page: u32,
     bytes: &[u8],
     buf: &mut Buf,
 )
-    requires page { page < (file_of table.now).pages }
-    requires bytes { length bytes.now ≡ (file_of table.now).page_size }
+    requires file { IsPagedFile file }
+    requires bytes { length bytes.now ≡ file.page_size }
     requires room { HasRoom buf.old }
-    ensures sent { AreSent ops.now buf.new.bytes (sealed ops.now (file_of table.now) page (answer (side table.now page).right bytes.now what)) }
+    ensures sent { AreSent ops.now buf.new.bytes (sealed ops.now file page (answer right bytes.now what)) }
     ensures room { HasRoom buf.new }
 {
-    // Only the proof needs this: that a page of the file has 4096 bytes at most.
-    let _file = table.file();
     buf.clear();
-    match table.put_answer_of_ground(ops, what, page, bytes, buf) {
+    let letter = Letter::answer(right, bytes, what);
+    match file.put(ops, page, &letter, buf) {
         Ok(()) => {}
         Err(_) => unreachable!(),
     }
 }
 
-/// The ground orders a node.
-pub(crate) fn order_of_ground(table: &Table, ops: &Ops, what: Called, page: u32, buf: &mut Buf)
+/// The ground orders a node. It has no table.
+pub(crate) fn order_of_ground(file: PagedFile, ops: &Ops, what: Called, page: u32, buf: &mut Buf)
+    requires file { IsPagedFile file }
     requires room { HasRoom buf.old }
-    ensures sent { AreSent ops.now buf.new.bytes (sealed ops.now (file_of table.now) page (order what)) }
+    ensures sent { AreSent ops.now buf.new.bytes (sealed ops.now file page (order what)) }
     ensures room { HasRoom buf.new }
 {
-    // Only the proof needs this: that a page of the file has 4096 bytes at most.
-    let _file = table.file();
     buf.clear();
-    match table.put_order_of_ground(ops, what, page, buf) {
+    let letter = Letter::order(what);
+    match file.put(ops, page, &letter, buf) {
         Ok(()) => {}
         Err(_) => unreachable!(),
     }

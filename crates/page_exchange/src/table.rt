@@ -1,17 +1,17 @@
 //! A node's own table: that of a layer, or that of a leaf.
 
-ghost use Rattle.std.specs.Prelude.{◌≡◌, ◌<◌, ◌≤◌, ◌+◌, ◌^◌, ℕ, OnOk, OnErr, IsOk, length};
+ghost use Rattle.std.specs.Prelude.{◌≡◌, ◌<◌, ◌≤◌, ◌+◌, ◌^◌, ℕ, OnOk, OnErr, IfErr, IsOk, length};
 ghost use Rattle.marshal_buf.specs.Held.{IsAsBefore};
 ghost use Rattle.pager_channel.specs.Frame.{IsFrame};
-ghost use Rattle.page_messages.specs.Letters.{question, answer, order};
+ghost use Rattle.page_messages.specs.Letters.{question};
 ghost use Rattle.page_messages.specs.Paged.{IsPagedFile};
 ghost use Rattle.page_messages.specs.Sealed.{sealed, PutsFrame};
 ghost use Rattle.coherency_layer.specs.Node as layers;
 ghost use Rattle.vmm_cache.specs.Leaf as leaves;
 ghost use Rattle.std.specs.Prelude.{None};
-ghost use Rattle.page_exchange.specs.Table.{file_of, side, uses_of, frames_of, MayAskAbout, AllowsOrder, AllowsAnswer, Obeys, Takes, IsForFirstCopy, IsLeft};
+ghost use Rattle.page_exchange.specs.Table.{file_of, side, uses_of, frames_of, MayAskAbout, AllowsOrder, AllowsAnswer, Obeys, Takes, IsForFirstCopy, IsLeft, IsNotTaken};
 
-use coherency_layer::{Asked, Called, Node, NodeErr, PagedFile};
+use coherency_layer::{Asked, Node, NodeErr, PagedFile};
 use marshal_buf::Buf;
 use pager_channel::{Frame, Ops};
 use std::alloc::AllocError;
@@ -76,47 +76,6 @@ impl Table {
         }
     }
 
-    /// Puts what the ground answers, where the page has these bytes.
-    pub(crate) fn put_answer_of_ground(
-        &self,
-        ops: &Ops,
-        what: Asked,
-        page: u32,
-        bytes: &[u8],
-        buf: &mut Buf,
-    ) -> Result<(), AllocError>
-        requires page { page < (file_of self.now).pages }
-        requires bytes { length bytes.now ≡ (file_of self.now).page_size }
-        requires few { length buf.old.bytes < 2 ^ 31 }
-        ensures ok { OnOk result (PutsFrame (sealed ops.now (file_of self.now) page (answer (side self.now page).right bytes.now what)) buf.old buf.new) }
-        ensures frame { IsFrame ops.now (sealed ops.now (file_of self.now) page (answer (side self.now page).right bytes.now what)) }
-        ensures room { 24 + (file_of self.now).page_size ≤ buf.old.spare → IsOk result }
-    {
-        match self {
-            Table::Layer { node } => node.ground_answer(ops, what, page, bytes, buf),
-            Table::Leaf { leaf } => leaf.ground_answer(ops, what, page, bytes, buf),
-        }
-    }
-
-    /// Puts what the ground orders the node to do.
-    pub(crate) fn put_order_of_ground(
-        &self,
-        ops: &Ops,
-        what: Called,
-        page: u32,
-        buf: &mut Buf,
-    ) -> Result<(), AllocError>
-        requires few { length buf.old.bytes < 2 ^ 31 }
-        ensures ok { OnOk result (PutsFrame (sealed ops.now (file_of self.now) page (order what)) buf.old buf.new) }
-        ensures frame { IsFrame ops.now (sealed ops.now (file_of self.now) page (order what)) }
-        ensures room { 24 + (file_of self.now).page_size ≤ buf.old.spare → IsOk result }
-    {
-        match self {
-            Table::Layer { node } => node.ground_order(ops, what, page, buf),
-            Table::Leaf { leaf } => leaf.ground_order(ops, what, page, buf),
-        }
-    }
-
     /// Makes the change of an order that was obeyed.
     pub(crate) fn finish(&mut self, frame: &Frame<'_>)
         requires { AllowsOrder self.old frame.now }
@@ -128,6 +87,18 @@ impl Table {
         }
     }
 
+    /// Takes the answer of the pager, if the table allows it. A refusal leaves the table.
+    pub(crate) fn accept(&mut self, frame: &Frame<'_>) -> Result<(), NodeErr>
+        ensures ok { OnOk result (Takes self.old self.new frame.now) }
+        ensures why { IfErr result (IsNotTaken self.old frame.now) }
+        ensures err { OnErr result (IsLeft self.old self.new) }
+    {
+        match self {
+            Table::Layer { node } => node.accept_reply(None, frame),
+            Table::Leaf { leaf } => leaf.accept_reply(frame),
+        }
+    }
+
     /// Takes the answer of the pager, which the table allows. An error is want of memory.
     pub(crate) fn take(&mut self, frame: &Frame<'_>) -> Result<(), AllocError>
         requires { AllowsAnswer self.old frame.now }
@@ -135,37 +106,10 @@ impl Table {
         ensures memory { OnErr result (IsForFirstCopy self.old frame.now) }
         ensures err { OnErr result (IsLeft self.old self.new) }
     {
-        match self {
-            Table::Layer { node } => take_layer(node, frame),
-            Table::Leaf { leaf } => take_leaf(leaf, frame),
+        match self.accept(frame) {
+            Ok(()) => Ok(()),
+            Err(NodeErr::Memory) => Err(AllocError),
+            Err(NodeErr::NotAllowed { .. }) => unreachable!(),
         }
-    }
-}
-
-/// A layer takes an answer of its pager that it allows.
-fn take_layer(node: &mut Node, frame: &Frame<'_>) -> Result<(), AllocError>
-    requires { layers.AllowsSecond node.old None frame.now }
-    ensures ok { OnOk result (layers.IsChange node.old node.new None frame.now) }
-    ensures memory { OnErr result (layers.IsForFirstCopy node.old frame.now) }
-    ensures err { OnErr result (layers.IsLeft node.old node.new) }
-{
-    match node.accept_reply(None, frame) {
-        Ok(()) => Ok(()),
-        Err(NodeErr::Memory) => Err(AllocError),
-        Err(NodeErr::NotAllowed { .. }) => unreachable!(),
-    }
-}
-
-/// A leaf takes an answer of its pager that it allows.
-fn take_leaf(leaf: &mut Leaf, frame: &Frame<'_>) -> Result<(), AllocError>
-    requires { leaves.AllowsSecond leaf.old frame.now }
-    ensures ok { OnOk result (leaves.IsSecondChange leaf.old leaf.new frame.now) }
-    ensures memory { OnErr result (leaves.IsForFirstCopy leaf.old frame.now) }
-    ensures err { OnErr result (leaves.IsLeft leaf.old leaf.new) }
-{
-    match leaf.accept_reply(frame) {
-        Ok(()) => Ok(()),
-        Err(NodeErr::Memory) => Err(AllocError),
-        Err(NodeErr::NotAllowed { .. }) => unreachable!(),
     }
 }

@@ -51,7 +51,10 @@ impl Tables {
     ghost use Rattle.page_exchange.specs.Ground.{IsCalmCall, IsOneCall, UnlessFault, pages_given};
     ghost use Rattle.page_exchange.specs.Steps.{AreSentAt, IsSent, NeedsGround, given_up, step_asked, step_called};
     ghost use Rattle.page_exchange.specs.Listed.{LacksRoom};
-    ghost use Rattle.page_exchange.specs.Tables.{tree_of, paged_of, sides, uses, AreLeft, Follow, IsCause, IsSameFile, IsUnderFile, MayAskFrames};
+    ghost use Rattle.page_messages.specs.Written.{called_of};
+    ghost use Rattle.page_exchange.specs.Moved.{AreAskedAt};
+    ghost use Rattle.page_exchange.specs.Wire.{WentOver};
+    ghost use Rattle.page_exchange.specs.Tables.{tree_of, paged_of, sides, uses, wire_of, AreLeft, Follow, IsCause, IsSameFile, IsUnderFile, MayAskFrames};
 
     /// The tables of the nodes of a tree for a file, of which nobody has anything. An error is want of memory.
     pub fn new(alloc: Global, tree: Tree, file: PagedFile, ops: Ops) -> Result<Tables, AllocError>
@@ -59,6 +62,7 @@ impl Tables {
         requires frames { (node : ℕ) → frames_of tree node ≤ 1024 }
         ensures tree { IfOk result (λ t. tree_of t ≡ tree) }
         ensures file { IfOk result (λ t. paged_of t ≡ file) }
+        ensures wire { IfOk result (λ t. wire_of t ≡ record { ops = ops; first = []; second = [] }) }
         ensures bare { IfOk result (λ t. AreBare (sides t)) }
         ensures unused { IfOk result (λ t. (node : ℕ) → uses t node ≡ []) }
     {
@@ -90,6 +94,15 @@ impl Tables {
         ensures paged { IsPagedFile result }
     {
         self.file
+    }
+
+    /// Lends the two frames that went last between two nodes, or between a node and the ground: a question or an order,
+    /// and its answer. Both are empty before the first.
+    pub fn frames(&self) -> (&[u8], &[u8])
+        ensures first { result.0.now ≡ (wire_of self.now).first }
+        ensures second { result.1.now ≡ (wire_of self.now).second }
+    {
+        self.wire.frames()
     }
 
     /// A node's own table.
@@ -163,6 +176,7 @@ impl Tables {
         requires frames { MayAskFrames self.old node what page }
         ensures sent { OnOk result (IsSent (tree_of self.old) (G.seen ground.old).pages page (step_asked what node) (sides self.old) (sides self.new)) }
         ensures follows { OnOk result (Follow page (step_asked what node) self.old self.new) }
+        ensures went { OnOk result (AreAskedAt (tree_of self.old) (wire_of self.new) (paged_of self.old) node page what (sides self.old) (sides self.new)) }
         ensures ground { OnOk result ((G.seen ground.new).pages ≡
             pages_given page (given_up (tree_of self.old) (step_asked what node) (sides self.old page)) (G.seen ground.old).pages) }
         ensures cause { IfErr result (IsCause (G.seen ground.old) (G.seen ground.new) (sides self.old page node)) }
@@ -189,6 +203,7 @@ impl Tables {
         requires known { (sides self.old page (parent (tree_of self.old) node)).kids node ≡ (sides self.old page node).right }
         ensures sent { (told : Option (List (List ℕ))) → OnOk result (IsSent (tree_of self.old) told page (step_asked what node) (sides self.old) (sides self.new)) }
         ensures follows { OnOk result (Follow page (step_asked what node) self.old self.new) }
+        ensures went { OnOk result (AreAskedAt (tree_of self.old) (wire_of self.new) (paged_of self.old) node page what (sides self.old) (sides self.new)) }
         ensures ground { given_up (tree_of self.old) (step_asked what node) (sides self.old page) ≡ None }
         ensures memory { IfErr result (λ e. e ≡ AnErr.Memory) }
         ensures cause { OnErr result (LacksRoom (sides self.old page node)) }
@@ -229,6 +244,7 @@ impl Tables {
             (sides self.old page (parent (tree_of self.old) node)).kids node ≡ (sides self.old page node).right }
         ensures sent { OnOk result (IsSent (tree_of self.old) (G.seen ground.old).pages page (step_asked what node) (sides self.old) (sides self.new)) }
         ensures follows { OnOk result (Follow page (step_asked what node) self.old self.new) }
+        ensures went { OnOk result (AreAskedAt (tree_of self.old) (wire_of self.new) (paged_of self.old) node page what (sides self.old) (sides self.new)) }
         ensures ground { OnOk result ((G.seen ground.new).pages ≡
             pages_given page (given_up (tree_of self.old) (step_asked what node) (sides self.old page)) (G.seen ground.old).pages) }
         ensures cause { IfErr result (IsCause (G.seen ground.old) (G.seen ground.new) (sides self.old page node)) }
@@ -262,6 +278,7 @@ impl Tables {
         requires may { AllowCalling (tree_of self.old) (sides self.old page) node what }
         ensures sent { OnOk result (IsSent (tree_of self.old) (G.seen ground.old).pages page (step_called what node) (sides self.old) (sides self.new)) }
         ensures follows { OnOk result (Follow page (step_called what node) self.old self.new) }
+        ensures went { OnOk result (WentOver (wire_of self.new) (paged_of self.old) (called_of (sides self.old page node) page what)) }
         ensures ground { OnOk result ((G.seen ground.new).pages ≡
             pages_given page (given_up (tree_of self.old) (step_called what node) (sides self.old page)) (G.seen ground.old).pages) }
         ensures fault { IfErr result (IsFault (G.seen ground.old) (G.seen ground.new)) }
@@ -285,6 +302,7 @@ impl Tables {
         requires may { AllowCalling (tree_of self.old) (sides self.old page) node what }
         ensures sent { (told : Option (List (List ℕ))) → IsSent (tree_of self.old) told page (step_called what node) (sides self.old) (sides self.new) }
         ensures follows { Follow page (step_called what node) self.old self.new }
+        ensures went { WentOver (wire_of self.new) (paged_of self.old) (called_of (sides self.old page node) page what) }
         ensures ground { given_up (tree_of self.old) (step_called what node) (sides self.old page) ≡ None }
         ensures same { IsSameFile self.old self.new }
     {
@@ -316,6 +334,7 @@ impl Tables {
         requires may { AllowCalling (tree_of self.old) (sides self.old page) node what }
         ensures sent { OnOk result (IsSent (tree_of self.old) (G.seen ground.old).pages page (step_called what node) (sides self.old) (sides self.new)) }
         ensures follows { OnOk result (Follow page (step_called what node) self.old self.new) }
+        ensures went { OnOk result (WentOver (wire_of self.new) (paged_of self.old) (called_of (sides self.old page node) page what)) }
         ensures ground { OnOk result ((G.seen ground.new).pages ≡
             pages_given page (given_up (tree_of self.old) (step_called what node) (sides self.old page)) (G.seen ground.old).pages) }
         ensures fault { IfErr result (IsFault (G.seen ground.old) (G.seen ground.new)) }
@@ -364,6 +383,7 @@ impl Tables {
         requires may { AllowsReading (sides self.old page node) }
         ensures sides { (p m : ℕ) → sides self.new p m ≡ sides self.old p m }
         ensures follows { Follow page (Reads node) self.old self.new }
+        ensures wire { wire_of self.new ≡ wire_of self.old }
         ensures same { IsSameFile self.old self.new }
     {
         let own = &mut self.nodes[node as usize];
@@ -378,6 +398,7 @@ impl Tables {
         requires range { off + length bytes.now ≤ (paged_of self.old).page_size }
         ensures written { AreSentAt (tree_of self.old) page (Some (overwritten (sides self.old page node).copy off bytes.now)) (Writes node) (sides self.old) (sides self.new) }
         ensures follows { Follow page (Writes node) self.old self.new }
+        ensures wire { wire_of self.new ≡ wire_of self.old }
         ensures same { IsSameFile self.old self.new }
     {
         let own = &mut self.nodes[node as usize];
@@ -391,6 +412,7 @@ impl Tables {
         requires may { AllowsWriting (sides self.old page node) }
         ensures written { AreSentAt (tree_of self.old) page (Some (replicate (paged_of self.old).page_size 0)) (Writes node) (sides self.old) (sides self.new) }
         ensures follows { Follow page (Writes node) self.old self.new }
+        ensures wire { wire_of self.new ≡ wire_of self.old }
         ensures same { IsSameFile self.old self.new }
     {
         let own = &mut self.nodes[node as usize];

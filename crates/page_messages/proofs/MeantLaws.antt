@@ -166,7 +166,7 @@ question_up ops file page s Asked.Sync = pushed_up 0 1 s.changed s.copy refl ref
 question_up ops file page s Asked.Done = refl
 
 -- bytes that are all zeros
-zeros_are : (bytes : List ℕ) → is_zeros bytes ≡ true → bytes ≡ replicate (length bytes) 0
+pub zeros_are : (bytes : List ℕ) → is_zeros bytes ≡ true → bytes ≡ replicate (length bytes) 0
 zeros_are [] h = refl
 zeros_are (x ∷ xs) h =
     let t = both (x == 0) (is_zeros xs) h in

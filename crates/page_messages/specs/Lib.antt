@@ -12,3 +12,4 @@ pub mod Slot
 pub mod After
 pub mod Message
 pub mod Seen
+pub mod Written

@@ -52,7 +52,7 @@ bytes_take n bytes fits i = elim (cases_lt i n) [
   | inr le ↦ rw (get_or_past (take n bytes) i 0 (omega (arith, length-take n bytes))) (omega arith)
 ]
 
-bytes_drop : (n : ℕ) (bytes : List ℕ) → IsBytes bytes → IsBytes (drop n bytes)
+pub bytes_drop : (n : ℕ) (bytes : List ℕ) → IsBytes bytes → IsBytes (drop n bytes)
 bytes_drop n bytes fits i = rw (get_or-drop n bytes i 0) (fits (n + i))
 
 taken_long : (n : ℕ) (bytes : List ℕ) → n ≤ length bytes → length (take n bytes) ≡ n
@@ -62,12 +62,12 @@ two_of : (bytes : List ℕ) → length bytes ≡ 2 → IsBytes bytes → number_
 unfolding number_of
 two_of bytes len fits = bytes_of_2 bytes _ len fits refl
 
-spelled : (n : ℕ) → ((part : List ℕ) → length part ≡ n → IsBytes part → number_bytes n (number_of n part) ≡ part) → (bytes : List ℕ) → IsBytes bytes → n ≤ length bytes → bytes ≡ number_bytes n (number_of n bytes) ++ drop n bytes
+pub spelled : (n : ℕ) → ((part : List ℕ) → length part ≡ n → IsBytes part → number_bytes n (number_of n part) ≡ part) → (bytes : List ℕ) → IsBytes bytes → n ≤ length bytes → bytes ≡ number_bytes n (number_of n bytes) ++ drop n bytes
 spelled n law bytes fits long =
     sym (take-append-drop n bytes)
     ∙ ap (λ (t : List ℕ). t ++ drop n bytes) (sym (law (take n bytes) (taken_long n bytes long) (bytes_take n bytes fits)) ∙ ap (number_bytes n) (number_of_part n bytes))
 
-spelled_at : (k n : ℕ) → ((part : List ℕ) → length part ≡ n → IsBytes part → number_bytes n (number_of n part) ≡ part) → (bytes : List ℕ) → IsBytes bytes → k + n ≤ length bytes → drop k bytes ≡ number_bytes n (number_of n (drop k bytes)) ++ drop (k + n) bytes
+pub spelled_at : (k n : ℕ) → ((part : List ℕ) → length part ≡ n → IsBytes part → number_bytes n (number_of n part) ≡ part) → (bytes : List ℕ) → IsBytes bytes → k + n ≤ length bytes → drop k bytes ≡ number_bytes n (number_of n (drop k bytes)) ++ drop (k + n) bytes
 spelled_at k n law bytes fits long =
     spelled n law (drop k bytes) (bytes_drop k bytes fits) (omega (arith, length-drop k bytes))
     ∙ ap (λ (t : List ℕ). number_bytes n (number_of n (drop k bytes)) ++ t) (drop-drop n k bytes)

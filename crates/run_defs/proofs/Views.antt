@@ -6,18 +6,10 @@ use Rattle.std.proofs.lemmas.Bool.{false≢true}
 use Rattle.std.proofs.lemmas.List.{length-map}
 use Rattle.std.proofs.lemmas.List.Quantifiers.{position-Some}
 use Rattle.tower_core.specs.TreeShape.{TreeShape, IsUpper}
-use Rattle.stack_accept.specs.declared.entries.Kind.{Kind}
-use Rattle.stack_accept.specs.declared.entries.Kind.TheVariants as kinds
 use Rattle.stack_accept.specs.declared.entries.NodeEntry.{NodeEntry}
 use Rattle.stack_accept.specs.Mount.{Mount, is_view}
-use Rattle.stack_accept.specs.Sound.{IsStorageKind, IsGroundNode, IsMount}
-
-storage_unseen : (kind : Kind) → IsStorageKind kind → is_view kind ≡ false
-storage_unseen kinds.Disk h = refl
-storage_unseen kinds.Mirror h = refl
-storage_unseen kinds.Coherency h = absurd h
-storage_unseen kinds.Dfs h = absurd h
-storage_unseen kinds.Vmm h = absurd h
+use Rattle.stack_accept.specs.Sound.{IsGroundNode, IsMount}
+use Rattle.stack_accept.proofs.KindLaws.{storage_unseen}
 
 -- the ground is no view
 above : (machines : List (List ℕ)) (nodes : List NodeEntry) (name : List ℕ) (node : ℕ) → ((d : NodeEntry) → IsGroundNode machines (slice_index_or nodes 0 d))

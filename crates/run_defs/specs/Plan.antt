@@ -15,12 +15,10 @@ use Rattle.script_text.specs.declared.script.Call.{Call}
 use Rattle.script_text.specs.declared.script.ClientLine.{ClientLine}
 use Rattle.script_text.specs.declared.script.Call.TheVariants.{Context, Bind, Unbind, List as ListNames, Open, Copy, Drop, Read, Write, Clear, Sync, Clean, Map, Unmap, Load, Store}
 use Rattle.script_text.specs.declared.script.Sub.{Sub}
-use Rattle.script_text.specs.declared.script.Sub.TheVariants.{Singleton, Cluster, Caching}
+use Rattle.script_text.specs.declared.script.Sub.TheVariants.{Singleton, Cluster, Caching, Reconnectable}
 use Rattle.script_text.specs.declared.script.Reply.{Reply}
 use Rattle.script_text.specs.declared.script.Reply.TheVariants as replies
 use Rattle.stack_accept.specs.Mount.{Mount, number_in}
-use Rattle.sub_basic.specs.declared.TheConstants.{SINGLETON, CLUSTER}
-use Rattle.sub_caching.specs.declared.TheConstants.{CACHING}
 use Rattle.name_context.specs.declared.entry.NameCall.{NameCall}
 use Rattle.name_context.specs.declared.entry.NameCall.TheVariants as names_calls
 use Rattle.name_context.specs.declared.entry.NameErr.{NameErr}
@@ -31,6 +29,9 @@ use Rattle.name_context.specs.Listed.{listed}
 use Rattle.client_objects.specs.declared.state.ClientState.{ClientState}
 use Rattle.client_objects.specs.declared.target.Target.{Target}
 use Rattle.client_objects.specs.Objects.{OpenObject, object_of, with_object, without}
+use Rattle.text_words.specs.Words.{path_word}
+use Rattle.client_objects.specs.declared.kind.ObjectKind.{ObjectKind}
+use Rattle.client_objects.specs.declared.kind.ObjectKind.TheVariants as kinds
 use Rattle.client_objects.specs.Stored.{bound_object, received}
 use Rattle.client_objects.specs.Found.{node_of}
 use Rattle.memory_object.specs.declared.binding.CacheRights.{CacheRights}
@@ -135,14 +136,14 @@ asking_names call path = record { call = call; path = path; bound = None }
 abbrev pub plan_done : ClientState → NamesAsk → Plan
 plan_done state ask = plan_names state ask (λ names. ends replies.Done state)
 
-abbrev pub binding : List (List ℕ) → ℕ → ℕ → ℕ → NamesAsk
-binding path sub node file = record { call = names_calls.Bind; path = Some path; bound = Some (bound_object sub node file) }
+abbrev pub binding : List (List ℕ) → ObjectKind → ℕ → ℕ → NamesAsk
+binding path kind node file = record { call = names_calls.Bind; path = Some path; bound = Some (bound_object kind (path_word path) node file) }
 
 -- a view and a file of the stack are bound under a path, as an object of this subcontract
-abbrev pub plan_bind : ClientState → List (List ℕ) → ℕ → Option ℕ → Option ℕ → Plan
-plan_bind state path sub (Some node) (Some file) = plan_done state (binding path sub node file)
-plan_bind state path sub (Some node) None = unknown
-plan_bind state path sub None file = unknown
+abbrev pub plan_bind : ClientState → List (List ℕ) → ObjectKind → Option ℕ → Option ℕ → Plan
+plan_bind state path kind (Some node) (Some file) = plan_done state (binding path kind node file)
+plan_bind state path kind (Some node) None = unknown
+plan_bind state path kind None file = unknown
 
 abbrev pub plan_list : ClientState → Option (List (List ℕ)) → Plan
 plan_list state path = plan_names state (asking_names names_calls.List path) (λ names. ends (replies.Names (listed names path)) state)
@@ -261,21 +262,21 @@ plan_load state address len = plan_place state (translation state.regions addres
 abbrev pub plan_store : ClientState → ℕ → List ℕ → Plan
 plan_store state address bytes = plan_place state (translation state.regions address (length bytes) true) (storing bytes)
 
--- the identifier of a subcontract that the program has
-abbrev pub sub_id : Sub → Option ℕ
-sub_id Singleton = Some SINGLETON
-sub_id Cluster = Some CLUSTER
-sub_id Caching = Some CACHING
-sub_id sub = None
+-- the subcontract that a line names, if a line may bind objects of it: reconnectable objects come later
+abbrev pub kind_named : Sub → Option ObjectKind
+kind_named Singleton = Some kinds.Singleton
+kind_named Cluster = Some kinds.Cluster
+kind_named Caching = Some kinds.Caching
+kind_named Reconnectable = None
 
-abbrev pub plan_bind_as : ClientState → List (List ℕ) → Option ℕ → Option ℕ → Option ℕ → Plan
-plan_bind_as state path (Some sub) view file = plan_bind state path sub view file
+abbrev pub plan_bind_as : ClientState → List (List ℕ) → Option ObjectKind → Option ℕ → Option ℕ → Plan
+plan_bind_as state path (Some kind) view file = plan_bind state path kind view file
 plan_bind_as state path None view file = unknown
 
 -- what a call does, in this state of its client
 abbrev pub plan : Mount → ClientState → Call → Plan
 plan mount state (Context path) = plan_done state (asking_names names_calls.Context (Some path))
-plan mount state (Bind path sub view file) = plan_bind_as state path (sub_id sub) (view_of mount view) (file_named mount file)
+plan mount state (Bind path sub view file) = plan_bind_as state path (kind_named sub) (view_of mount view) (file_named mount file)
 plan mount state (Unbind path) = plan_done state (asking_names names_calls.Unbind (Some path))
 plan mount state (ListNames path) = plan_list state path
 plan mount state (Open name path) = plan_open mount state name path (object_of name state.objects)

@@ -22,7 +22,7 @@ use Rattle.tower_log.specs.Log.{entries_of, trail_of}
 use Rattle.stack_engine.specs.Moves.{answer_to}
 use Rattle.spr_volume.specs.Later.{AreAnswered, answer_by}
 use Rattle.file_stores.proofs.Lists.{some-is}
-use Rattle.run_files.specs.Run.{AreAnswersButBytes}
+use Rattle.run_files.specs.Begun.{AnswersButBytes, Begun}
 
 -- the plain file answers an access by the life of its node
 told-answer : (size now life : ℕ) (op : Op) (bytes : List ℕ) → answer_to now life op ≡ (told size now life op bytes).answer
@@ -78,5 +78,5 @@ module _ (shape : TreeShape) (size pages : ℕ) (opening : List ℕ) where
       answers-behind (trail ++ first.event ∷ []) log (subst (λ (s : State). IsRun shape pages s (trail_of log)) next run.1) (subst (λ (s : State). AreAnswered shape s log) next are.1) place entry at
       ∙ ap (λ (t : List Event). answer-at t entry.event) (append_assoc trail (first.event ∷ []) (take place (trail_of log)))
 
-  pub answers-but-bytes : (log : List Logged) → IsRun shape pages start (trail_of log) → AreAnswered shape start log → AreAnswersButBytes shape size opening log
-  answers-but-bytes log run are place entry at = answers-behind [] log run are place entry at
+pub answers-but-bytes : (b : Begun) (log : List Logged) → IsRun b.tree b.pages start (trail_of log) → AreAnswered b.tree start log → AnswersButBytes b log
+answers-but-bytes b log run are place entry at = answers-behind b.tree b.page_size b.pages b.opening.bytes [] log run are place entry at

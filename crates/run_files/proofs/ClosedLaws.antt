@@ -92,6 +92,6 @@ closed-now end closer t q made =
         from = latest;
         last = last_is;
         now = λ opening ps since.
-            let low = q.from_is in pages-now (tree_in e) (file_in e).page_size opening (events_in e) (trail_of q.start) more latest ps events_are idle (omega (arith, low)) since;
+            let low = q.from_is in pages-now (tree_in e) (file_in e).page_size opening.bytes (events_in e) (trail_of q.start) more latest ps events_are idle (omega (arith, low)) since;
       };
     }

@@ -24,36 +24,37 @@ use Rattle.tower_shows.specs.Since.{AreSince}
 use Rattle.tower_shows.proofs.Stays.{told_stays}
 use Rattle.stack_engine.specs.Answers.{KeepsWholePages, ShowsWhatItRead}
 use Rattle.stack_engine.specs.Engine.{EngineSeen, IsSound, events_in, file_in, log_in, sides_in, tree_in}
-use Rattle.stack_engine.specs.Opened.{AreAnswers, IsOf, KeepsPagesOf, KeepsSince, last_from}
+use Rattle.stack_engine.specs.Opened.{AreAnswers, IsOf, KeepsSince, last_from}
 use Rattle.stack_engine.specs.Start as engines
 use Rattle.spr_volume.specs.Needed.{AreNeeded}
 use Rattle.spr_volume.specs.Reads.{StandsByFirst}
 use Rattle.spr_volume.proofs.Kept.{kept_file}
 use Rattle.spr_volume.proofs.Reading.{needed_finds}
 use Rattle.spr_volume.specs.Later.{AreAnswered, AreLater, IsLater, IsNoteOf, IsOnDisk, KeepsFirst, TurnsFirst}
-use Rattle.run_defs.specs.declared.store.StoreKey.{StoreKey}
 use Rattle.run_defs.specs.Stack.{pages_of}
-use Rattle.file_stores.specs.Keys.{image_shape}
+use Rattle.file_stores.specs.Opening.{shape_of_file}
 use Rattle.file_stores.proofs.Lists.{some-is}
 use Rattle.run_files.specs.Held.{paged}
 use Rattle.run_files.specs.Play.{IsWhole}
-use Rattle.run_files.specs.Run.{IsOfDisks, IsOfFile, StandFor, pages_in, IsAlong, Holds, HoldsAll, IsAll, IsFrom, IsKept, synced_from}
+use Rattle.run_files.specs.Begun.{AnswersAs, BeganAs, Begun, HasPagesOf, Holds, HoldsAll, IsAll, IsAlong, IsFrom, IsSized, Opening, StandFor, begun_as, file_then, pages_in, synced_from}
+use Rattle.run_files.specs.Leaves.{IsKept}
+use Rattle.run_files.specs.Run.{IsOfDisks, IsOfFile}
 use Rattle.run_files.proofs.AnswerLaws.{answers-but-bytes}
 use Rattle.run_files.proofs.PageLaws.{image-many}
 
 -- the file that these pages began, if what lies under it tells them
 abbrev pub Began : Mount → ℕ → Seen → EngineSeen → Type 0
-Began mount file ground e = (opening : List ℕ) (told : List (List ℕ)) → ground.pages ≡ Some told
-    → length opening ≡ pages_of mount file * mount.page_size → ArePagesOf mount.page_size (pages_of mount file) opening told → IsOf opening e
+Began mount file ground e = (opening : Opening) (told : List (List ℕ)) → ground.pages ≡ Some told
+    → IsSized (begun_as mount file opening) → BeganAs (begun_as mount file opening) told → IsOf opening.bytes e
 
 -- an image became one of no lower generation, with pages that the file had at some place
-pub record IsTurnedIn (mount : Mount) (opening : List ℕ) (log : List Logged) (then now : Option Imaged) : Type 0 where
+pub record IsTurnedIn (b : Begun) (log : List Logged) (then now : Option Imaged) : Type 0 where
   pub old : Imaged
   pub new : Imaged
   pub was : then ≡ Some old
   pub is : now ≡ Some new
   pub later : old.generation ≤ new.generation
-  pub since : Holds mount opening log 0 new.pages
+  pub since : Holds b log 0 new.pages
 
 -- an engine that was opened over a ground, and closed later on
 pub record EngineRun (mount : Mount) (file : ℕ) (before after : Seen) (e0 e1 : EngineSeen) : Type 0 where
@@ -118,10 +119,10 @@ module _ (mount : Mount) (file : ℕ) (before after : Seen) (e0 e1 : EngineSeen)
       (subst (λ (l : List Logged). AreNeeded (tree_in e0) (file_in e0).pages (trail_of l) run.later.more) run.opens.no_log run.later.needed)))
 
   -- each file that has the pages which the log kept answers as the log does
-  kept-answers : StandsByFirst mount.tree → (opening : List ℕ) → length opening ≡ pages_of mount file * mount.page_size → KeepsPagesOf mount.page_size opening (log_in e1) → AreAnswers mount.tree mount.page_size opening (log_in e1)
+  kept-answers : StandsByFirst mount.tree → (opening : Opening) → IsSized (begun_as mount file opening) → HasPagesOf (begun_as mount file opening) (log_in e1) → AnswersAs (begun_as mount file opening) (log_in e1)
   kept-answers first opening long keeps =
       let shows : ShowsWhatItRead mount.tree mount.page_size (pages_of mount file) (log_in e1) (sides_in e1) = at-mount (λ t f. ShowsWhatItRead t f.page_size f.pages (log_in e1) (sides_in e1)) run.sound.shows in
-      (shows opening long (needed_finds mount.tree mount.page_size (pages_of mount file) opening (log_in e1) (at-mount (λ t f. IsTree t) run.sound.true_to.tree) first long
+      (shows opening.bytes long (needed_finds mount.tree mount.page_size (pages_of mount file) opening.bytes (log_in e1) (at-mount (λ t f. IsTree t) run.sound.true_to.tree) first long
       (at-mount (λ t f. IsRun t f.pages start (events_in e1)) run.sound.true_to.run) (at-mount (λ t f. AllByRecursion (FitsFile f.page_size f.pages) (events_in e1)) run.sound.true_to.fits) needed-is keeps)).1
 
   -- its log is the file's
@@ -131,8 +132,8 @@ module _ (mount : Mount) (file : ℕ) (before after : Seen) (e0 e1 : EngineSeen)
     fits = at-mount (λ t f. AllByRecursion (FitsFile f.page_size f.pages) (events_in e1)) run.sound.true_to.fits;
     few = run.sound.few;
     notes = subst (λ n. AllByRecursion (IsOfDisks n) (log_in e1)) same (notes-of (log_in e1) disks-later.notes);
-    answers = λ opening. answers-but-bytes mount.tree mount.page_size (pages_of mount file) opening (log_in e1) (at-mount (λ t f. IsRun t f.pages start (events_in e1)) run.sound.true_to.run) answered-is;
-    kept_file = kept_file mount.page_size (pages_of mount file) (log_in e1) (at-mount (λ t f. KeepsWholePages f.page_size f.pages (log_in e1)) run.sound.keeps);
+    answers = λ opening. answers-but-bytes (begun_as mount file opening) (log_in e1) (at-mount (λ t f. IsRun t f.pages start (events_in e1)) run.sound.true_to.run) answered-is;
+    kept_file = let found = kept_file mount.page_size (pages_of mount file) (log_in e1) (at-mount (λ t f. KeepsWholePages f.page_size f.pages (log_in e1)) run.sound.keeps) in (record { bytes = found.0 }, found.1, found.2);
     kept_answers = kept-answers first;
     needed = needed-is;
   }
@@ -143,83 +144,83 @@ module _ (mount : Mount) (file : ℕ) (before after : Seen) (e0 e1 : EngineSeen)
       notes-of (Noted note ∷ log) h = (few note.disk h.0, notes-of log h.1)
 
   -- the pages are told still
-  pub still-told : (opening : List ℕ) → IsOf opening e0 → (told : List (List ℕ)) × (after.pages ≡ Some told)
-  still-told opening of = some after.pages (subst (λ (g : Seen). IsSome g.pages) (sym run.ground) (run.later.of opening of).began.is_told)
+  pub still-told : (opening : Opening) → IsOf opening.bytes e0 → (told : List (List ℕ)) × (after.pages ≡ Some told)
+  still-told opening of = some after.pages (subst (λ (g : Seen). IsSome g.pages) (sym run.ground) (run.later.of opening.bytes of).began.is_told)
     where
       some : (o : Option (List (List ℕ))) → IsSome o → (told : List (List ℕ)) × (o ≡ Some told)
       some None h = absurd cc
       some (Some told) h = (told, refl)
 
   -- a file along its log
-  pub along-of : (opening : List ℕ) → IsOf opening e0 → IsAlong mount file opening (log_in e1)
+  pub along-of : (opening : Opening) → IsOf opening.bytes e0 → IsAlong (begun_as mount file opening) (log_in e1)
   along-of opening of =
-      let now : IsOf opening e1 = run.later.of opening of in
+      let now : IsOf opening.bytes e1 = run.later.of opening.bytes of in
       record {
-        size = at-mount (λ t f. length opening ≡ f.pages * f.page_size) now.began.sized;
-        legal = at-mount (λ t f. IsLegal t f.page_size f.pages opening (events_in e1)) now.began.legal;
-        answers = at-mount (λ t f. AreAnswers t f.page_size opening (log_in e1)) now.answers;
+        size = at-mount (λ t f. length opening.bytes ≡ f.pages * f.page_size) now.began.sized;
+        legal = at-mount (λ t f. IsLegal t f.page_size f.pages opening.bytes (events_in e1)) now.began.legal;
+        answers = at-mount (λ t f. AreAnswers t f.page_size opening.bytes (log_in e1)) now.answers;
       }
 
   -- behind a completed sync the ground's pages are those of the file from it on
-  pub shows-of : (opening : List ℕ) (from : ℕ) → IsOf opening e0 → last_from (events_in e1) ≡ Some from → IfSome after.pages (Holds mount opening (log_in e1) from)
+  pub shows-of : (opening : Opening) (from : ℕ) → IsOf opening.bytes e0 → last_from (events_in e1) ≡ Some from → IfSome after.pages (Holds (begun_as mount file opening) (log_in e1) from)
   shows-of opening from of last =
-      let now : IsOf opening e1 = run.later.of opening of in
-      subst (λ (g : Seen). IfSome g.pages (Holds mount opening (log_in e1) from)) (sym run.ground)
-      (at-mount (λ t f. IfSome e1.ground.pages (AreSince t f.page_size opening (events_in e1) from))
-      (told_stays (tree_in e1) (file_in e1).page_size (file_in e1).pages opening (events_in e1) (sides_in e1) e1.ground.pages from run.sound.true_to now.began (now.synced from last).ground))
+      let now : IsOf opening.bytes e1 = run.later.of opening.bytes of in
+      subst (λ (g : Seen). IfSome g.pages (Holds (begun_as mount file opening) (log_in e1) from)) (sym run.ground)
+      (at-mount (λ t f. IfSome e1.ground.pages (AreSince t f.page_size opening.bytes (events_in e1) from))
+      (told_stays (tree_in e1) (file_in e1).page_size (file_in e1).pages opening.bytes (events_in e1) (sides_in e1) e1.ground.pages from run.sound.true_to now.began (now.synced from last).ground))
 
   -- before any sync they are those of the file at some place
-  pub shows-first : (opening : List ℕ) → IsOf opening e0 → IfSome after.pages (Holds mount opening (log_in e1) 0)
+  pub shows-first : (opening : Opening) → IsOf opening.bytes e0 → IfSome after.pages (Holds (begun_as mount file opening) (log_in e1) 0)
   shows-first opening of =
-      let now : IsOf opening e1 = run.later.of opening of in
-      subst (λ (g : Seen). IfSome g.pages (Holds mount opening (log_in e1) 0)) (sym run.ground)
-      (at-mount (λ t f. IfSome e1.ground.pages (AreSince t f.page_size opening (events_in e1) 0))
-      (told_stays (tree_in e1) (file_in e1).page_size (file_in e1).pages opening (events_in e1) (sides_in e1) e1.ground.pages 0 run.sound.true_to now.began
+      let now : IsOf opening.bytes e1 = run.later.of opening.bytes of in
+      subst (λ (g : Seen). IfSome g.pages (Holds (begun_as mount file opening) (log_in e1) 0)) (sym run.ground)
+      (at-mount (λ t f. IfSome e1.ground.pages (AreSince t f.page_size opening.bytes (events_in e1) 0))
+      (told_stays (tree_in e1) (file_in e1).page_size (file_in e1).pages opening.bytes (events_in e1) (sides_in e1) e1.ground.pages 0 run.sound.true_to now.began
       (λ page place inside low high. record { place = place; not_before = omega arith; not_after = high; is = refl })))
 
   -- so they are from the last completed sync on, if there was one
-  pub shows-last : (opening : List ℕ) → IsOf opening e0 → IfSome after.pages (Holds mount opening (log_in e1) (synced_from (log_in e1)))
+  pub shows-last : (opening : Opening) → IsOf opening.bytes e0 → IfSome after.pages (Holds (begun_as mount file opening) (log_in e1) (synced_from (log_in e1)))
   shows-last opening of = by (last_from (events_in e1)) refl
     where
-      by : (o : Option ℕ) → last_from (events_in e1) ≡ o → IfSome after.pages (Holds mount opening (log_in e1) (unwrap_or o 0))
+      by : (o : Option ℕ) → last_from (events_in e1) ≡ o → IfSome after.pages (Holds (begun_as mount file opening) (log_in e1) (unwrap_or o 0))
       by None is = shows-first opening of
       by (Some from) is = shows-of opening from of is
 
   -- where nothing changed the file behind a sync, pages from there on are those that it has now
-  now-of : (w : IsWhole e1) (opening : List ℕ) (ps : List (List ℕ)) → Holds mount opening (log_in e1) w.from ps → ArePagesOf mount.page_size (length ps) (file_after mount.tree mount.page_size opening (events_in e1)).bytes ps
+  now-of : (w : IsWhole e1) (opening : Opening) (ps : List (List ℕ)) → Holds (begun_as mount file opening) (log_in e1) w.from ps → ArePagesOf mount.page_size (length ps) (file_then (begun_as mount file opening) (events_in e1)).bytes ps
   now-of w opening ps =
-      at-mount (λ t f. AreSince t f.page_size opening (events_in e1) w.from ps → ArePagesOf f.page_size (length ps) (file_after t f.page_size opening (events_in e1)).bytes ps) (w.now opening ps)
+      at-mount (λ t f. AreSince t f.page_size opening.bytes (events_in e1) w.from ps → ArePagesOf f.page_size (length ps) (file_after t f.page_size opening.bytes (events_in e1)).bytes ps) (w.now opening ps)
 
   -- and an image of it from there on is one of the whole file
-  pub all-of : (w : IsWhole e1) (key : StoreKey) (opening : List ℕ) (blocks : List (List ℕ)) → IsFrom mount key opening (log_in e1) w.from blocks → IsAll mount key opening (log_in e1) blocks
-  all-of w key opening blocks (found, is, since) =
-      (found, is, subst (λ n. ArePagesOf mount.page_size n (file_after mount.tree mount.page_size opening (events_in e1)).bytes found.pages) (image-many (image_shape mount key) blocks found is) (now-of w opening found.pages since))
+  pub all-of : (w : IsWhole e1) (opening : Opening) (blocks : List (List ℕ)) → IsFrom (begun_as mount file opening) (log_in e1) w.from blocks → IsAll (begun_as mount file opening) (log_in e1) blocks
+  all-of w opening blocks (found, is, since) =
+      (found, is, subst (λ n. ArePagesOf mount.page_size n (file_then (begun_as mount file opening) (events_in e1)).bytes found.pages) (image-many (shape_of_file mount file) blocks found is) (now-of w opening found.pages since))
 
   -- the pages of the ground are then those of the whole file
-  pub shows-all : (w : IsWhole e1) (opening : List ℕ) → IsOf opening e0 → IfSome after.pages (HoldsAll mount file opening (log_in e1))
+  pub shows-all : (w : IsWhole e1) (opening : Opening) → IsOf opening.bytes e0 → IfSome after.pages (HoldsAll (begun_as mount file opening) (log_in e1))
   shows-all w opening of =
-      let now : IsOf opening e1 = run.later.of opening of in
+      let now : IsOf opening.bytes e1 = run.later.of opening.bytes of in
       let many : IfSome e1.ground.pages (λ ps. length ps ≡ pages_of mount file) = at-mount (λ t f. IfSome e1.ground.pages (λ ps. length ps ≡ f.pages)) now.began.many in
       by after.pages (subst (λ (g : Seen). IfSome g.pages (λ ps. length ps ≡ pages_of mount file)) (sym run.ground) many) (shows-of opening w.from of w.last)
     where
-      by : (o : Option (List (List ℕ))) → IfSome o (λ ps. length ps ≡ pages_of mount file) → IfSome o (Holds mount opening (log_in e1) w.from) → IfSome o (HoldsAll mount file opening (log_in e1))
+      by : (o : Option (List (List ℕ))) → IfSome o (λ ps. length ps ≡ pages_of mount file) → IfSome o (Holds (begun_as mount file opening) (log_in e1) w.from) → IfSome o (HoldsAll (begun_as mount file opening) (log_in e1))
       by None many since = tt
-      by (Some ps) many since = subst (λ n. ArePagesOf mount.page_size n (file_after mount.tree mount.page_size opening (events_in e1)).bytes ps) many (now-of w opening ps since)
+      by (Some ps) many since = subst (λ n. ArePagesOf mount.page_size n (file_then (begun_as mount file opening) (events_in e1)).bytes ps) many (now-of w opening ps since)
 
   -- and what has other pages is behind
-  pub reached-of : (opening : List ℕ) (from : ℕ) → IsOf opening e0 → last_from (events_in e1) ≡ Some from → from ≤ length (events_in e1)
-  reached-of opening from of last = ((run.later.of opening of).synced from last).reached
+  pub reached-of : (opening : Opening) (from : ℕ) → IsOf opening.bytes e0 → last_from (events_in e1) ≡ Some from → from ≤ length (events_in e1)
+  reached-of opening from of last = ((run.later.of opening.bytes of).synced from last).reached
 
-  pub behind-of : (opening : List ℕ) (from : ℕ) → IsOf opening e0 → last_from (events_in e1) ≡ Some from → AreBehind (Holds mount opening (log_in e1) from) after
+  pub behind-of : (opening : Opening) (from : ℕ) → IsOf opening.bytes e0 → last_from (events_in e1) ≡ Some from → AreBehind (Holds (begun_as mount file opening) (log_in e1) from) after
   behind-of opening from of last =
-      subst (λ (g : Seen). AreBehind (Holds mount opening (log_in e1) from) g) (sym run.ground)
-      (at-mount (λ t f. AreBehind (AreSince t f.page_size opening (events_in e1) from) e1.ground) ((run.later.of opening of).synced from last).behind)
+      subst (λ (g : Seen). AreBehind (Holds (begun_as mount file opening) (log_in e1) from) g) (sym run.ground)
+      (at-mount (λ t f. AreBehind (AreSince t f.page_size opening.bytes (events_in e1) from) e1.ground) ((run.later.of opening.bytes of).synced from last).behind)
 
   -- the image of a disk, live or not
-  pub turned-of : (opening : List ℕ) (disk : ℕ) → IsOf opening e0 → (held_in after.disks disk ≡ held_in before.disks disk) ⊎ IsTurnedIn mount opening (log_in e1) (held_in before.disks disk) (held_in after.disks disk)
-  turned-of opening disk of = by (run.later.turned opening (held_in e0.ground.disks disk) disk of (inl refl))
+  pub turned-of : (opening : Opening) (disk : ℕ) → IsOf opening.bytes e0 → (held_in after.disks disk ≡ held_in before.disks disk) ⊎ IsTurnedIn (begun_as mount file opening) (log_in e1) (held_in before.disks disk) (held_in after.disks disk)
+  turned-of opening disk of = by (run.later.turned opening.bytes (held_in e0.ground.disks disk) disk of (inl refl))
     where
-      by : TurnsFirst opening (held_in e0.ground.disks disk) e1 disk → (held_in after.disks disk ≡ held_in before.disks disk) ⊎ IsTurnedIn mount opening (log_in e1) (held_in before.disks disk) (held_in after.disks disk)
+      by : TurnsFirst opening.bytes (held_in e0.ground.disks disk) e1 disk → (held_in after.disks disk ≡ held_in before.disks disk) ⊎ IsTurnedIn (begun_as mount file opening) (log_in e1) (held_in before.disks disk) (held_in after.disks disk)
       by (inl same) = inl (ap (λ (g : Seen). held_in g.disks disk) run.ground ∙ (same ∙ ap (λ (g : Seen). held_in g.disks disk) run.opens.ground_is))
       by (inr t) = inr (record {
         old = t.old;
@@ -227,33 +228,33 @@ module _ (mount : Mount) (file : ℕ) (before after : Seen) (e0 e1 : EngineSeen)
         was = ap (λ (g : Seen). held_in g.disks disk) (sym run.opens.ground_is) ∙ t.was;
         is = ap (λ (g : Seen). held_in g.disks disk) run.ground ∙ t.is;
         later = t.later;
-        since = at-mount (λ v f. AreSince v f.page_size opening (events_in e1) 0 t.new.pages) t.since;
+        since = at-mount (λ v f. AreSince v f.page_size opening.bytes (events_in e1) 0 t.new.pages) t.since;
       })
 
   -- what a live disk keeps of a file that began with these bytes
-  pub kept-of : (key : StoreKey) (closing : List Reply) (opening : List ℕ) (disk : ℕ) (first : Option (List (List ℕ))) (kept : List (List ℕ)) → key.file ≡ file → IsOf opening e0 → Contains (live_in after.disks) disk
-      → told_in (kept_by before.disks disk) ≡ Some first → kept_by after.disks disk ≡ Some (image (image_shape mount key) kept) → (slice_get closing key.file ≡ Some Done → IsWhole e1)
-      → IsKept mount closing (log_in e1) key opening first kept
-  kept-of key closing opening disk first kept own of live was is whole =
-      let shape : ImageShape = image_shape mount key in
-      let now : IsOf opening e1 = run.later.of opening of in
+  pub kept-of : (closing : Option Reply) (opening : Opening) (disk : ℕ) (first : Option (List (List ℕ))) (kept : List (List ℕ)) → IsOf opening.bytes e0 → Contains (live_in after.disks) disk
+      → told_in (kept_by before.disks disk) ≡ Some first → kept_by after.disks disk ≡ Some (image (shape_of_file mount file) kept) → (closing ≡ Some Done → IsWhole e1)
+      → IsKept (begun_as mount file opening) closing (log_in e1) first kept
+  kept-of closing opening disk first kept of live was is whole =
+      let shape : ImageShape = shape_of_file mount file in
+      let now : IsOf opening.bytes e1 = run.later.of opening.bytes of in
       let live1 : Contains (live_in e1.ground.disks) disk = subst (λ (g : Seen). Contains (live_in g.disks) disk) run.ground live in
       let kept1 : kept_by e1.ground.disks disk ≡ Some (image shape kept) = ap (λ (g : Seen). kept_by g.disks disk) (sym run.ground) ∙ is in
       let kept0 : told_in (kept_by e0.ground.disks disk) ≡ Some first = ap (λ (g : Seen). told_in (kept_by g.disks disk)) run.opens.ground_is ∙ was in
-      let since : (from : ℕ) → KeepsSince (tree_in e1) (file_in e1).page_size opening (events_in e1) from (kept_by e1.ground.disks disk) → StandFor shape (Holds mount opening (log_in e1) from) kept =
-      λ from told. stands shape kept (Holds mount opening (log_in e1) from) (kept_by e1.ground.disks disk) kept1
-      (at-mount (λ t f. KeepsSince t f.page_size opening (events_in e1) from (kept_by e1.ground.disks disk)) told) in
-      let from_start : KeepsFirst opening (kept_by e0.ground.disks disk) e1 disk =
-      run.later.kept opening (kept_by e0.ground.disks disk) disk of live1 (λ none. inl refl) in
+      let since : (from : ℕ) → KeepsSince (tree_in e1) (file_in e1).page_size opening.bytes (events_in e1) from (kept_by e1.ground.disks disk) → StandFor shape (Holds (begun_as mount file opening) (log_in e1) from) kept =
+      λ from told. stands shape kept (Holds (begun_as mount file opening) (log_in e1) from) (kept_by e1.ground.disks disk) kept1
+      (at-mount (λ t f. KeepsSince t f.page_size opening.bytes (events_in e1) from (kept_by e1.ground.disks disk)) told) in
+      let from_start : KeepsFirst opening.bytes (kept_by e0.ground.disks disk) e1 disk =
+      run.later.kept opening.bytes (kept_by e0.ground.disks disk) disk of live1 (λ none. inl refl) in
       record {
         unsynced = λ none.
             ⊎_elim
             (λ (same : told_in (kept_by e1.ground.disks disk) ≡ told_in (kept_by e0.ground.disks disk)).
             inl (some-is (pages_in shape kept) first (ap told_in (sym kept1) ∙ (same ∙ kept0))))
-            (λ (told : KeepsSince (tree_in e1) (file_in e1).page_size opening (events_in e1) 0 (kept_by e1.ground.disks disk)). inr (since 0 told))
+            (λ (told : KeepsSince (tree_in e1) (file_in e1).page_size opening.bytes (events_in e1) 0 (kept_by e1.ground.disks disk)). inr (since 0 told))
             (from_start none);
         synced = λ from last. since from ((now.synced from last).disks disk live1);
-        whole = λ done. let w = whole done in all-of w key opening kept (since w.from ((now.synced w.from w.last).disks disk live1));
+        whole = λ done. let w = whole done in all-of w opening kept (since w.from ((now.synced w.from w.last).disks disk live1));
       }
     where
       -- what is told of what a disk kept, said of the blocks

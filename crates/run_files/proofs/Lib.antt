@@ -3,9 +3,11 @@ pub mod PageLaws
 pub mod GivenLaws
 pub mod FirstLaws
 pub mod EngineLaws
-pub mod DiskLaws
+pub mod AlikeLaws
+pub mod OnlyLaws
+pub mod VersionLaws
+pub mod LeftLaws
 pub mod PromiseLaws
-pub mod MirrorLaws
 pub mod TurnLaws
 pub mod EndedLaws
 pub mod TowerLaws

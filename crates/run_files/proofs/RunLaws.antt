@@ -49,7 +49,8 @@ use Rattle.mirror_layer.specs.declared.came.Notice.{Notice}
 use Rattle.file_stores.specs.Notices.{AreAtClose, all_notices}
 use Rattle.run_files.specs.Held.{AreFiles, AreMade, AreEnded, IsTaken, Opens, OpensEach, IsShut, AreShut}
 use Rattle.run_files.specs.Play.{IsClosed, IsUnwritten, ArePlayed, IsWhole, unnamed}
-use Rattle.run_files.specs.Run.{IsOfFile, AreOfFiles, LeavesFile, start_of, Played, SaysRun, reported, ran_out}
+use Rattle.run_files.specs.Leaves.{LeavesFile}
+use Rattle.run_files.specs.Run.{IsOfFile, AreOfFiles, start_of, Played, SaysRun, reported, ran_out}
 use Rattle.run_files.specs.Told.{Tells}
 use Rattle.run_files.proofs.HeldLaws.{opens-length, opens-at, made-at, ended-at, ended-length, shut-length, shut-at, length-logs}
 use Rattle.run_files.proofs.TowerLaws.{back-at, log_at-tower, same-number}
@@ -173,7 +174,7 @@ module _ (mount : Mount) (after : List TowerSeen) (k : ℕ) (f g : FileSeen) (r 
       turn-pairs mount (log_in e1) f g u0 u1 r.is (r.shut.file_is ∙ sym r.file) (r.shut.keys ∙ ap (λ m. stores_of_file (length g.stores) m) (sym r.shut.file_is)) turn
 
   -- what became of the file's stores
-  file-left : (closing : List Reply) → (slice_get closing f.file ≡ Some Done → IsWhole e1) → LeavesFile mount closing (log_of (logs after) k) f g r.notices
+  file-left : (closing : Option Reply) → (closing ≡ Some Done → IsWhole e1) → LeavesFile mount closing (log_of (logs after) k) f g r.notices
   file-left closing whole =
       subst (λ (l : List Logged). LeavesFile mount closing l f g r.notices) log-at
       (leaves-of mount f g closing r.opens.made r.notices u0 u1 r.t0.engine e1 r.is engine-run r.opens.over r.opens.under_sound (disks-later mount f.file (seen_under u0) (seen_under u1) r.t0.engine e1 engine-run) r.shut.left r.shut.under_sound whole r.opens.each r.close)
@@ -199,12 +200,12 @@ module _ (mount : Mount) (closer : ℕ) (before after : List TowerSeen) (olds ne
       (returned-of mount old mid new (stores_in olds) (stores_in news) lost (StandsAt (stores_in olds) (stores_in news)) taken.out (omega (arith, calm))
       (became-files olds news (number-news mount before after olds news run) (over-pairs mount before after olds news run)) given)
 
-  leaves : (file : ℕ) (f g : FileSeen) → slice_get olds file ≡ Some f → slice_get news file ≡ Some g → LeavesFile mount closing (log_of (logs after) file) f g (get_or run.told file [])
+  leaves : (file : ℕ) (f g : FileSeen) → slice_get olds file ≡ Some f → slice_get news file ≡ Some g → LeavesFile mount (slice_get closing file) (log_of (logs after) file) f g (get_or run.told file [])
   leaves file f g was is =
       let found = file-run mount before after olds news file f g run was is in
       let r = found.0 in
-      subst (λ (ns : List (Option Notice)). LeavesFile mount closing (log_of (logs after) file) f g ns) found.1
-      (file-left mount after file f g r closing (λ done. (closed file r.t1 (ap (λ n. slice_get closing n) (sym r.file) ∙ done) r.there1).whole))
+      subst (λ (ns : List (Option Notice)). LeavesFile mount (slice_get closing file) (log_of (logs after) file) f g ns) found.1
+      (file-left mount after file f g r (slice_get closing file) (λ done. (closed file r.t1 done r.there1).whole))
 
   -- the logs of the files
   of-files : StandsByFirst mount.tree → length closing ≡ length mount.files → AreOfFiles mount closer closing (logs after)

@@ -1,5 +1,5 @@
 -- A file's image from its opening to its closing.
-use Rattle.std.proofs.Common.{◌≡◌, ◌≢◌, ℕ, ◌<◌, List, [], ◌∷◌, length, map, Option, Some, None, IfSome, inl, refl, sym, ap, subst, ◌∙◌, arith}
+use Rattle.std.proofs.Common.{◌≡◌, ◌≢◌, false, ℕ, ◌<◌, List, [], ◌∷◌, length, map, Option, Some, None, IfSome, inl, refl, sym, ap, subst, ◌∙◌, arith}
 use Rattle.std.specs.Prelude.{Contains, is_some, slice_get, IsSome}
 use Rattle.script_text.specs.declared.script.Reply.{Reply}
 use Rattle.script_text.specs.declared.script.Reply.TheVariants.{Done}
@@ -13,9 +13,10 @@ use Rattle.disk_layer.specs.Calls as disks
 use Rattle.page_ground.specs.Seen.{Seen, live_in}
 use Rattle.mirror_rules.specs.Claims.{Every, every_more}
 use Rattle.mirror_layer.specs.View.{Beside}
-use Rattle.mirror_layer.specs.Ground.{Ground, Differ}
+use Rattle.mirror_layer.specs.Ground.{Ground, Differ, seen_of}
 use Rattle.mirror_layer.proofs.CloseSteps.{told-kept}
 use Rattle.tower_log.specs.declared.logged.Logged.{Logged}
+use Rattle.tower_log.specs.Notes.{counts_of}
 use Rattle.spr_volume.specs.Later.{AreLater}
 use Rattle.run_defs.specs.declared.store.StoreKey.{StoreKey}
 use Rattle.file_stores.specs.Keys.{image_shape, stores_of_file}
@@ -29,17 +30,19 @@ use Rattle.file_stores.specs.Under.{IsSound, Many, One, Under, seen_under}
 use Rattle.mirror_layer.specs.declared.came.Notice.{Notice}
 use Rattle.file_stores.specs.Notices.{AreAtClose}
 use Rattle.file_stores.proofs.NoticeLaws.{alone-silent}
-use Rattle.file_stores.specs.Opening.{IsLeft, IsOpened, under}
+use Rattle.file_stores.specs.Opening.{IsLeft, IsOpened, shape_of_file, under}
 use Rattle.file_stores.specs.WholeDisk.{Alone, IsAlone, IsFirst, seen_whole}
 use Rattle.file_stores.proofs.StoreLaws.{AllLast, in-pairs, lasts-one, same-keys}
 use Rattle.file_stores.proofs.WholeLaws.{kept-under, faults-under, whole-content, whole-count}
 use Rattle.file_stores.proofs.SpotLaws.{numbers-seen}
 use Rattle.run_files.specs.Held.{Closes, closes_one, closes_many}
 use Rattle.run_files.specs.Play.{IsWhole}
-use Rattle.run_files.specs.Run.{LeavesFile, leaves_one, leaves_many}
-use Rattle.run_files.proofs.DiskLaws.{leaves-of as disk-leaves}
-use Rattle.run_files.proofs.EngineLaws.{EngineRun}
-use Rattle.run_files.proofs.MirrorLaws.{Turn, few, lasts, mirrors-left, notices-left}
+use Rattle.mirror_rules.specs.Tree.{Seat, In}
+use Rattle.run_files.specs.Leaves.{AreNotices, IsOnly, LeavesFile}
+use Rattle.run_files.proofs.AlikeLaws.{alike-self, later-alike}
+use Rattle.run_files.proofs.EngineLaws.{EngineRun, calm-of}
+use Rattle.run_files.proofs.LeftLaws.{Turn, few, file-left, lasts}
+use Rattle.run_files.proofs.OnlyLaws.{cell-on, file-key, first-number, ground-of, only-alike, only-back, only-came, only-kept, only-opened, only-row, only-sound, only-words}
 use Rattle.run_files.proofs.WholeLaws.{on-disk, same-number-under}
 
 -- the only store of a file, or its stores on disks in mirrors
@@ -124,7 +127,7 @@ pub turn-closes : (mount : Mount) (more : List Logged) (f g : FileSeen) (u0 u1 :
 turn-closes mount more f g _ _ same (turn_one {d0} {d1} {old} {new} was over later left state has first near) =
     closes_one was left (holds-image d0.disk (image_shape mount old.key) old.state.content over.shape over.content over.image)
     (same-state new.state old.state (ap (λ (s : StoreState). s.content) state ∙ (whole-content d1 d0 same ∙ over.content)) (ap (λ (s : StoreState). s.faults) state ∙ (whole-count d1 d0 same ∙ over.calm)))
-turn-closes mount more f g _ _ same (turn_many {a} {z} some turn) = closes_many a z some turn.over same turn.still.0 turn.back
+turn-closes mount more f g _ _ same (turn_many {a} {z} some turn) = closes_many some (record { opened = a; over = turn.over; closed = z; same = same; sound = turn.still.0; back = turn.back })
 
 -- THE STORES OF A FILE BEFORE AND AFTER, in pairs
 pub turn-pairs : (mount : Mount) (more : List Logged) (f g : FileSeen) (u0 u1 : Under) → IsFile mount f → g.file ≡ f.file → keys_of g.stores ≡ stores_of_file (length g.stores) g.file → UnderTurn mount more f g u0 u1 → ArePairs Lasts f.stores g.stores
@@ -132,28 +135,66 @@ turn-pairs mount more f g u0 u1 is file keys turn =
     let all = turn-lasts mount more f g u0 u1 turn in
     in-pairs f.stores g.stores (same-keys mount f g is (keys ∙ ap (λ n. stores_of_file (length g.stores) n) file) all.many) all
 
--- the key of a file's only store
-pub file-key : (mount : Mount) (f : FileSeen) → IsFile mount f → (old : StoreSeen) → f.stores ≡ old ∷ [] → old.key ≡ record { file = f.file; disk = 0 }
-file-key mount f is old was =
-    (in-disks (length mount.disks) f.file 0 old.key
-    (ap (λ (ks : List StoreKey). slice_get ks 0) (sym is.keys) ∙ to-map (λ (s : StoreSeen). s.key) f.stores 0 old (ap (λ (ss : List StoreSeen). slice_get ss 0) was))).0
-
 -- WHAT BECAME OF THE STORES, and what is told of the disks
-pub leaves-of : (mount : Mount) (f g : FileSeen) (closing : List Reply) (made notices : List (Option Notice)) (u0 u1 : Under) (e0 e1 : EngineSeen) → IsFile mount f → EngineRun mount f.file (seen_under u0) (seen_under u1) e0 e1
-    → IsOpened mount f made u0 → IsSound u0 → AreLater (log_in e1) (seen_under u0) (seen_under u1) → IsLeft u1 g → IsSound u1 → (slice_get closing f.file ≡ Some Done → IsWhole e1) → length made ≡ length f.stores → AreAtClose u1 made notices
+same-first : (a b : StoreSeen) → a ∷ [] ≡ b ∷ [] → a ≡ b
+same-first a b e = cc
+
+module _ (mount : Mount) (f g : FileSeen) (closing : Option Reply) (made notices : List (Option Notice)) (d0 d1 : Alone) (old new : StoreSeen) (e0 e1 : EngineSeen) (is : IsFile mount f) (run : EngineRun mount f.file (seen_whole d0) (seen_whole d1) e0 e1)
+    (was : f.stores ≡ old ∷ []) (over : disks.Opened (under mount old) d0.disk) (first : IsFirst d0) (sound : IsSound (One d0)) (later : AreLater (log_in e1) (seen_whole d0) (seen_whole d1))
+    (left : g.stores ≡ new ∷ []) (state : new.state ≡ record { content = d1.disk.content; faults = d1.disk.faults }) (still : IsSound (One d1)) (whole : closing ≡ Some Done → IsWhole e1) (each : length made ≡ length f.stores) (close : AreAtClose (One d1) made notices) where
+  same-disk : d0.disk.disk ≡ d1.disk.disk
+  same-disk = same-number-under d0 d1 later.disks
+
+  first-zero : d0.disk.disk ≡ 0
+  first-zero = first-number mount f old d0 is was over first
+
+  last-zero : d1.disk.disk ≡ 0
+  last-zero = sym same-disk ∙ first-zero
+
+  one-turn : Turn mount (log_in e1) f g (ground-of d0) (ground-of d1)
+  one-turn = record {
+    is = is;
+    over = only-opened mount f old d0 is was over first;
+    sound = only-sound d0 sound.0 sound.1 sound.2 first-zero;
+    later = later-alike (log_in e1) (seen_whole d0) (seen_whole d1) (seen_of (ground-of d0)) (seen_of (ground-of d1)) (only-alike d0) (only-alike d1) (ap (λ n. n ∷ []) (sym same-disk)) later;
+    back = only-back d1 still.0 still.1 still.2 g new left state last-zero;
+    still = only-sound d1 still.0 still.1 still.2 last-zero;
+  }
+
+  one-row : one-turn.over.seen.row ≡ In false (cell-on d0) ∷ []
+  unfolding one-turn
+  one-row = only-row mount f old d0 is was over first
+
+  one-only : IsOnly (shape_of_file mount f.file) (log_in e1) (ground-of d0) (ground-of d1) notices old new
+  one-only = record {
+    live = ap (λ n. n ∷ []) last-zero;
+    calm = λ quiet.
+        ap (λ (s : StoreState). s.faults) state
+        ∙ (sym (faults-under d1 d0.disk.disk same-disk)
+        ∙ (calm-of mount f.file (seen_whole d0) (seen_whole d1) e0 e1 run d0.disk.disk (on-disk d0) (ap (λ n. counts_of n (log_in e1)) first-zero ∙ quiet) ∙ (faults-under d0 d0.disk.disk refl ∙ over.calm)));
+    came = only-came mount f old d0 is was over first;
+    had_kept = only-kept mount f old d0 is was over first;
+    silent = alone-silent close;
+  }
+
+  one-leaves : LeavesFile mount closing (log_in e1) f g notices
+  one-leaves =
+      file-left mount f g (ground-of d0) (ground-of d1) (seen_whole d0) (seen_whole d1) e0 e1 closing run (only-alike d0) (only-alike d1) one-turn whole notices
+      (subst (λ (xs : List Seat). AreNotices f (ground-of d0) (ground-of d1) xs notices) (sym one-row) (only-words f old d0 d1 was first-zero last-zero made notices each close))
+      (λ o n was_o left_n.
+      subst (λ (x : StoreSeen). IsOnly (shape_of_file mount f.file) (log_in e1) (ground-of d0) (ground-of d1) notices x n) (same-first old o (sym was ∙ was_o))
+      (subst (λ (x : StoreSeen). IsOnly (shape_of_file mount f.file) (log_in e1) (ground-of d0) (ground-of d1) notices old x) (same-first new n (sym left ∙ left_n)) one-only))
+
+pub leaves-of : (mount : Mount) (f g : FileSeen) (closing : Option Reply) (made notices : List (Option Notice)) (u0 u1 : Under) (e0 e1 : EngineSeen) → IsFile mount f → EngineRun mount f.file (seen_under u0) (seen_under u1) e0 e1
+    → IsOpened mount f made u0 → IsSound u0 → AreLater (log_in e1) (seen_under u0) (seen_under u1) → IsLeft u1 g → IsSound u1 → (closing ≡ Some Done → IsWhole e1) → length made ≡ length f.stores → AreAtClose u1 made notices
     → LeavesFile mount closing (log_in e1) f g notices
 leaves-of mount f g closing made notices (One d0) (One d1) e0 e1 is run opened sound later left still whole each close =
-    let old : StoreSeen = opened.0 in
-    let new : StoreSeen = left.0 in
-    let at : slice_get f.stores 0 ≡ Some old = ap (λ (ss : List StoreSeen). slice_get ss 0) opened.1 in
-    let key : old.key.file ≡ f.file = ap (λ (k : StoreKey). k.file) (file-key mount f is old opened.1) in
-    let own : EngineRun mount old.key.file (seen_whole d0) (seen_whole d1) e0 e1 = subst (λ n. EngineRun mount n (seen_whole d0) (seen_whole d1) e0 e1) (sym key) run in
-    leaves_one {old = old} {new = new} opened.1 left.1
-    (disk-leaves mount old d0 d1 e0 e1 closing opened.2 own (λ done. whole (ap (λ n. slice_get closing n) (sym key) ∙ done)) still.0 opened.3 still.2 new.state (ap (λ (s : StoreState). s.content) left.2) (ap (λ (s : StoreState). s.faults) left.2) (is.fits 0 old at))
-    (alone-silent close)
+    one-leaves mount f g closing made notices d0 d1 opened.0 left.0 e0 e1 is run opened.1 opened.2 opened.3 sound later left.1 left.2 still whole each close
 leaves-of mount f g closing made notices (Many a) (Many z) e0 e1 is run opened sound later back still whole each close =
     let turn : Turn mount (log_in e1) f g a z = record { is = is; over = opened.1.over; sound = sound; later = later; back = back; still = still } in
-    leaves_many opened.0 (mirrors-left mount f g a z e0 e1 closing run turn whole opened.0) (notices-left mount f g a z e0 e1 closing run turn whole opened.0 made notices opened.1.came_so each close)
+    let some = opened.0 in
+    file-left mount f g a z (seen_of a) (seen_of z) e0 e1 closing run (alike-self (seen_of a)) (alike-self (seen_of z)) turn whole notices (record { made = made; made_so = opened.1.came_so; each = each; notices_so = close })
+    (λ o n was_o left_n. let one = ap (λ (ss : List StoreSeen). length ss) was_o in absurd (omega (arith, one, some)))
 leaves-of mount f g closing made notices (One d0) (Many z) e0 e1 is run opened sound later left still whole each close = absurd (apart z.beside d0.disk.disk still.0.differ (sym (numbers-seen still.0.counts) ∙ later.disks))
 leaves-of mount f g closing made notices (Many a) (One d1) e0 e1 is run opened sound later left still whole each close = absurd (apart a.beside d1.disk.disk sound.0.differ (sym (numbers-seen sound.0.counts) ∙ sym later.disks))
 

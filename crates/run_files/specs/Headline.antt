@@ -1,5 +1,5 @@
 -- What a run promises of a file, read as the promise is: over all that a run says.
-use Rattle.std.specs.Prelude.{◌≡◌, ℕ, List, [], ◌∷◌, slice_get, Option, Some, Contains}
+use Rattle.std.specs.Prelude.{◌≡◌, ℕ, List, slice_get, Option, Some, Contains}
 use Rattle.hist_plain.specs.declared.event.Event.TheVariants.{Synced}
 use Rattle.hist_plain.specs.declared.event.Keep.{Keep}
 use Rattle.script_text.specs.declared.script.Script.{Script}
@@ -8,43 +8,35 @@ use Rattle.script_text.specs.declared.script.Reply.{Reply}
 use Rattle.stack_accept.specs.Mount.{Mount}
 use Rattle.spr_io.specs.Berth.{BaySeen}
 use Rattle.spr_io.specs.Content.{Content}
-use Rattle.tower_core.specs.Legal.{IsLegal}
 use Rattle.tower_log.specs.declared.logged.Logged.{Logged}
 use Rattle.tower_log.specs.Log.{trail_of}
-use Rattle.stack_engine.specs.Opened.{AreAnswers}
 use Rattle.run_defs.specs.declared.store.StoreKey.{StoreKey}
-use Rattle.run_defs.specs.Stack.{pages_of}
 use Rattle.run_defs.specs.Log.{Histories, log_of}
-use Rattle.mirror_layer.specs.declared.came.Notice.{Notice}
 use Rattle.file_stores.specs.Held.{StoreSeen}
 use Rattle.file_stores.specs.Files.{FileSeen}
-use Rattle.run_files.specs.Run.{IsFrom, LeavesFile, Played, Store, leaves_many, leaves_one, live_of}
-use Rattle.run_files.specs.Promise.{TellsAll}
-
--- the disks of a file that are live at the end of a run: its only one, or those of its mirrors
-abbrev pub live_after : {mount : Mount} {closing : List Reply} {log : List Logged} {f g : FileSeen} {notices : List (Option Notice)} → LeavesFile mount closing log f g notices → List ℕ
-live_after (leaves_one old new run silent) = 0 ∷ []
-live_after (leaves_many some run told) = live_of run.closed
+use Rattle.run_files.specs.Begun.{AnswersAs, Begun, IsFrom, IsLegalOver, Opening, begun_as}
+use Rattle.run_files.specs.Leaves.{Store, TellsAll, live_of}
+use Rattle.run_files.specs.Run.{Played}
 
 -- a store keeps an image that has, page by page, the file as it was at some place from this one on
-abbrev pub KeepsFrom : Mount → StoreKey → List ℕ → List Logged → ℕ → Option Content → Type 0
-KeepsFrom mount key opening log from content = (c : Content) × (content ≡ Some c) × IsFrom mount key opening log from c.kept
+abbrev pub KeepsFrom : Begun → List Logged → ℕ → Option Content → Type 0
+KeepsFrom b log from content = (c : Content) × (content ≡ Some c) × IsFrom b log from c.kept
 
 -- THE HEADLINE of a file, by its one history and its live disks
 pub record IsHeadline (mount : Mount) (file : ℕ) (log : List Logged) (f g : FileSeen) (live : List ℕ) : Type 0 where
   -- the bytes that the file began with
-  pub opening : List ℕ
+  pub opening : Opening
   -- every view is coherent over them: each event was allowed, and each copy has the newest bytes
-  pub legal : IsLegal mount.tree mount.page_size (pages_of mount file) opening (trail_of log)
+  pub legal : IsLegalOver (begun_as mount file opening) log
   -- each access answers what one plain file answers at its place in the history
-  pub answers : AreAnswers mount.tree mount.page_size opening log
+  pub answers : AnswersAs (begun_as mount file opening) log
   -- after a sync that was done every live store holds that history's bytes, as they were when the sync was called or later
   pub synced : (place caller number node from : ℕ) (keep : Keep) → slice_get (trail_of log) place ≡ Some (Synced caller number node from keep)
-      → (disk : ℕ) (old new : StoreSeen) → Contains live disk → Store f g disk old new → KeepsFrom mount old.key opening log from new.state.content
+      → (disk : ℕ) (old new : StoreSeen) → Contains live disk → Store f g disk old new → KeepsFrom (begun_as mount file opening) log from new.state.content
 
--- each file of a run whose stores tell what they hold has it; that the history begins with all that a caller had seen, and holds its calls once
--- each, is `Played` (fits)
+-- each file of a run whose stores tell what they hold has it, on the disks that are live at the end; that the history begins with all that a caller had
+-- seen, and holds its calls once each, is `Played` (fits)
 abbrev pub Headline : Type 0
 Headline = (mount : Mount) (script : Script) (before after : BaySeen) (h : Histories) (said : List (List Said)) (closing : List Reply) (lost : List StoreKey) (notices : List ℕ) (played : Played mount script before after h said closing lost notices)
     → (file : ℕ) (f g : FileSeen) (at : slice_get played.olds file ≡ Some f) (to : slice_get played.news file ≡ Some g) → TellsAll f
-    → IsHeadline mount file (log_of h.logs file) f g (live_after (played.leaves file f g at to))
+    → IsHeadline mount file (log_of h.logs file) f g (live_of (played.leaves file f g at to).closed)

@@ -5,8 +5,8 @@ use Rattle.spr_io.specs.Berth.{BaySeen}
 use Rattle.run_defs.specs.declared.store.StoreKey.{StoreKey}
 use Rattle.run_defs.specs.Stack.{pages_of}
 use Rattle.page_messages.specs.declared.paged.PagedFile.{PagedFile}
-use Rattle.tower_shows.specs.Began.{ArePagesOf}
 use Rattle.stack_engine.specs.Engine.{IsSound}
+use Rattle.run_files.specs.Begun.{BeganAs, IsSized, Opening, begun_as}
 use Rattle.stack_engine.specs.Opened.{IsOf}
 use Rattle.stack_engine.specs.Start as engines
 use Rattle.stack_engine.specs.Tower.{TowerSeen}
@@ -46,8 +46,8 @@ paged mount file = record { number = file; page_size = mount.page_size; pages = 
 
 -- the tower is of the file that these pages began, if what lies under it tells its pages
 abbrev pub BeganOn : Mount → ℕ → Under → TowerSeen → Type 0
-BeganOn mount file under t = (opening : List ℕ) (told : List (List ℕ)) → (seen_under under).pages ≡ Some told
-    → length opening ≡ pages_of mount file * mount.page_size → ArePagesOf mount.page_size (pages_of mount file) opening told → IsOf opening t.engine
+BeganOn mount file under t = (opening : Opening) (told : List (List ℕ)) → (seen_under under).pages ≡ Some told
+    → IsSized (begun_as mount file opening) → BeganAs (begun_as mount file opening) told → IsOf opening.bytes t.engine
 
 -- a tower without events, in which nobody has a turn, over the image of a file that was opened over its stores
 pub record Opens (mount : Mount) (f : FileSeen) (t : TowerSeen) : Type 0 where
@@ -73,13 +73,21 @@ pub data AreMade (mount : Mount) : List FileSeen → List TowerSeen → List (Li
   made_none : AreMade mount [] [] []
   made_more : {f : FileSeen} {t : TowerSeen} {fs : List FileSeen} {ts : List TowerSeen} {ms : List (List (Option Notice))} (opens : Opens mount f t) → AreMade mount fs ts ms → AreMade mount (f ∷ fs) (t ∷ ts) (opens.made ∷ ms)
 
+-- a ground was opened over the stores of a file, and gave them back with its disks as they were
+pub record ClosesGround (mount : Mount) (f g : FileSeen) : Type 0 where
+  pub opened : Ground
+  pub over : OpenedOver content_of faults_of (shape_of_file mount f.file) f.stores mount.ground opened
+  pub closed : Ground
+  pub same : seen_of closed ≡ seen_of opened
+  pub sound : IsGround closed
+  pub back : GivesBack content_of faults_of closed.beside closed.row g.stores
+
 -- a file's image was opened over its stores and closed again, and nothing was asked of it meanwhile
 pub data Closes (mount : Mount) (f g : FileSeen) : Type 0 where
   -- the only store holds an image, and is as it was
   closes_one : {old new : StoreSeen} → f.stores ≡ old ∷ [] → g.stores ≡ new ∷ [] → HoldsImage (image_shape mount old.key) old.state.content → new.state ≡ old.state → Closes mount f g
   -- the stores of disks in mirrors are what the opening left
-  closes_many : (opened closed : Ground) → 1 < length f.stores → OpenedOver content_of faults_of (shape_of_file mount f.file) f.stores mount.ground opened → seen_of closed ≡ seen_of opened → IsGround closed
-      → GivesBack content_of faults_of closed.beside closed.row g.stores → Closes mount f g
+  closes_many : 1 < length f.stores → ClosesGround mount f g → Closes mount f g
 
 -- why a file could not be opened, and what became of its stores: its image was not; or memory ran out then, and it was closed again
 abbrev pub IsUnheld : Mount → FileSeen → FileSeen → Stop → Type 0

@@ -1,7 +1,9 @@
+pub mod Begun
 pub mod Ended
 pub mod Held
 pub mod Play
 pub mod Room
+pub mod Leaves
 pub mod Run
 pub mod Told
 pub mod Promise

@@ -7,10 +7,8 @@ use Rattle.script_text.specs.declared.script.Said.{Said}
 use Rattle.script_text.specs.declared.script.Reply.{Reply}
 use Rattle.script_text.specs.declared.script.Reply.TheVariants.{Done}
 use Rattle.stack_accept.specs.Mount.{Mount}
-use Rattle.tower_core.specs.Legal.{file_after}
 use Rattle.tower_log.specs.Log.{trail_of}
 use Rattle.tower_shows.specs.Began.{ArePagesOf}
-use Rattle.tower_shows.specs.Since.{AreSince}
 use Rattle.name_context.specs.History.{NamesSeen, IsStory}
 use Rattle.client_objects.specs.Views.{names_at_start}
 use Rattle.run_defs.specs.Log.{EndsSynced, Histories, items}
@@ -21,6 +19,7 @@ use Rattle.stack_engine.specs.Tower.{TowerSeen}
 use Rattle.spr_volume.specs.Passes.{AreBack, Knows, as_known, known, logs}
 use Rattle.spr_client.specs.Calls.{histories}
 use Rattle.run_phases.specs.Closing.{EndsQuietly}
+use Rattle.run_files.specs.Begun.{Begun, Holds, Opening, file_then}
 
 -- nothing was logged yet
 abbrev pub IsUnwritten : TowerSeen → Type 0
@@ -48,12 +47,15 @@ pub record IsPlayed (mount : Mount) (script : Script) (p q : Knows) (said : List
   pub said_each : length said ≡ length script.clients
   pub closing_each : length closing ≡ length mount.files
 
+-- the file of an engine that began so
+abbrev pub begun_in : EngineSeen → Opening → Begun
+begun_in e opening = record { tree = tree_in e; page_size = (file_in e).page_size; pages = (file_in e).pages; opening = opening }
+
 -- nothing changed a file behind the place of its last completed sync: pages that are its own from there on are those that it has now
 pub record IsWhole (e : EngineSeen) : Type 0 where
   pub from : ℕ
   pub last : last_from (events_in e) ≡ Some from
-  pub now : (opening : List ℕ) (ps : List (List ℕ)) → AreSince (tree_in e) (file_in e).page_size opening (events_in e) from ps
-      → ArePagesOf (file_in e).page_size (length ps) (file_after (tree_in e) (file_in e).page_size opening (events_in e)).bytes ps
+  pub now : (opening : Opening) (ps : List (List ℕ)) → Holds (begun_in e opening) (log_in e) from ps → ArePagesOf (file_in e).page_size (length ps) (file_then (begun_in e opening) (events_in e)).bytes ps
 
 -- a file that a caller's sync ended, and that nothing changed behind the place that the sync is from
 pub record IsClosed (caller : ℕ) (t : TowerSeen) : Type 0 where

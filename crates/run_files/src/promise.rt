@@ -1,7 +1,7 @@
 //! What a sync made lasting, from run to run.
 
 ghost use Rattle.run_files.specs.Headline.{Headline};
-ghost use Rattle.run_files.specs.Promise.{EachSyncCounts, NextBegins, DiskLastsOn, RunsGoOn, EachSyncLasts, AloneGoesOn, EachSyncLastsAlone};
+ghost use Rattle.run_files.specs.Promise.{EachSyncCounts, NextBegins, DiskLastsOn, RunsGoOn, EachSyncLasts};
 
 /// The headline, read off what a run says: each access of a file answers what one plain file answers at its place in the file's
 /// one history, and after a sync that was done every live store holds that history's bytes, as they were when it was called or
@@ -30,14 +30,12 @@ pub fn synced_pages_begin_the_next_run()
     ensures on { DiskLastsOn }
 {}
 
-/// The laws of a file on disks in mirrors. A run goes on with a chain of sittings, by what its disks and stores became. And in a
-/// chain a sync that was done lasts, as long as each run begins with a disk up that was live when the run before it ended:
-/// whatever else happens between and in the runs, to the disks and to their stores. A disk of the mirror may also be run alone.
+/// The laws of a file in a chain of sittings, on disks in mirrors or on one of them alone. A run goes on with the chain, by what
+/// its disks and stores became. And in a chain a sync that was done lasts, as long as each run begins with a disk up that was live
+/// when the run before it ended: whatever else happens between and in the runs, to the disks and to their stores.
 ///
 /// It does nothing. The promise is this project's own, as the rules of mirrors are.
 pub fn synced_pages_last()
     ensures runs { RunsGoOn }
     ensures each { EachSyncLasts }
-    ensures alone { AloneGoesOn }
-    ensures each_alone { EachSyncLastsAlone }
 {}

@@ -33,9 +33,11 @@ use Rattle.file_stores.specs.Opening.{content_of, faults_of, shape_of_file}
 use Rattle.file_stores.specs.Reading.{Stays, stays_failed, stays_left, stays_out, stays_same}
 use Rattle.file_stores.proofs.Lists.{some-is}
 use Rattle.file_stores.proofs.GroundLists.{nth-get}
-use Rattle.run_files.specs.Promise.{TellsAll}
+use Rattle.image_commands.specs.Read.{Looked}
+use Rattle.run_files.specs.Held.{ClosesGround}
+use Rattle.run_files.specs.Leaves.{TellsAll}
 use Rattle.run_files.proofs.GivenLaws.{lies-told, pages-shown, told-all}
-use Rattle.run_laws.specs.Sittings.{AreSeen, ClosedGoesOn, ComesAs, EachSyncIsDumped, LooksGoOn, RefusalsGoOn, RunsAreSeen, rests_with}
+use Rattle.run_laws.specs.Sittings.{AreSeen, ClosedAreSeen, ComesAs, EachSyncIsDumped, RunsAreSeen, SittingsGoOn, rests_with, sits_closed, sits_looked, sits_refused}
 use Rattle.run_laws.proofs.NumberLaws.{SameNumber, opens-number}
 
 -- THE SAME IMAGES
@@ -165,8 +167,9 @@ stay-unmoved {refused} p = pairs-map (λ x y. one) p
     one (stays_same e) = unmoved_in refl
     one (stays_failed low) = unmoved_in refl
 
-pub looks-go-on : LooksGoOn
-looks-go-on mount unread f g look tells s past next counts ss ts run sync run' sync' chain to joins after =
+looks-go-on : (mount : Mount) {unread : Bool} (f g : FileSeen) (look : Looked mount unread f g) (tells : TellsAll f) {s : Sync} {past next counts : List Image} {ss ts : List Found} {run sync run' sync' : ℕ → Bool} → Chain Direct (pages_of mount f.file) s (Rests past next counts)
+    → ComesAs mount f past next counts ss run sync → Joins run sync look.over.seen.row look.opened.row run' sync' → AreSeen mount f.file g.stores ts → Chain Direct (pages_of mount f.file) s (rests_with past next counts ts run' sync')
+looks-go-on mount f g look tells {past = past} {next = next} {counts = counts} {run' = run'} {sync' = sync'} chain to joins after =
     let seen = look.over.seen in
     let beside = look.opened.beside in
     let told = lies-told tells seen.lies in
@@ -174,9 +177,9 @@ looks-go-on mount unread f g look tells s past next counts ss ts run sync run' s
     rests-alike past next counts run' sync' (alike (back-tells told seen.lies look.back.stored) (back-seen seen.lies look.back.stored) after) then
 
 pub each-sync-is-dumped : EachSyncIsDumped
-each-sync-is-dumped mount f g look pages are tells Vs past next counts place live c chain comes at counts_for =
+each-sync-is-dumped mount f g look pages are tells Vs past next counts chain comes up =
     let opens = opened-told mount f tells look.opened.beside look.over.seen look.over.opens in
-    let given = chain-lasts chain comes look.over.seen.meets opens at counts_for in
+    let given = chain-lasts chain comes look.over.seen.meets opens up.up up.counted in
     let level = opens-level opens look.over.seen.meets in
     let shown : (seen_of look.opened).pages ≡ Some given.0 =
     pages-shown (all_told look.opened.beside) (live_pages look.opened.row) given.0 (told-here mount f tells look.opened.beside look.over.seen) (pages-are given.1 level.1) in
@@ -223,7 +226,7 @@ lacked-goes-on : {n : ℕ} {s : Sync} {past next counts : List Image} {ss : List
     → Every (Comes Direct n past) ss → Marked next counts ss run sync → Chain Direct n s (rests_with past next counts ts run sync)
 lacked-goes-on rests leave chain comes marked = let met = lacked-met rests leave in chain_rests (chain_refused chain comes marked met.1 (ended_same refl)) met.2
 
-pub over-goes-on : (mount : Mount) (f : FileSeen) (tells : TellsAll f) (why : Refusal) (news : List StoreSeen) → RefusedOver content_of faults_of (shape_of_file mount f.file) f.stores mount.ground why news → {s : Sync} {past next counts : List Image} {ss ts : List Found} {run sync : ℕ → Bool}
+over-goes-on : (mount : Mount) (f : FileSeen) (tells : TellsAll f) (why : Refusal) (news : List StoreSeen) → RefusedOver content_of faults_of (shape_of_file mount f.file) f.stores mount.ground why news → {s : Sync} {past next counts : List Image} {ss ts : List Found} {run sync : ℕ → Bool}
     → Chain Direct (pages_of mount f.file) s (Rests past next counts) → ComesAs mount f past next counts ss run sync → AreSeen mount f.file news ts → Chain Direct (pages_of mount f.file) s (rests_with past next counts ts run sync)
 over-goes-on mount f tells why news (refused {beside = beside} seen opens says reasoned blames lasting back) {past = past} {next = next} {counts = counts} {run = run} {sync = sync} chain to after =
     let same = found-alike mount f tells beside seen to in
@@ -238,9 +241,6 @@ over-goes-on mount f tells why news (lacked found lie rests back) {past = past} 
 over-goes-on mount f tells why news lacked_first {past = past} {next = next} {counts = counts} {ss = ss} {run = run} {sync = sync} chain to after =
     let none = none-opened ss in
     rests-alike past next counts run sync (alike (tells-each (disks_in mount.ground) tells) to.seen after) (lacked-goes-on none.1 none.2 chain to.comes to.marked)
-
-pub refusals-go-on : RefusalsGoOn
-refusals-go-on mount why f g over tells s past next counts ss ts run sync chain to after = over-goes-on mount f tells why g.stores over chain to after
 
 -- A FILE THAT WAS OPENED AND CLOSED AGAIN
 told-pages : (b : Bool) (ps qs : List (List ℕ)) → pages_told b ps ≡ Some qs → b ≡ true
@@ -338,24 +338,41 @@ closed-over mount f g opened closed over back sound shaped same =
     closed-seen over.seen.lies over.seen.brought (opens-number over.opens over.seen.meets) sound.counts (every-shape closed.shape shaped sound.shapes) back.stored same
 
 pub runs-are-seen : RunsAreSeen
-runs-are-seen mount closing log f g run = closed-over mount f g run.opened run.closed run.over run.back run.sound (run.shaped ∙ run.over.shaped) run.same
+runs-are-seen mount closing log f g notices run = closed-over mount f g run.opened run.closed run.began run.ended run.sound (run.shaped ∙ run.began.shaped) run.disks.same
 
-pub closed-goes-on : ClosedGoesOn
-closed-goes-on mount f g opened closed over same sound back tells s past next counts ss run sync run' sync' chain to joins =
-    (look-goes-on mount f tells opened.beside over.seen over.opens stay back.left chain to joins, closed-over mount f g opened closed over back sound shaped (ap (λ (ds : List DiskSeen). numbers_in ds) disks))
-  where
-    disks : disks_seen closed.beside closed.row ≡ disks_seen opened.beside opened.row
-    disks = ap (λ (v : Seen). v.disks) same
+module _ (mount : Mount) (f g : FileSeen) (again : ClosesGround mount f g) where
+  abbrev first-ground : Ground
+  first-ground = again.opened
 
-    told : all_told opened.beside ≡ true
-    told = told-here mount f tells opened.beside over.seen
+  abbrev last-ground : Ground
+  last-ground = again.closed
 
-    pages : pages_told (all_told closed.beside) (live_pages closed.row) ≡ Some (live_pages opened.row)
-    pages = ap (λ (v : Seen). v.pages) same ∙ ap (λ t. pages_told t (live_pages opened.row)) told
+  same-disks : disks_seen last-ground.beside last-ground.row ≡ disks_seen first-ground.beside first-ground.row
+  same-disks = ap (λ (v : Seen). v.disks) again.same
 
-    stay : Pairs Unmoved opened.row closed.row
-    stay =
-        all-unmoved over.seen.lies over.seen.brought over.fair.excused back.stored back.left (lies-told tells over.seen.lies) (every-told closed.beside (told-pages (all_told closed.beside) (live_pages closed.row) (live_pages opened.row) pages)) disks
+  shaped : last-ground.shape ≡ shape_of_file mount f.file
+  shaped = same-shape last-ground.shape first-ground.shape (ap (λ (v : Seen). v.page_size) again.same) (ap (λ (v : Seen). v.number) again.same) ∙ again.over.shaped
 
-    shaped : closed.shape ≡ shape_of_file mount f.file
-    shaped = same-shape closed.shape opened.shape (ap (λ (v : Seen). v.page_size) same) (ap (λ (v : Seen). v.number) same) ∙ over.shaped
+  closed-seen-so : AreSeen mount f.file g.stores again.back.seen
+  closed-seen-so = closed-over mount f g first-ground last-ground again.over again.back again.sound shaped (ap (λ (ds : List DiskSeen). numbers_in ds) same-disks)
+
+  stay : TellsAll f → Pairs Unmoved first-ground.row last-ground.row
+  stay tells =
+      all-unmoved again.over.seen.lies again.over.seen.brought again.over.fair.excused again.back.stored again.back.left (lies-told tells again.over.seen.lies)
+      (every-told last-ground.beside (told-pages (all_told last-ground.beside) (live_pages last-ground.row) (live_pages first-ground.row) pages)) same-disks
+    where
+      told : all_told first-ground.beside ≡ true
+      told = told-here mount f tells first-ground.beside again.over.seen
+
+      pages : pages_told (all_told last-ground.beside) (live_pages last-ground.row) ≡ Some (live_pages first-ground.row)
+      pages = ap (λ (v : Seen). v.pages) again.same ∙ ap (λ t. pages_told t (live_pages first-ground.row)) told
+
+pub closed-are-seen : ClosedAreSeen
+closed-are-seen mount f g again = closed-seen-so mount f g again
+
+-- EACH OF THEM
+pub sittings-go-on : SittingsGoOn
+sittings-go-on mount f g tells s past next counts ss ts run sync run' sync' chain to (sits_looked look joins after) = looks-go-on mount f g look tells chain to joins after
+sittings-go-on mount f g tells s past next counts ss ts run sync _ _ chain to (sits_refused {why = why} over after) = over-goes-on mount f tells why g.stores over chain to after
+sittings-go-on mount f g tells s past next counts ss _ run sync run' sync' chain to (sits_closed again joins) =
+    look-goes-on mount f tells again.opened.beside again.over.seen again.over.opens (stay mount f g again tells) again.back.left chain to joins

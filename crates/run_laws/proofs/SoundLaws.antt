@@ -53,7 +53,8 @@ use Rattle.vmm_space.specs.declared.why.TranslateErr.TheVariants as places
 use Rattle.vmm_space.specs.Spaces.{has_region, refusal, translation, without_region}
 use Rattle.run_defs.specs.declared.store.StoreKey.{StoreKey}
 use Rattle.run_defs.specs.Log.{Histories, IsFull, Item, by_caller, entered, items, items_from, log_at, noted, who}
-use Rattle.run_defs.specs.Plan.{Asks, Goes, Made, NamesAsk, NamesTold, Plan, Refuses, Request, access, asking, asking_names, at_file, binding, calls, asks_names, ends, loading, mapping, node_at, plan, plan_access, plan_bind_as, plan_bound, plan_call, plan_copy, plan_done, plan_drop, plan_found, plan_map, plan_named, plan_names, plan_open, plan_place, plan_sync, refused_as, region_of, reply_of, rights_at, start_state, storing, sub_id, sync, told_names, unknown, unless_refused, unless_unmappable, with_names}
+use Rattle.client_objects.specs.declared.kind.ObjectKind.{ObjectKind}
+use Rattle.run_defs.specs.Plan.{Asks, Goes, Made, NamesAsk, NamesTold, Plan, Refuses, Request, access, asking, asking_names, at_file, binding, calls, asks_names, ends, loading, mapping, node_at, plan, plan_access, plan_bind_as, plan_bound, plan_call, plan_copy, plan_done, plan_drop, plan_found, plan_map, plan_named, plan_names, plan_open, plan_place, plan_sync, refused_as, region_of, reply_of, rights_at, start_state, storing, kind_named, sync, told_names, unknown, unless_refused, unless_unmappable, with_names}
 use Rattle.run_defs.specs.Stack.{file_named, pages_of, view_of}
 use Rattle.run_defs.specs.Fits.{Acts, AllGoOn, ClientsFit, Closes, Did, Does, InOrder, Line, Phased, last_cut, lines_of, made_on, no_client, plan_closing}
 use Rattle.run_defs.proofs.Logs.{items-more}
@@ -94,9 +95,10 @@ use Rattle.file_stores.proofs.FileLaws.{file-number}
 use Rattle.run_files.specs.Ended.{any_lost, has_fault, is_done, is_fault, is_memory, lacks_memory, status_by, status_of}
 use Rattle.run_files.specs.Held.{IsUnheld}
 use Rattle.mirror_layer.specs.declared.came.Notice.{Notice}
-use Rattle.run_files.specs.Run.{IsOfDisks, IsOfFile, LeavesFile, NotRun, Played, Store, before_all, leaves_many, leaves_one, ran_out, reported, stopped, unopened, untaken}
+use Rattle.run_files.specs.Leaves.{LeavesFile, Store}
+use Rattle.run_files.specs.Run.{IsOfDisks, IsOfFile, NotRun, Played, before_all, ran_out, reported, stopped, unopened, untaken}
 use Rattle.run_laws.specs.Sound.{AreNotFull, AreStoresSound, HadImages, HoldImages, IsBaySound, SoundRunEndsWell}
-use Rattle.run_files.proofs.TurnLaws.{file-key}
+use Rattle.run_files.proofs.OnlyLaws.{file-key}
 
 -- COUNTS THAT STAND STILL
 rises-up : (before now : ℕ) (counts : List ℕ) → Rises before now counts → before ≤ now
@@ -242,10 +244,10 @@ names-calm state ask go_on calm = λ told. unless-calm state ask.path told.refus
 done-calm : (state : ClientState) (ask : NamesAsk) → EndsCalm (plan_done state ask)
 done-calm state ask = names-calm state ask (λ names. ends replies.Done state) (λ names. refl)
 
-bind-calm : (state : ClientState) (path : List (List ℕ)) (sub view file : Option ℕ) → EndsCalm (plan_bind_as state path sub view file)
-bind-calm state path (Some sub) (Some node) (Some file) = done-calm state (binding path sub node file)
-bind-calm state path (Some sub) (Some node) None = tt
-bind-calm state path (Some sub) None file = tt
+bind-calm : (state : ClientState) (path : List (List ℕ)) (kind : Option ObjectKind) (view file : Option ℕ) → EndsCalm (plan_bind_as state path kind view file)
+bind-calm state path (Some kind) (Some node) (Some file) = done-calm state (binding path kind node file)
+bind-calm state path (Some kind) (Some node) None = tt
+bind-calm state path (Some kind) None file = tt
 bind-calm state path None view file = tt
 
 named-calm : (state : ClientState) (target : Option Target) (go_on : Target → Plan) → ((found : Target) → EndsCalm (go_on found)) → EndsCalm (plan_named state target go_on)
@@ -293,7 +295,7 @@ place-calm state (Err places.NotWritable) request = refl
 
 plan-calm : (mount : Mount) (state : ClientState) (call : Call) → EndsCalm (plan mount state call)
 plan-calm mount state (lines.Context path) = done-calm state (asking_names names_calls.Context (Some path))
-plan-calm mount state (lines.Bind path sub view file) = bind-calm state path (sub_id sub) (view_of mount view) (file_named mount file)
+plan-calm mount state (lines.Bind path sub view file) = bind-calm state path (kind_named sub) (view_of mount view) (file_named mount file)
 plan-calm mount state (lines.Unbind path) = done-calm state (asking_names names_calls.Unbind (Some path))
 plan-calm mount state (lines.List path) = names-calm state (asking_names names_calls.List path) (λ names. ends (replies.Names (listed names path)) state) (λ names. refl)
 plan-calm mount state (lines.Open name path) = open-calm mount state name path (object_of name state.objects)
@@ -468,20 +470,14 @@ quiet-log (Noted note ∷ log) place none done = absurd none.0
 first-is : (xs : List StoreSeen) (x : StoreSeen) → xs ≡ x ∷ [] → slice_get xs 0 ≡ Some x
 first-is xs x is = ap (λ (ss : List StoreSeen). slice_get ss 0) is
 
-only-disk : (xs : List StoreSeen) (x : StoreSeen) (disk : ℕ) → xs ≡ x ∷ [] → disk < length xs → disk ≡ 0
-only-disk xs x disk is inside = let one : length xs ≡ 1 = ap length is in omega (arith, one, inside)
-
 -- no count of a note of a file whose stores had no fault
-file-counts : (mount : Mount) (closing : List Reply) (log : List Logged) (f g : FileSeen) → {notices : List (Option Notice)} → IsFile mount f → length g.stores ≡ length f.stores → LeavesFile mount closing log f g notices
+file-counts : (mount : Mount) (closing : Option Reply) (log : List Logged) (f g : FileSeen) → {notices : List (Option Notice)} → LeavesFile mount closing log f g notices
     → ((disk : ℕ) (old new : StoreSeen) → Store f g disk old new → new.state.faults ≡ old.state.faults) → (disk : ℕ) → disk < length f.stores → counts_of disk log ≡ []
-file-counts mount closing log f g is many (leaves_one {old} {new} was after_it leaves silent) sound disk inside =
-    let key : old.key.disk ≡ disk = ap (λ (k : StoreKey). k.disk) (file-key mount f is old was) ∙ sym (only-disk f.stores old disk was inside) in
-    subst (λ n. counts_of n log ≡ []) key
-    (still-counts old.state.faults new.state.faults (counts_of old.key.disk log) leaves.rises (sound 0 old new (first-is f.stores old was, first-is g.stores new after_it)))
-file-counts mount closing log f g is many (leaves_many some run told) sound disk inside =
+file-counts mount closing log f g leaves sound disk inside =
+    let many = leaves.disks.many in
     let old = there f.stores disk inside in
     let new = there g.stores disk (omega (arith, inside, many)) in
-    still-counts old.0.state.faults new.0.state.faults (counts_of disk log) (run.rises disk old.0 new.0 (old.1, new.1)) (sound disk old.0 new.0 (old.1, new.1))
+    still-counts old.0.state.faults new.0.state.faults (counts_of disk log) (leaves.faults.rises disk old.0 new.0 (old.1, new.1)) (sound disk old.0 new.0 (old.1, new.1))
 
 -- THE SCRIPT WAS RUN
 module _ (mount : Mount) (script : Script) (before after : BaySeen) (h : Histories) (said : List (List Said)) (closing : List Reply) (lost : List StoreKey) (notices : List ℕ) (played : Played mount script before after h said closing lost notices)
@@ -495,9 +491,9 @@ module _ (mount : Mount) (script : Script) (before after : BaySeen) (h : Histori
       let is : IsFile mount f.0 = (played.of.each file f.0 f.1).1 in
       let of : IsOfFile mount file (log_at h file) = played.files.each file inside in
       let disks : length f.0.stores ≡ length mount.disks = file-number mount f.0 is in
-      let counts = file-counts mount closing (log_at h file) f.0 g.0 is (played.same.pairs file f.0 g.0 f.1 g.1).number (played.leaves file f.0 g.0 f.1 g.1) (λ disk old new at. sound file disk f.0 g.0 old new f.1 g.1 at) in
+      let counts = file-counts mount (slice_get closing file) (log_at h file) f.0 g.0 (played.leaves file f.0 g.0 f.1 g.1) (λ disk old new at. sound file disk f.0 g.0 old new f.1 g.1 at) in
       quiet-log (log_at h file) 0 (no-notes (length mount.disks) (log_at h file) of.notes (λ disk low. counts disk (omega (arith, low, disks))))
-      (λ at entry found. entry-done mount.tree mount.page_size [] (take at (trail_of (log_at h file))) entry.event entry.answer entry.bytes (of.answers [] at entry found))
+      (λ at entry found. entry-done mount.tree mount.page_size [] (take at (trail_of (log_at h file))) entry.event entry.answer entry.bytes (of.answers (record { bytes = [] }) at entry found))
 
   calm-run : Calm h
   calm-run = record {

@@ -16,7 +16,8 @@ use Rattle.spr_report.specs.declared.status.Status.TheVariants.{Good, Memory}
 use Rattle.file_stores.specs.Held.{StoreSeen}
 use Rattle.file_stores.specs.Files.{FileSeen}
 use Rattle.file_stores.specs.Opening.{shape_of_file}
-use Rattle.run_files.specs.Run.{SaysRun, Store, ran_out, reported, stopped, unopened, untaken}
+use Rattle.run_files.specs.Leaves.{Store}
+use Rattle.run_files.specs.Run.{SaysRun, ran_out, reported, stopped, unopened, untaken}
 
 -- the bay had no fault in the run, and its count, which stops at its type's end, was not there
 pub record IsBaySound (before after : BaySeen) : Type 0 where

@@ -3,6 +3,8 @@
 
 mod sittings;
 mod sound;
+mod traced;
 
 pub use sittings::{sittings_go_on, synced_pages_outlast_sittings};
 pub use sound::sound_run_ends_well;
+pub use traced::traced_heads_are_of_the_frames;

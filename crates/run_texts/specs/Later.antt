@@ -2,7 +2,9 @@
 use Rattle.std.specs.Prelude.{ℕ, ◌+◌, List, [], ◌∷◌, not, find, position, Bool, true, false, Option, None}
 use Rattle.std.specs.Option.{option_map, option_or}
 use Rattle.stack_text.specs.declared.stack.StackLine.{StackLine}
-use Rattle.stack_text.specs.declared.stack.StackLine.TheVariants.{Page, File, Disk, Mirror, Coherency, Dfs, Vmm}
+use Rattle.stack_text.specs.declared.stack.StackLine.TheVariants.{Layer}
+use Rattle.stack_text.specs.declared.stack.LayerKind.TheVariants.{Upper}
+use Rattle.stack_text.specs.declared.stack.UpperKind.TheVariants.{Dfs}
 use Rattle.script_text.specs.declared.script.Call.{Call}
 use Rattle.script_text.specs.declared.script.Call.TheVariants.{Context, Bind, Unbind, List as ListNames, Open, Copy, Drop, Read, Write, Clear, Sync, Clean, Map, Unmap, Load, Store}
 use Rattle.script_text.specs.declared.script.Sub.{Sub}
@@ -11,13 +13,8 @@ use Rattle.script_text.specs.declared.script.CallLine.{CallLine}
 
 -- a distributed layer
 abbrev pub is_later : StackLine → Bool
-is_later (Page size) = false
-is_later (File name pages) = false
-is_later (Disk name machine) = false
-is_later (Mirror name machine left right) = false
-is_later (Coherency name machine below) = false
-is_later (Dfs name machine below) = true
-is_later (Vmm name machine below frames) = false
+is_later (Layer name machine (Upper Dfs below)) = true
+is_later line = false
 
 -- the number of the first such line, from 1
 abbrev pub later_line : List StackLine → Option ℕ

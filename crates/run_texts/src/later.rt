@@ -6,13 +6,22 @@ ghost use Rattle.run_texts.specs.Later.{is_later, later_line, is_made, is_built,
 
 use script_text::{Call, CallLine, Sub};
 use seen_values::Items;
-use stack_text::{MAX_LINES, StackLine, StackText};
+use stack_text::{LayerKind, MAX_LINES, StackLine, StackText, UpperKind};
 
 /// Whether a line asks for a layer that a run does not build yet.
 fn is_later(line: &StackLine) -> bool
     ensures { result ≡ is_later line.now }
 {
-    matches!(line, StackLine::Dfs { .. })
+    matches!(
+        line,
+        StackLine::Layer {
+            kind: LayerKind::Upper {
+                kind: UpperKind::Dfs,
+                ..
+            },
+            ..
+        }
+    )
 }
 
 /// The place of the first such line.

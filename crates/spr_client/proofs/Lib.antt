@@ -8,3 +8,4 @@ pub mod Targets
 pub mod Spaces
 pub mod MapLaws
 pub mod Translated
+pub mod BoundLaws

@@ -21,7 +21,7 @@ use Rattle.spr_client.specs.Lines.{IsOnMachine, IsTarget}
 target_is : (mount : Mount) (machine : ℕ) (target : Target) (name : List ℕ) → IsMount mount → IsOnStack mount (record { name = name; target = target }) → IsTarget mount (found_on mount machine target)
 target_is mount machine target name sound on =
     let leads = found_leads mount machine target sound on.view in
-    record { built = on.built; file = on.file; view = on.view; above = leads.above; node = leads.inside }
+    record { chosen = on.chosen; file = on.file; view = on.view; above = leads.above; node = leads.inside }
 
 target_by : (mount : Mount) (machine : ℕ) (objects : List OpenObject) (name : List ℕ) (target : Option Target) → IsMount mount → AllByRecursion (IsOnStack mount) objects → object_of name objects ≡ target
     → IfSome (option_map (found_on mount machine) target) (IsTarget mount)
@@ -38,7 +38,7 @@ found_target mount machine objects name found sound on is =
 pub received_target : (mount : Mount) (machine : ℕ) (kept : Option Kept) (found : Found) → IsMount mount → received mount kept ≡ Some found.target → found ≡ found_on mount machine found.target → IsTarget mount found
 received_target mount machine kept found sound is node =
     let leads = received_leads mount kept found.target is in
-    subst (λ (f : Found). IsTarget mount f) (sym node) (target_is mount machine found.target [] sound (record { built = leads.built; view = leads.view; file = leads.file }))
+    subst (λ (f : Found). IsTarget mount f) (sym node) (target_is mount machine found.target [] sound (record { view = leads.view; file = leads.file; chosen = leads.chosen }))
 
 -- nothing is found where no object is
 pub found-none : (mount : Mount) (machine : ℕ) (o : Option Target) → option_map (found_on mount machine) o ≡ None → o ≡ None
@@ -66,14 +66,14 @@ pub on_machine-with : (mount : Mount) (state : ClientState) (name : List ℕ) (t
 on_machine-with mount state name target kept life on is =
     let leads = received_leads mount kept target is in
     on_machine-holding mount state (with_object state.objects name (record target { life = life })) on
-    (on_stack-with_object mount state.objects name (record target { life = life }) on.objects leads.built leads.view leads.file)
+    (on_stack-with_object mount state.objects name (record target { life = life }) on.objects leads.view leads.file leads.chosen)
 
 pub on_machine-copy : (mount : Mount) (state : ClientState) (new : List OpenObject) (name other : List ℕ) (target : Target) → IsOnMachine mount state → object_of name state.objects ≡ Some target
     → new ≡ with_object state.objects other target → IsOnMachine mount (holding state new)
 on_machine-copy mount state new name other target on found is =
     let leads = on_stack-object_of mount state.objects name target on.objects found in
     on_machine-holding mount state new on
-    (subst (λ (os : List OpenObject). AllByRecursion (IsOnStack mount) os) (sym is) (on_stack-with_object mount state.objects other target on.objects leads.built leads.view leads.file))
+    (subst (λ (os : List OpenObject). AllByRecursion (IsOnStack mount) os) (sym is) (on_stack-with_object mount state.objects other target on.objects leads.view leads.file leads.chosen))
 
 -- a client whose last object was kept, of some life, or given up
 pub on_machine-either : (mount : Mount) (left state : ClientState) (name : List ℕ) (target : Target) (kept : Option Kept) → IsOnMachine mount state

@@ -17,17 +17,16 @@ use Rattle.name_context.specs.Names.{HasParts}
 use Rattle.client_objects.specs.declared.state.ClientState.{ClientState}
 use Rattle.client_objects.specs.declared.target.Found.{Found}
 use Rattle.client_objects.specs.Objects.{IsOnStack}
-use Rattle.client_objects.specs.Stored.{is_built}
+use Rattle.client_objects.specs.Found.{IsChosen}
 use Rattle.run_defs.specs.Stack.{file_named, pages_of, view_of}
-use Rattle.run_defs.specs.Plan.{Plan, sub_id}
+use Rattle.run_defs.specs.Plan.{Plan, kind_named}
 use Rattle.run_defs.specs.Fits.{Did, Gone, Went, Worked}
 use Rattle.spr_volume.specs.Passes.{Knows, as_known}
 use Rattle.spr_client.specs.Calls.{histories}
 
--- what was found leads to a view and a file of the stack, and its calls go to a layer above the ground, as frames of a subcontract that the
--- program has
+-- what was found leads to a view and a file of the stack, which its subcontract chooses, and its calls go to a layer above the ground
 pub record IsTarget (mount : Mount) (found : Found) : Type 0 where
-  pub built : is_built found.target.sub ≡ true
+  pub chosen : IsChosen found.target
   pub file : found.target.file < length mount.files
   pub view : is_view_in mount.nodes found.target.view ≡ true
   pub above : 0 < found.node
@@ -88,7 +87,7 @@ pub record LinesDone (mount : Mount) (caller : ℕ) (kept : ClientState) (lines 
 -- a call that the program has, whose names the stack has
 abbrev pub IsCallOf : Mount → Call → Type 0
 IsCallOf mount (Context path) = HasParts path
-IsCallOf mount (Bind path sub view file) = HasParts path × IsSome (sub_id sub) × IsSome (view_of mount view) × IsSome (file_named mount file)
+IsCallOf mount (Bind path sub view file) = HasParts path × IsSome (kind_named sub) × IsSome (view_of mount view) × IsSome (file_named mount file)
 IsCallOf mount (Unbind path) = HasParts path
 IsCallOf mount (ListNames path) = IsPathOf names_calls.List path
 IsCallOf mount (Open name path) = HasParts path

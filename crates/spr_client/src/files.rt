@@ -81,7 +81,7 @@ fn access_object<R: Wait, G: Ground, T: Gate>(
     let Ok(out) = vec![in alloc; 0u8; len] else {
         return Reply::Memory;
     };
-    let Ok(op) = framed(alloc, common, found.target, op) else {
+    let Ok((file, op)) = framed(alloc, common, found.target, op) else {
         return Reply::Memory;
     };
     answer_access(
@@ -89,7 +89,7 @@ fn access_object<R: Wait, G: Ground, T: Gate>(
         common,
         pass,
         client,
-        found.target.file,
+        file,
         found.node,
         found.target.life,
         &op,
@@ -203,18 +203,10 @@ pub(crate) fn sync_line<R: Wait, G: Ground, T: Gate>(
     let Some(found) = find(common, client, name) else {
         return Reply::NoObject;
     };
-    let Ok(()) = framed_sync(alloc, common, found.target) else {
+    let Ok(file) = framed_sync(alloc, common, found.target) else {
         return Reply::Memory;
     };
-    match sync_at(
-        rt,
-        common,
-        pass,
-        client.caller,
-        found.target.file,
-        found.node,
-        keep,
-    ) {
+    match sync_at(rt, common, pass, client.caller, file, found.node, keep) {
         Ok(answered) => reply_to(answered.answer, Vec::new(alloc)),
         Err(err) => refused(err),
     }

@@ -1,19 +1,19 @@
 //! Lines on the names.
 
-ghost use Rattle.std.specs.Prelude.{◌≡◌, None, Some, IsSome, true};
+ghost use Rattle.std.specs.Prelude.{◌≡◌, ◌≢◌, None, Some, IsSome};
 ghost use Rattle.std.specs.Option.{option_copied};
 ghost use Rattle.name_context.specs.declared.entry.NameCall.TheVariants as names_calls;
 ghost use Rattle.name_context.specs.History.{IsPathOf};
 ghost use Rattle.name_context.specs.Names.{HasParts};
-ghost use Rattle.client_objects.specs.Stored.{is_built};
+ghost use Rattle.client_objects.specs.declared.kind.ObjectKind.TheVariants.{Reconnectable};
 ghost use Rattle.run_defs.specs.Stack.{file_named, view_of};
-ghost use Rattle.run_defs.specs.Plan.{asking_names, binding, plan_bind_as, plan_done, plan_list, sub_id};
+ghost use Rattle.run_defs.specs.Plan.{asking_names, binding, plan_bind_as, plan_done, plan_list, kind_named};
 ghost use Rattle.spr_client.specs.Calls.{MayCall};
 ghost use Rattle.spr_client.specs.Lines.{LineDone};
 
 use crate::client::{Client, Common};
 use crate::line::{parts_of, refused_names};
-use client_objects::bound_object;
+use client_objects::{ObjectKind, bound_object};
 use hist_plain::Gate;
 use page_ground::Ground;
 use run_defs::{file_named, view_of};
@@ -22,8 +22,6 @@ use seen_values::{Items, Path, Text};
 use spr_volume::Pass;
 use std::alloc::Global;
 use std::sync::Wait;
-use sub_basic::{CLUSTER, SINGLETON};
-use sub_caching::CACHING;
 
 /// A line that makes a context.
 pub(crate) fn context_line<R: Wait, G: Ground, T: Gate>(
@@ -47,14 +45,14 @@ pub(crate) fn context_line<R: Wait, G: Ground, T: Gate>(
     }
 }
 
-/// The identifier of a subcontract that the program has.
-fn sub_id(sub: &Sub) -> Option<u16>
-    ensures { result ≡ sub_id sub.now }
+/// The subcontract that a line names, if a line may bind objects of it.
+fn kind_named(sub: &Sub) -> Option<ObjectKind>
+    ensures { result ≡ kind_named sub.now }
 {
     match sub {
-        Sub::Singleton => Some(SINGLETON),
-        Sub::Cluster => Some(CLUSTER),
-        Sub::Caching => Some(CACHING),
+        Sub::Singleton => Some(ObjectKind::Singleton),
+        Sub::Cluster => Some(ObjectKind::Cluster),
+        Sub::Caching => Some(ObjectKind::Caching),
         Sub::Reconnectable => None,
     }
 }
@@ -73,19 +71,19 @@ pub(crate) fn bind_line<R: Wait, G: Ground, T: Gate>(
 ) -> Reply
     requires may { MayCall common.now.mount.now common.now.volume.now pass.old client.now.caller }
     requires path { HasParts path.now }
-    requires sub { IsSome (sub_id sub.now) }
+    requires sub { IsSome (kind_named sub.now) }
     requires view { IsSome (view_of common.now.mount.now view.now) }
     requires file { IsSome (file_named common.now.mount.now file.now) }
-    ensures { LineDone common.now.mount.now client.now.caller client.now.state (plan_bind_as client.now.state path.now (sub_id sub.now) (view_of common.now.mount.now view.now) (file_named common.now.mount.now file.now)) pass.old pass.new result client.now.state }
+    ensures { LineDone common.now.mount.now client.now.caller client.now.state (plan_bind_as client.now.state path.now (kind_named sub.now) (view_of common.now.mount.now view.now) (file_named common.now.mount.now file.now)) pass.old pass.new result client.now.state }
 {
-    let (Some(sub), Some(node), Some(number)) = (
-        sub_id(sub),
+    let (Some(kind), Some(node), Some(number)) = (
+        kind_named(sub),
         view_of(common.mount, view),
         file_named(common.mount, file),
     ) else {
         unreachable!()
     };
-    bind_object(rt, alloc, common, pass, client, path, sub, node, number)
+    bind_object(rt, alloc, common, pass, client, path, kind, node, number)
 }
 
 /// A line that binds an object of a subcontract that the program has, of a file at a view.
@@ -96,19 +94,20 @@ fn bind_object<R: Wait, G: Ground, T: Gate>(
     pass: &mut Pass<G>,
     client: &Client,
     path: &Path,
-    sub: u16,
+    kind: ObjectKind,
     node: u32,
     file: u32,
 ) -> Reply
     requires may { MayCall common.now.mount.now common.now.volume.now pass.old client.now.caller }
     requires path { HasParts path.now }
-    requires sub { is_built sub ≡ true }
-    ensures { LineDone common.now.mount.now client.now.caller client.now.state (plan_done client.now.state (binding path.now sub node file)) pass.old pass.new result client.now.state }
+    requires kind { kind ≢ Reconnectable }
+    ensures { LineDone common.now.mount.now client.now.caller client.now.state (plan_done client.now.state (binding path.now kind node file)) pass.old pass.new result client.now.state }
 {
     let Ok(parts) = parts_of(alloc, path) else {
         return Reply::Memory;
     };
-    let Ok(object) = bound_object(alloc, sub, node, file) else {
+    // The names of the objects that lines bind are not their paths.
+    let Ok(object) = bound_object(alloc, kind, "", node, file) else {
         return Reply::Memory;
     };
     match common.volume.bind(rt, pass, client.caller, path, object) {

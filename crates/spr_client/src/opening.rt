@@ -40,7 +40,7 @@ fn open_received<R: Wait, G: Ground, T: Gate>(
         → (client.new.state ≡ holding client.old.state objects) ⊎ ((life : ℕ) × (client.new.state ≡ holding client.old.state (with_object objects name (record found.target { life = life })))) }
     ensures same { client.new ≡ record client.old { state = client.new.state } }
 {
-    let Ok(op) = framed(alloc, common, found.target, Op::Open) else {
+    let Ok((file, op)) = framed(alloc, common, found.target, Op::Open) else {
         client.state.objects.give_up_last();
         return Reply::Memory;
     };
@@ -49,7 +49,7 @@ fn open_received<R: Wait, G: Ground, T: Gate>(
         common,
         pass,
         client.caller,
-        found.target.file,
+        file,
         found.node,
         0,
         &op,

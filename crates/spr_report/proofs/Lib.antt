@@ -4,3 +4,4 @@ mod Traces
 pub mod NamesWords
 pub mod NamesPartLaws
 mod Joined
+pub mod FrameHeads

@@ -1,12 +1,13 @@
 -- The two messages of an event, a question or an order and its answer: what their heads say beside the page.
-use Rattle.std.specs.Prelude.{ℕ, ◌+◌, ◌==◌, Bool, true, false, not, Option, Some, None}
+use Rattle.std.specs.Prelude.{ℕ, ◌+◌, Bool, true, false, not, Option, Some, None}
 use Rattle.hist_plain.specs.declared.event.Event.{Event}
 use Rattle.tower_core.specs.declared.right.Right.{Right}
-use Rattle.tower_core.specs.TreeShape.{TreeShape, parent}
+use Rattle.tower_core.specs.TreeShape.{TreeShape}
 use Rattle.tower_core.specs.Trail.{State, holds}
 use Rattle.layer_laws.specs.Sent.{granted}
 use Rattle.pager_channel.specs.declared.operation.Operation.{Operation}
 use Rattle.pager_channel.specs.declared.flags.TheConstants.{DATA, REPLY, TO_CACHE}
+pub use Rattle.page_messages.specs.Written.{is_changed}
 use Rattle.spr_report.specs.declared.exchange.Exchange.{Exchange}
 
 -- the flags of a message with data, or of one without
@@ -49,10 +50,6 @@ deleted page = both page Operation.DeleteRange Right.Nothing TO_CACHE (TO_CACHE 
 -- whether the node has a right on the page
 abbrev pub has_page : State → ℕ → ℕ → Bool
 has_page s node page = holds ((s.column page).right node)
-
--- whether the node's copy of the page is changed: its place differs from that of the parent's copy
-abbrev pub is_changed : TreeShape → State → ℕ → ℕ → Bool
-is_changed shape s node page = not ((s.column page).at node == (s.column page).at (parent shape node))
 
 -- THE TABLE OF MESSAGES: the two of an event after this state. A caller's event has none
 abbrev pub exchange_of : TreeShape → State → Event → Option Exchange

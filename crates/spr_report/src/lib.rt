@@ -21,7 +21,7 @@ mod writing;
 
 pub use bytes::head_bytes;
 pub use heads::{Heads, heads_of};
-pub use heads_law::heads_are_of_the_letters;
+pub use heads_law::{heads_are_of_the_frames, heads_are_of_the_letters};
 pub use names_laws::refusals_name_parts;
 pub use names_lines::put_names;
 pub use names_refusal::reply_of;

@@ -18,7 +18,7 @@ use Rattle.stack_accept.specs.declared.entries.NodeEntry.{NodeEntry}
 use Rattle.stack_accept.specs.Mount.{Mount, is_view}
 use Rattle.name_context.specs.Names.{HasParts}
 use Rattle.run_defs.specs.Stack.{view_of, file_named}
-use Rattle.run_defs.specs.Plan.{sub_id}
+use Rattle.run_defs.specs.Plan.{kind_named}
 use Rattle.spr_client.specs.Lines.{AreCalls, IsCallOf}
 use Rattle.run_texts.specs.Later.{is_made, is_built, later_in, later_call}
 use Rattle.run_texts.specs.Known.{has_view, has_file, is_known, unknown_client, unknown_in, unknown_call, unknown_line}
@@ -44,7 +44,7 @@ found-from p n (x ∷ xs) e = some-if (p x) (list_any p xs) n (position_from p (
 found : {A : Type 0} (p : A → Bool) (xs : List A) → list_any p xs ≡ true → IsSome (position p xs)
 found p xs e = subst (λ (o : Option ℕ). IsSome o) (sym (position_from-zero p xs)) (found-from p 0 xs e)
 
-made-some : (sub : Sub) → is_made sub ≡ true → IsSome (sub_id sub)
+made-some : (sub : Sub) → is_made sub ≡ true → IsSome (kind_named sub)
 made-some subs.Singleton e = refl
 made-some subs.Cluster e = refl
 made-some subs.Caching e = refl

@@ -1,5 +1,5 @@
 -- What the line of a node stands on in an accepted text: the ground, or a coherency or a distributed layer that is a node.
-use Rattle.std.proofs.Common.{◌≡◌, ℕ, List, [], ◌∷◌, ◌++◌, Bool, true, false, not, ◌&&◌, refl, sym, ap, subst, ◌∙◌, inl, inr, append_assoc}
+use Rattle.std.proofs.Common.{◌≡◌, ℕ, List, [], ◌∷◌, ◌++◌, Bool, true, false, not, ◌&&◌, ◌||◌, refl, sym, ap, subst, ◌∙◌, inl, inr, append_assoc}
 use Rattle.std.specs.Prelude.{◌⊎◌}
 use Rattle.std.specs.List.{list_any, AllByRecursion}
 use Rattle.std.specs.Str.{bytes_eq}
@@ -7,7 +7,8 @@ use Rattle.std.proofs.lemmas.Slice.Eq.{bytes_eq-Decides}
 use Rattle.std.proofs.lemmas.Bool.{cases_Bool, or_cases, or_parts, or_from, or_left, or_right, and_parts, and_from, both_ways, false≢true, not-true, not_from_true, not_from_false, false_from_ne_true, eqb-true}
 use Rattle.std.proofs.lemmas.List.Folds.{list_any-append}
 use Rattle.stack_text.specs.declared.stack.StackLine.{StackLine}
-use Rattle.stack_text.specs.declared.stack.StackLine.TheVariants.{Page, File, Disk, Mirror, Coherency, Dfs, Vmm}
+use Rattle.stack_text.specs.declared.stack.StackLine.TheVariants.{Layer}
+use Rattle.stack_text.specs.declared.stack.LayerKind.TheVariants.{Disk, Mirror, Upper}
 use Rattle.stack_accept.specs.declared.rule.Rule.{Rule}
 use Rattle.stack_accept.specs.declared.rule.Rule.TheVariants.{EarlierLayer, OneUser, OneGround, CoherentFirst, ManagerOnTop, SameMachine}
 use Rattle.stack_accept.specs.Lines.{is_coherency, is_mirror, is_vmm, is_storage, is_upper, is_layer, machine_of, is_named, is_layer_named, stands_on, is_declared, is_storage_name, is_vmm_name, is_used, is_side}
@@ -28,26 +29,21 @@ side_used lines name unused =
     false_from_ne_true (is_side lines name) (λ side.
     both_ways (is_used lines name) unused (list_any_weaker (λ line. is_mirror line && stands_on name line) (λ line. stands_on name line) (λ line is. (and_parts (is_mirror line) (stands_on name line) is).1) lines side))
 
-mirror_unused : (earlier : List StackLine) (own machine left right base : List ℕ) → may_use earlier (Mirror own machine left right) base ≡ true → is_used earlier base ≡ false
+mirror_unused : (earlier : List StackLine) (own machine left right base : List ℕ) → may_use earlier (Layer own machine (Mirror left right)) base ≡ true → is_used earlier base ≡ false
 mirror_unused earlier own machine left right base e =
-    elim (or_cases (is_unused earlier (Mirror own machine left right) base) (is_shared_layer earlier (Mirror own machine left right) base) e) [
-      | inl unused ↦ not-true (is_used earlier base) (and_parts (not (is_used earlier base)) (not (is_both_sides base (Mirror own machine left right))) unused).0
+    elim (or_cases (is_unused earlier (Layer own machine (Mirror left right)) base) (is_shared_layer earlier (Layer own machine (Mirror left right)) base) e) [
+      | inl unused ↦ not-true (is_used earlier base) (and_parts (not (is_used earlier base)) (not (is_both_sides base (Layer own machine (Mirror left right)))) unused).0
       | inr shared ↦ absurd (false≢true shared)
     ]
 
 no_mirror_on : (earlier : List StackLine) (line : StackLine) (name : List ℕ) → keeps OneUser earlier line ≡ true → is_used earlier name ≡ true → (is_mirror line && stands_on name line) ≡ false
-no_mirror_on earlier (Page size) name kept used = refl
-no_mirror_on earlier (File own pages) name kept used = refl
-no_mirror_on earlier (Disk own machine) name kept used = refl
-no_mirror_on earlier (Mirror own machine left right) name kept used =
-    let users = and_parts (may_use earlier (Mirror own machine left right) left) (may_use earlier (Mirror own machine left right) right) kept in
-    let other : (base : List ℕ) → may_use earlier (Mirror own machine left right) base ≡ true → bytes_eq base name ≡ false =
+no_mirror_on earlier (Layer own machine (Mirror left right)) name kept used =
+    let users = and_parts (may_use earlier (Layer own machine (Mirror left right)) left) (may_use earlier (Layer own machine (Mirror left right)) right) kept in
+    let other : (base : List ℕ) → may_use earlier (Layer own machine (Mirror left right)) base ≡ true → bytes_eq base name ≡ false =
     λ base may.
     false_from_ne_true (bytes_eq base name) (λ same. both_ways (is_used earlier base) (mirror_unused earlier own machine left right base may) (ap (λ n. is_used earlier n) ((bytes_eq-Decides base name).0 same) ∙ used)) in
     or_from (bytes_eq left name) (bytes_eq right name) (other left users.0) (other right users.1)
-no_mirror_on earlier (Coherency own machine below) name kept used = refl
-no_mirror_on earlier (Dfs own machine below) name kept used = refl
-no_mirror_on earlier (Vmm own machine below frames) name kept used = refl
+no_mirror_on earlier _ name kept used = refl
 
 -- what has a user is no later mirror's side
 later_no_side : (earlier lines : List StackLine) (name : List ℕ) → KeepsRules earlier lines → is_used earlier name ≡ true → is_side lines name ≡ false
@@ -86,40 +82,27 @@ record KeepsBase (text earlier : List StackLine) (line : StackLine) : Type 0 whe
   pub lowest : is_storage_name text (base_of line) ≡ true → is_first_node text line ≡ true
 
 keeps_base : (text earlier : List StackLine) (line : StackLine) → ((rule : Rule) → keeps rule earlier line ≡ true) → is_node text line ≡ true → KeepsBase text earlier line
-keeps_base text earlier (Page size) kept is = absurd (false≢true is)
-keeps_base text earlier (File name pages) kept is = absurd (false≢true is)
-keeps_base text earlier (Disk name machine) kept is = absurd (false≢true is)
-keeps_base text earlier (Mirror name machine left right) kept is = absurd (false≢true is)
-keeps_base text earlier (Coherency name machine below) kept is = record {
+keeps_base text earlier (Layer name machine (Upper kind below)) kept is = record {
   declared = kept EarlierLayer;
   may = kept OneUser;
-  coherent = λ _. refl;
+  coherent = λ s. elim (or_cases (is_coherency (Layer name machine (Upper kind below))) (not (is_storage_name earlier below)) (kept CoherentFirst)) [
+    | inl coherent ↦ coherent
+    | inr other ↦ absurd (both_ways (is_storage_name earlier below) (not-true (is_storage_name earlier below) other) s)
+  ];
   manager = not-true (is_vmm_name earlier below) (kept ManagerOnTop);
   near = kept SameMachine;
   plain = refl;
   stands = (bytes_eq-Decides below below).1 refl;
   lowest = λ s. and_from _ _ is (not_from_false (not (is_storage_name text below)) (not_from_true (is_storage_name text below) s));
 }
-keeps_base text earlier (Dfs name machine below) kept is = record {
-  declared = kept EarlierLayer;
-  may = kept OneUser;
-  coherent = λ s. absurd (both_ways (is_storage_name earlier below) (not-true (is_storage_name earlier below) (kept CoherentFirst)) s);
-  manager = not-true (is_vmm_name earlier below) (kept ManagerOnTop);
-  near = kept SameMachine;
-  plain = refl;
-  stands = (bytes_eq-Decides below below).1 refl;
-  lowest = λ s. and_from _ _ is (not_from_false (not (is_storage_name text below)) (not_from_true (is_storage_name text below) s));
-}
-keeps_base text earlier (Vmm name machine below frames) kept is = record {
-  declared = kept EarlierLayer;
-  may = kept OneUser;
-  coherent = λ s. absurd (both_ways (is_storage_name earlier below) (not-true (is_storage_name earlier below) (kept CoherentFirst)) s);
-  manager = not-true (is_vmm_name earlier below) (kept ManagerOnTop);
-  near = kept SameMachine;
-  plain = refl;
-  stands = (bytes_eq-Decides below below).1 refl;
-  lowest = λ s. and_from _ _ is (not_from_false (not (is_storage_name text below)) (not_from_true (is_storage_name text below) s));
-}
+keeps_base text earlier _ kept is = absurd (false≢true is)
+
+-- a layer is a disk or a mirror, or an upper layer
+low_or_upper : (line : StackLine) → is_layer line ≡ true → (is_storage line || is_upper line) ≡ true
+low_or_upper (Layer name machine Disk) e = refl
+low_or_upper (Layer name machine (Mirror left right)) e = refl
+low_or_upper (Layer name machine (Upper kind below)) e = refl
+low_or_upper _ e = absurd (false≢true e)
 
 -- a layer of the name that is neither storage nor a memory manager
 plain_layer : (lines : List StackLine) (name : List ℕ) → is_declared lines name ≡ true → is_storage_name lines name ≡ false → is_vmm_name lines name ≡ false
@@ -131,7 +114,7 @@ plain_layer (line ∷ lines) name e s v =
     elim (or_cases (is_layer_named name line) (is_declared lines name) e) [
       | inl here ↦
           let both = and_parts (is_layer line) (is_named name line) here in
-          let upper : is_upper line ≡ true = elim (or_cases (is_storage line) (is_upper line) both.0) [
+          let upper : is_upper line ≡ true = elim (or_cases (is_storage line) (is_upper line) (low_or_upper line both.0)) [
             | inl st ↦ absurd (both_ways (is_storage line && is_named name line) storage.0 (and_from _ _ st both.1))
             | inr u ↦ u
           ] in
@@ -142,13 +125,8 @@ plain_layer (line ∷ lines) name e s v =
 
 -- an upper layer of a name that no mirror has as a side is a node
 named_node : (text : List StackLine) (name : List ℕ) (line : StackLine) → is_side text name ≡ false → is_upper line ≡ true → is_named name line ≡ true → is_node text line ≡ true
-named_node text name (Page size) side up named = absurd (false≢true up)
-named_node text name (File own pages) side up named = absurd (false≢true up)
-named_node text name (Disk own machine) side up named = absurd (false≢true up)
-named_node text name (Mirror own machine left right) side up named = absurd (false≢true up)
-named_node text name (Coherency own machine below) side up named = not_from_false (is_side text own) (ap (λ n. is_side text n) ((bytes_eq-Decides own name).0 named) ∙ side)
-named_node text name (Dfs own machine below) side up named = not_from_false (is_side text own) (ap (λ n. is_side text n) ((bytes_eq-Decides own name).0 named) ∙ side)
-named_node text name (Vmm own machine below frames) side up named = not_from_false (is_side text own) (ap (λ n. is_side text n) ((bytes_eq-Decides own name).0 named) ∙ side)
+named_node text name (Layer own machine (Upper kind below)) side up named = not_from_false (is_side text own) (ap (λ n. is_side text n) ((bytes_eq-Decides own name).0 named) ∙ side)
+named_node text name _ side up named = absurd (false≢true up)
 
 -- a line stands on the ground, or on a view
 pub record IsOnGround (text : List StackLine) (line : StackLine) : Type 0 where

@@ -3,18 +3,18 @@ use Rattle.std.proofs.Common.{◌≡◌, ℕ, zero, suc, ◌+◌, ◌<◌, ◌�
 use Rattle.std.specs.Prelude.{slice_get}
 use Rattle.std.specs.List.{list_any, AllByRecursion}
 use Rattle.std.proofs.lemmas.Option.{slice_get_within, slice_get-get_or}
-use Rattle.std.proofs.lemmas.Bool.{cases_Bool, or_left, or_right, and_parts, and_from, and_right, false≢true, cond-true, cond-false, ltb-true}
+use Rattle.std.proofs.lemmas.Bool.{cases_Bool, or_left, and_parts, and_from, and_right, false≢true, cond-true, cond-false, ltb-true}
 use Rattle.std.proofs.lemmas.List.{reverse-reverse}
 use Rattle.stack_text.specs.declared.stack.StackLine.{StackLine}
-use Rattle.stack_text.specs.declared.stack.StackLine.TheVariants.{Page, File, Disk, Mirror, Coherency, Dfs, Vmm}
-use Rattle.stack_accept.specs.declared.TheConstants.{MAX_FRAMES}
+use Rattle.stack_text.specs.declared.stack.StackLine.TheVariants.{Layer}
+use Rattle.stack_text.specs.declared.stack.LayerKind.TheVariants.{Upper}
 use Rattle.stack_accept.specs.declared.rule.Rule.TheVariants.{NewName, EarlierLayer, Limits}
 use Rattle.stack_accept.specs.declared.entries.NodeEntry.{NodeEntry}
 use Rattle.stack_accept.specs.Lines.{is_layer, is_storage, is_upper, name_of, is_named, is_layer_named, is_declared}
-use Rattle.stack_accept.specs.Rules.{keeps, is_taken, depth_on, depth_back, has_room, is_count, KeepsRules}
+use Rattle.stack_accept.specs.Rules.{keeps, is_taken, depth_on, depth_back, has_room, has_few_frames, KeepsRules}
 use Rattle.stack_accept.specs.Mount.{base_of, ground_name, node_lines, nodes_of, machines_of, below_of, depth_in, depth}
 use Rattle.stack_accept.proofs.Lists.{same_value, all_got}
-use Rattle.stack_accept.proofs.NodeLaws.{word_is}
+use Rattle.stack_accept.proofs.NodeLaws.{word_is, storage_layer, upper_layer}
 use Rattle.stack_accept.proofs.MountLaws.{has_nodes}
 use Rattle.stack_accept.proofs.NameLaws.{all_named, named_own}
 use Rattle.stack_accept.proofs.BackLaws.{KeepsBack, keeps_back, tail_back, new_back, declared_back, taken_more, all_reverse}
@@ -32,13 +32,8 @@ old_depth (line ∷ newer) back name keeps taken =
     depth_same line (newer ++ back) name (new_back line (newer ++ back) name (keeps.0 NewName) (taken_more newer back name taken)) ∙ old_depth newer back name keeps.1 taken
 
 storage_adds : (line : StackLine) → is_storage line ≡ true → (under : List ℕ → ℕ) → depth_on line under ≡ 0
-storage_adds (Page size) e under = refl
-storage_adds (File name pages) e under = refl
-storage_adds (Disk name machine) e under = refl
-storage_adds (Mirror name machine left right) e under = refl
-storage_adds (Coherency name machine below) e under = absurd (false≢true e)
-storage_adds (Dfs name machine below) e under = absurd (false≢true e)
-storage_adds (Vmm name machine below frames) e under = absurd (false≢true e)
+storage_adds (Layer name machine (Upper kind below)) e under = absurd (false≢true e)
+storage_adds _ e under = refl
 
 -- a disk or a mirror has depth 0
 storage_depth : (name : List ℕ) (back : List StackLine) → AllByRecursion (λ l. is_named name l ≡ true → is_storage l ≡ true) back → depth_back back name ≡ 0
@@ -60,14 +55,9 @@ record IsUpperLine (earlier : List StackLine) (line : StackLine) : Type 0 where
   pub room : has_room earlier (base_of line) ≡ true
 
 upper_line : (earlier : List StackLine) (line : StackLine) → is_upper line ≡ true → keeps EarlierLayer earlier line ≡ true → keeps Limits earlier line ≡ true → IsUpperLine earlier line
-upper_line earlier (Page size) up declared room = absurd (false≢true up)
-upper_line earlier (File name pages) up declared room = absurd (false≢true up)
-upper_line earlier (Disk name machine) up declared room = absurd (false≢true up)
-upper_line earlier (Mirror name machine left right) up declared room = absurd (false≢true up)
-upper_line earlier (Coherency name machine below) up declared room = record { name = name; named = refl; adds = λ under. refl; declared = declared; room = room }
-upper_line earlier (Dfs name machine below) up declared room = record { name = name; named = refl; adds = λ under. refl; declared = declared; room = room }
-upper_line earlier (Vmm name machine below frames) up declared room =
-    record { name = name; named = refl; adds = λ under. refl; declared = declared; room = (and_parts (has_room earlier below) (is_count MAX_FRAMES frames) room).0 }
+upper_line earlier (Layer name machine (Upper kind below)) up declared room =
+    record { name = name; named = refl; adds = λ under. refl; declared = declared; room = (and_parts (has_room earlier below) (has_few_frames kind) room).0 }
+upper_line earlier _ up declared room = absurd (false≢true up)
 
 -- an upper layer is one deeper than what it stands on, which is not too deep
 pub record IsDeep (back : List StackLine) (line : StackLine) : Type 0 where
@@ -85,7 +75,7 @@ deep newer back line keeps up =
     let regrouped : newer ++ line ∷ back ≡ (newer ++ line ∷ []) ++ back = sym (append_assoc newer (line ∷ []) back) in
     let above : depth_back (newer ++ line ∷ back) is.name ≡ depth_back (line ∷ back) is.name = old_depth newer (line ∷ back) is.name keeps (or_left (is_named is.name line) (is_taken back is.name) named) in
     let mine : depth_back (line ∷ back) is.name ≡ depth_back back b + 1 =
-    cond-true {A = ℕ} (is_layer_named is.name line) (depth_on line (λ base. depth_back back base)) (depth_back back is.name) (and_from _ _ (or_right (is_storage line) (is_upper line) up) named)
+    cond-true {A = ℕ} (is_layer_named is.name line) (depth_on line (λ base. depth_back back base)) (depth_back back is.name) (and_from _ _ (upper_layer line up) named)
     ∙ is.adds (λ base. depth_back back base) in
     let under : depth_back (newer ++ line ∷ back) b ≡ depth_back back b =
     ap (λ ls. depth_back ls b) regrouped ∙ old_depth (newer ++ line ∷ []) back b (subst KeepsBack regrouped keeps) (declared_back back b is.declared) in
@@ -109,7 +99,7 @@ ground_depth text kept node at =
     let has = has_nodes text kept in
     let ground = ground_is text has in
     let same : has.ground ≡ node = same_value has.ground node (ap (λ ns. slice_get ns 0) (sym has.all) ∙ at) in
-    let entry = entry_of (machines_of text) (node_lines text) has.line has.ground (or_left (is_storage has.line) (is_upper has.line) has.storage) has.named in
+    let entry = entry_of (machines_of text) (node_lines text) has.line has.ground (storage_layer has.line has.storage) has.named in
     let name : ground_name text ≡ node.name = same_value (ground_name text) node.name (sym (word_is (name_of has.line) (ground_name text) ground.1) ∙ entry.name ∙ ap (λ (n : NodeEntry). Some n.name) same) in
     let there : list_any (λ l. is_storage l && is_named (ground_name text) l) text ≡ true = some_found (λ l. is_storage l && is_named (ground_name text) l) text has.line has.found in
     let all = all_named (λ l. is_storage l) (ground_name text) [] text kept there in

@@ -8,7 +8,9 @@ use Rattle.std.proofs.lemmas.Slice.Eq.{bytes_eq-Decides}
 use Rattle.std.proofs.lemmas.Bool.{cases_Bool, or_cases, or_parts, or_from, or_left, or_right, and_parts, and_from, both_ways, false≢true, not_from_true, not_from_false, false_from_ne_true, cond-false, cond-true, cond_both}
 use Rattle.std.proofs.lemmas.List.Sorted.{IsPermutation-refl, IsPermutation-trans, IsPermutation-append_left, IsPermutation-append_right, IsPermutation-append_comm}
 use Rattle.stack_text.specs.declared.stack.StackLine.{StackLine}
-use Rattle.stack_text.specs.declared.stack.StackLine.TheVariants.{Page, File, Disk, Mirror, Coherency, Dfs, Vmm}
+use Rattle.stack_text.specs.declared.stack.StackLine.TheVariants.{Page, File, Layer}
+use Rattle.stack_text.specs.declared.stack.LayerKind.TheVariants.{Mirror, Upper}
+use Rattle.stack_text.specs.declared.stack.UpperKind.TheVariants.{Coherency}
 use Rattle.stack_accept.specs.declared.rule.Rule.TheVariants.{EarlierLayer}
 use Rattle.stack_accept.specs.Lines.{is_storage, is_named, stands_on, is_declared, is_storage_name, is_used, is_coherent_storage}
 use Rattle.stack_accept.specs.Rules.{keeps, is_taken}
@@ -25,8 +27,8 @@ part_named (line ∷ back) name = (is_part back line && is_named name line) || p
 
 -- the line puts the part of the name into its own
 abbrev pub takes : List StackLine → StackLine → List ℕ → Bool
-takes back (Mirror own machine left right) name = bytes_eq left name || bytes_eq right name
-takes back (Coherency own machine below) name = is_storage_name back below && bytes_eq below name
+takes back (Layer own machine (Mirror left right)) name = bytes_eq left name || bytes_eq right name
+takes back (Layer own machine (Upper Coherency below)) name = is_storage_name back below && bytes_eq below name
 takes back _ name = false
 
 abbrev pub is_put : List StackLine → List ℕ → Bool
@@ -36,11 +38,7 @@ is_put (line ∷ back) name = takes back line name || is_put back name
 abbrev pub own_name : StackLine → List ℕ
 own_name (Page size) = []
 own_name (File name pages) = name
-own_name (Disk name machine) = name
-own_name (Mirror name machine left right) = name
-own_name (Coherency name machine below) = name
-own_name (Dfs name machine below) = name
-own_name (Vmm name machine below frames) = name
+own_name (Layer name machine kind) = name
 
 -- the names of the parts that stand in no other
 abbrev pub left_by : List StackLine → StackLine → List (List ℕ) → List (List ℕ)
@@ -154,19 +152,15 @@ take_out g (own ∷ names) name d e =
 -- what a line takes is declared behind it, and used
 
 pub takes_declared : (back : List StackLine) (line : StackLine) (name : List ℕ) → keeps EarlierLayer (reverse back) line ≡ true → takes back line name ≡ true → is_taken back name ≡ true
-takes_declared back (Page size) name e t = absurd (false≢true t)
-takes_declared back (File own pages) name e t = absurd (false≢true t)
-takes_declared back (Disk own machine) name e t = absurd (false≢true t)
-takes_declared back (Mirror own machine left right) name e t =
+takes_declared back (Layer own machine (Mirror left right)) name e t =
     let both = and_parts (is_declared (reverse back) left) (is_declared (reverse back) right) e in
     elim (or_cases (bytes_eq left name) (bytes_eq right name) t) [
       | inl l ↦ subst (λ n. is_taken back n ≡ true) ((bytes_eq-Decides left name).0 l) (declared_back back left both.0)
       | inr r ↦ subst (λ n. is_taken back n ≡ true) ((bytes_eq-Decides right name).0 r) (declared_back back right both.1)
     ]
-takes_declared back (Coherency own machine below) name e t =
+takes_declared back (Layer own machine (Upper Coherency below)) name e t =
     subst (λ n. is_taken back n ≡ true) ((bytes_eq-Decides below name).0 (and_parts (is_storage_name back below) (bytes_eq below name) t).1) (declared_back back below e)
-takes_declared back (Dfs own machine below) name e t = absurd (false≢true t)
-takes_declared back (Vmm own machine below frames) name e t = absurd (false≢true t)
+takes_declared back _ name e t = absurd (false≢true t)
 
 pub put_declared : (back : List StackLine) (name : List ℕ) → KeepsBack back → is_put back name ≡ true → is_taken back name ≡ true
 put_declared [] name keeps e = absurd (false≢true e)
@@ -177,13 +171,9 @@ put_declared (line ∷ back) name keeps e =
     ]
 
 pub takes_used : (back : List StackLine) (line : StackLine) (name : List ℕ) → takes back line name ≡ true → stands_on name line ≡ true
-takes_used back (Page size) name t = absurd (false≢true t)
-takes_used back (File own pages) name t = absurd (false≢true t)
-takes_used back (Disk own machine) name t = absurd (false≢true t)
-takes_used back (Mirror own machine left right) name t = t
-takes_used back (Coherency own machine below) name t = (and_parts (is_storage_name back below) (bytes_eq below name) t).1
-takes_used back (Dfs own machine below) name t = absurd (false≢true t)
-takes_used back (Vmm own machine below frames) name t = absurd (false≢true t)
+takes_used back (Layer own machine (Mirror left right)) name t = t
+takes_used back (Layer own machine (Upper Coherency below)) name t = (and_parts (is_storage_name back below) (bytes_eq below name) t).1
+takes_used back _ name t = absurd (false≢true t)
 
 pub put_used : (back : List StackLine) (name : List ℕ) → is_put back name ≡ true → is_used back name ≡ true
 put_used [] name e = absurd (false≢true e)
@@ -210,17 +200,12 @@ storage_part (line ∷ back) name e =
 
 -- a coherency layer that stands on a storage stands on an older one
 coherent_older : (newer back : List StackLine) (line : StackLine) → KeepsBack (newer ++ line ∷ back) → is_coherent_storage (newer ++ line ∷ back) line ≡ true → is_coherent_storage back line ≡ true
-coherent_older newer back (Page size) keeps e = e
-coherent_older newer back (File name pages) keeps e = e
-coherent_older newer back (Disk name machine) keeps e = e
-coherent_older newer back (Mirror name machine left right) keeps e = e
-coherent_older newer back (Coherency name machine below) keeps e =
-    let line = Coherency name machine below in
+coherent_older newer back (Layer name machine (Upper Coherency below)) keeps e =
+    let line = Layer name machine (Upper Coherency below) in
     let here = tail_back newer (line ∷ back) keeps in
     let regrouped : newer ++ line ∷ back ≡ (newer ++ line ∷ []) ++ back = sym (append_assoc newer (line ∷ []) back) in
     old_storage (newer ++ line ∷ []) back below (subst KeepsBack regrouped keeps) (declared_back back below (here.0 EarlierLayer)) (ap (λ ls. is_storage_name ls below) (sym regrouped) ∙ e)
-coherent_older newer back (Dfs name machine below) keeps e = e
-coherent_older newer back (Vmm name machine below frames) keeps e = e
+coherent_older newer back _ keeps e = e
 
 pub side_part : (newer back : List StackLine) (name : List ℕ) → KeepsBack (newer ++ back) → list_any (λ line. (is_storage line || is_coherent_storage (newer ++ back) line) && is_named name line) back ≡ true → part_named back name ≡ true
 side_part newer [] name keeps e = e

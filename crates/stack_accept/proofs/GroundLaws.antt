@@ -4,21 +4,23 @@ use Rattle.std.specs.List.{list_any, list_all, flat_map, find, AllByRecursion}
 use Rattle.std.specs.List.Sorted.{IsPermutation}
 use Rattle.std.specs.Str.{bytes_eq}
 use Rattle.std.proofs.lemmas.Slice.Eq.{bytes_eq-Decides}
-use Rattle.std.proofs.lemmas.Bool.{cases_Bool, or_cases, or_parts, or_from, or_left, or_right, and_parts, and_from, and_left, both_ways, false≢true, true≢false, not-true, not-false, not_from_true, not_from_false, false_from_ne_true, cond-false, cond-true, cond_both, eqb-true}
+use Rattle.std.proofs.lemmas.Bool.{cases_Bool, or_cases, or_parts, or_from, or_left, or_right, and_parts, and_from, and_left, both_ways, false≢true, true≢false, not-true, not_from_true, not_from_false, false_from_ne_true, cond-false, cond-true, cond_both, eqb-true}
 use Rattle.std.proofs.lemmas.List.{append-nil, reverse-reverse}
 use Rattle.std.specs.Option.{option_map_or}
 use Rattle.std.proofs.lemmas.List.Sorted.{IsPermutation-refl, IsPermutation-sym, IsPermutation-cons, IsPermutation-trans, IsPermutation-append_left, IsPermutation-append_right, IsPermutation-append_comm}
 use Rattle.stack_text.specs.declared.stack.StackLine.{StackLine}
-use Rattle.stack_text.specs.declared.stack.StackLine.TheVariants.{Page, File, Disk, Mirror, Coherency, Dfs, Vmm}
+use Rattle.stack_text.specs.declared.stack.StackLine.TheVariants.{Layer}
+use Rattle.stack_text.specs.declared.stack.LayerKind.TheVariants.{Disk, Mirror, Upper}
+use Rattle.stack_text.specs.declared.stack.UpperKind.TheVariants.{Coherency}
 use Rattle.stack_accept.specs.declared.rule.Rule.TheVariants.{NewName, EarlierLayer, MirrorSides, OneUser, OneGround, CoherentFirst}
-use Rattle.stack_accept.specs.Lines.{is_disk, is_mirror, is_storage, name_of, is_word, is_named, stands_on, is_storage_name, is_used, is_side, is_coherent_storage}
-use Rattle.stack_accept.specs.Rules.{keeps, is_taken, may_be_side, may_use, is_unused, is_shared_layer, is_both_sides, has_user, is_node, is_first_node, KeepsRules}
+use Rattle.stack_accept.specs.Lines.{is_disk, is_mirror, is_upper, is_coherency, is_storage, name_of, is_word, is_named, stands_on, is_storage_name, is_used, is_side, is_coherent_storage}
+use Rattle.stack_accept.specs.Rules.{keeps, is_taken, may_be_side, may_use, is_unused, is_shared_layer, is_both_sides, has_user, is_first_node, KeepsRules}
 use Rattle.stack_accept.specs.Plan.{OnCoherency, disks_in, plan_back, plan_on, numbers_below}
 use Rattle.stack_accept.specs.Mount.{base_of, ground_name}
 use Rattle.stack_accept.proofs.Lists.{count_by_cons, count_by_reverse, list_any_filter, list_any_weaker}
 use Rattle.stack_accept.proofs.Kept.{kept_at_end}
 use Rattle.stack_accept.proofs.NodeLaws.{word_is}
-use Rattle.stack_accept.proofs.MountLaws.{kept, first_node, ground_storage}
+use Rattle.stack_accept.proofs.MountLaws.{kept, first_base, first_node, ground_storage}
 use Rattle.stack_accept.proofs.BackLaws.{KeepsBack, keeps_back, any_reverse, tail_back, new_back, declared_back, old_storage, storage_more, plan_same, old_plan, bytes_same, all_reverse}
 use Rattle.stack_accept.proofs.DiskLaws.{is_part, part_named, takes, is_put, own_name, left_by, parts, has, AreDistinct, without, distinct_filter, has_filter, all_filter, all_weaker, filter_same, filter_all, filter_both, take_out, takes_declared, put_declared, unused_unput, storage_part, side_part}
 
@@ -45,31 +47,17 @@ part_taken (line ∷ back) name e =
 
 -- a part declares its own name
 part_name : (back : List StackLine) (line : StackLine) → is_part back line ≡ true → name_of line ≡ Some (own_name line)
-part_name back (Page size) e = absurd (false≢true e)
-part_name back (File name pages) e = absurd (false≢true e)
-part_name back (Disk name machine) e = refl
-part_name back (Mirror name machine left right) e = refl
-part_name back (Coherency name machine below) e = refl
-part_name back (Dfs name machine below) e = absurd (false≢true e)
-part_name back (Vmm name machine below frames) e = absurd (false≢true e)
+part_name back (Layer name machine kind) e = refl
+part_name back _ e = absurd (false≢true e)
 
 no_take : (back : List StackLine) (line : StackLine) (name : List ℕ) → is_part back line ≡ false → takes back line name ≡ false
-no_take back (Page size) name e = refl
-no_take back (File own pages) name e = refl
-no_take back (Disk own machine) name e = refl
-no_take back (Mirror own machine left right) name e = absurd (true≢false e)
-no_take back (Coherency own machine below) name e = and_left (is_storage_name back below) (bytes_eq below name) e
-no_take back (Dfs own machine below) name e = refl
-no_take back (Vmm own machine below frames) name e = refl
+no_take back (Layer own machine (Mirror left right)) name e = absurd (true≢false e)
+no_take back (Layer own machine (Upper Coherency below)) name e = and_left (is_storage_name back below) (bytes_eq below name) e
+no_take back _ name e = refl
 
 no_disk : (back : List StackLine) (line : StackLine) → is_part back line ≡ false → is_disk line ≡ false
-no_disk back (Page size) e = refl
-no_disk back (File own pages) e = refl
-no_disk back (Disk own machine) e = absurd (true≢false e)
-no_disk back (Mirror own machine left right) e = refl
-no_disk back (Coherency own machine below) e = refl
-no_disk back (Dfs own machine below) e = refl
-no_disk back (Vmm own machine below frames) e = refl
+no_disk back (Layer own machine Disk) e = absurd (true≢false e)
+no_disk back _ e = refl
 
 -- what is left behind keeps its plan
 same_disks : (line : StackLine) (back : List StackLine) (names : List (List ℕ)) → keeps NewName (reverse back) line ≡ true → AllByRecursion (λ name. is_taken back name ≡ true) names
@@ -101,22 +89,22 @@ own_free back line new part =
 taken_open : (back : List StackLine) (name : List ℕ) → AreOpen back → part_named back name ≡ true → is_used (reverse back) name ≡ false → has (parts back) name ≡ true
 taken_open back name open_parts part unused = open_parts.members name part (unused_unput back name unused)
 
-mirror_unused : (back : List StackLine) (own machine left right base : List ℕ) → may_use (reverse back) (Mirror own machine left right) base ≡ true → (is_used (reverse back) base ≡ false) × (is_both_sides base (Mirror own machine left right) ≡ false)
+mirror_unused : (back : List StackLine) (own machine left right base : List ℕ) → may_use (reverse back) (Layer own machine (Mirror left right)) base ≡ true → (is_used (reverse back) base ≡ false) × (is_both_sides base (Layer own machine (Mirror left right)) ≡ false)
 mirror_unused back own machine left right base e =
-    elim (or_cases (is_unused (reverse back) (Mirror own machine left right) base) (is_shared_layer (reverse back) (Mirror own machine left right) base) e) [
+    elim (or_cases (is_unused (reverse back) (Layer own machine (Mirror left right)) base) (is_shared_layer (reverse back) (Layer own machine (Mirror left right)) base) e) [
       | inl unused ↦
-          let both = and_parts (not (is_used (reverse back) base)) (not (is_both_sides base (Mirror own machine left right))) unused in
-          (not-true (is_used (reverse back) base) both.0, not-true (is_both_sides base (Mirror own machine left right)) both.1)
+          let both = and_parts (not (is_used (reverse back) base)) (not (is_both_sides base (Layer own machine (Mirror left right)))) unused in
+          (not-true (is_used (reverse back) base) both.0, not-true (is_both_sides base (Layer own machine (Mirror left right))) both.1)
       | inr shared ↦ absurd (false≢true shared)
     ]
 
-storage_unused : (back : List StackLine) (own machine below : List ℕ) → is_storage_name back below ≡ true → may_use (reverse back) (Coherency own machine below) below ≡ true → is_used (reverse back) below ≡ false
+storage_unused : (back : List StackLine) (own machine below : List ℕ) → is_storage_name back below ≡ true → may_use (reverse back) (Layer own machine (Upper Coherency below)) below ≡ true → is_used (reverse back) below ≡ false
 storage_unused back own machine below storage e =
-    elim (or_cases (is_unused (reverse back) (Coherency own machine below) below) (is_shared_layer (reverse back) (Coherency own machine below) below) e) [
-      | inl unused ↦ not-true (is_used (reverse back) below) (and_parts (not (is_used (reverse back) below)) (not (is_both_sides below (Coherency own machine below))) unused).0
+    elim (or_cases (is_unused (reverse back) (Layer own machine (Upper Coherency below)) below) (is_shared_layer (reverse back) (Layer own machine (Upper Coherency below)) below) e) [
+      | inl unused ↦ not-true (is_used (reverse back) below) (and_parts (not (is_used (reverse back) below)) (not (is_both_sides below (Layer own machine (Upper Coherency below)))) unused).0
       | inr shared ↦
-          let not_side = and_parts (not (is_mirror (Coherency own machine below)) && not (is_storage_name (reverse back) below)) (not (is_side (reverse back) below)) shared in
-          let none = not-true (is_storage_name (reverse back) below) (and_parts (not (is_mirror (Coherency own machine below))) (not (is_storage_name (reverse back) below)) not_side.0).1 in
+          let not_side = and_parts (not (is_mirror (Layer own machine (Upper Coherency below))) && not (is_storage_name (reverse back) below)) (not (is_side (reverse back) below)) shared in
+          let none = not-true (is_storage_name (reverse back) below) (and_parts (not (is_mirror (Layer own machine (Upper Coherency below)))) (not (is_storage_name (reverse back) below)) not_side.0).1 in
           absurd (both_ways (is_storage_name back below) (sym (any_reverse (λ line. is_storage line && is_named below line) back) ∙ none) storage)
     ]
 
@@ -132,13 +120,8 @@ fit_side back name keeps e =
     ]) both.1)
     back (sym (any_reverse (λ line. (is_storage line || is_coherent_storage (reverse back) line) && is_named name line) back) ∙ e)) where
       turned : (line : StackLine) → is_coherent_storage (reverse back) line ≡ true → is_coherent_storage back line ≡ true
-      turned (Page size) c = c
-      turned (File own pages) c = c
-      turned (Disk own machine) c = c
-      turned (Mirror own machine left right) c = c
-      turned (Coherency own machine below) c = sym (any_reverse (λ line. is_storage line && is_named below line) back) ∙ c
-      turned (Dfs own machine below) c = c
-      turned (Vmm own machine below frames) c = c
+      turned (Layer own machine (Upper Coherency below)) c = sym (any_reverse (λ line. is_storage line && is_named below line) back) ∙ c
+      turned _ c = c
 
 -- the disks after a part is added
 
@@ -155,10 +138,10 @@ count_same back line e =
     let none = cond-false {A = ℕ} (is_disk line) 1 0 e in
     omega (arith, counted, none)
 
-disk_stays : (back : List StackLine) (name machine : List ℕ) → AreOpen back → DisksStay back (Disk name machine)
+disk_stays : (back : List StackLine) (name machine : List ℕ) → AreOpen back → DisksStay back (Layer name machine Disk)
 unfolding DisksStay
 disk_stays back name machine open_parts =
-    let line = Disk name machine in
+    let line = Layer name machine Disk in
     let count = count_by (λ l. is_disk l) back in
     let counted : count_by (λ l. is_disk l) (line ∷ back) ≡ suc count = count_by_cons (λ l. is_disk l) line back ∙ omega arith in
     let all : left_by back line (parts back) ≡ parts back = filter_all (λ n. not (takes back line n)) (λ n. refl) (parts back) in
@@ -166,10 +149,10 @@ disk_stays back name machine open_parts =
     (subst (λ ns. IsPermutation (count ∷ flat_map (λ n. disks_named back n) ns) (count ∷ numbers_below count)) (sym all)
     (IsPermutation-cons count (flat_map (λ n. disks_named back n) (parts back)) (numbers_below count) open_parts.disks))
 
-mirror_stays : (back : List StackLine) (own machine left right : List ℕ) → AreOpen back → has (parts back) left ≡ true → has (parts back) right ≡ true → bytes_eq right left ≡ false → DisksStay back (Mirror own machine left right)
+mirror_stays : (back : List StackLine) (own machine left right : List ℕ) → AreOpen back → has (parts back) left ≡ true → has (parts back) right ≡ true → bytes_eq right left ≡ false → DisksStay back (Layer own machine (Mirror left right))
 unfolding DisksStay
 mirror_stays back own machine left right open_parts has_left has_right apart =
-    let line = Mirror own machine left right in
+    let line = Layer own machine (Mirror left right) in
     let g : List ℕ → List ℕ = λ n. disks_named back n in
     let rest = without right (parts back) in
     let both : left_by back line (parts back) ≡ without left rest = filter_both (λ n. bytes_eq left n) (λ n. bytes_eq right n) (parts back) in
@@ -190,10 +173,10 @@ mirror_stays back own machine left right open_parts has_left has_right apart =
     (IsPermutation-trans ((g left ++ g right) ++ flat_map g (left_by back line (parts back))) (flat_map g (parts back)) (numbers_below (count_by (λ l. is_disk l) back))
     (IsPermutation-sym (flat_map g (parts back)) ((g left ++ g right) ++ flat_map g (left_by back line (parts back))) named) open_parts.disks)
 
-coherency_stays : (back : List StackLine) (own machine below : List ℕ) → AreOpen back → is_storage_name back below ≡ true → has (parts back) below ≡ true → DisksStay back (Coherency own machine below)
+coherency_stays : (back : List StackLine) (own machine below : List ℕ) → AreOpen back → is_storage_name back below ≡ true → has (parts back) below ≡ true → DisksStay back (Layer own machine (Upper Coherency below))
 unfolding DisksStay
 coherency_stays back own machine below open_parts storage has_below =
-    let line = Coherency own machine below in
+    let line = Layer own machine (Upper Coherency below) in
     let g : List ℕ → List ℕ = λ n. disks_named back n in
     let same : left_by back line (parts back) ≡ without below (parts back) =
     filter_same (λ n. not (takes back line n)) (λ n. not (bytes_eq below n)) (λ n. ap (λ t. not (t && bytes_eq below n)) storage) (parts back) in
@@ -204,11 +187,9 @@ coherency_stays back own machine below open_parts storage has_below =
     (IsPermutation-sym (flat_map g (parts back)) (g below ++ flat_map g (left_by back line (parts back))) out) open_parts.disks)
 
 part_stays : (back : List StackLine) (line : StackLine) → KeepsBack (line ∷ back) → AreOpen back → is_part back line ≡ true → DisksStay back line
-part_stays back (Page size) keeps open_parts part = absurd (false≢true part)
-part_stays back (File name pages) keeps open_parts part = absurd (false≢true part)
-part_stays back (Disk name machine) keeps open_parts part = disk_stays back name machine open_parts
-part_stays back (Mirror own machine left right) keeps open_parts part =
-    let line = Mirror own machine left right in
+part_stays back (Layer name machine Disk) keeps open_parts part = disk_stays back name machine open_parts
+part_stays back (Layer own machine (Mirror left right)) keeps open_parts part =
+    let line = Layer own machine (Mirror left right) in
     let users = and_parts (may_use (reverse back) line left) (may_use (reverse back) line right) (keeps.0 OneUser) in
     let fit = and_parts (may_be_side (reverse back) left) (may_be_side (reverse back) right) (keeps.0 MirrorSides) in
     let free_left = mirror_unused back own machine left right left users.0 in
@@ -216,22 +197,16 @@ part_stays back (Mirror own machine left right) keeps open_parts part =
     let apart : bytes_eq right left ≡ false = false_from_ne_true (bytes_eq right left) (λ same. both_ways (bytes_eq left left && bytes_eq right left) free_left.1 (and_from (bytes_eq left left) (bytes_eq right left) (bytes_same left) same)) in
     mirror_stays back own machine left right open_parts
     (taken_open back left open_parts (fit_side back left keeps.1 fit.0) free_left.0) (taken_open back right open_parts (fit_side back right keeps.1 fit.1) free_right.0) apart
-part_stays back (Coherency own machine below) keeps open_parts part =
+part_stays back (Layer own machine (Upper Coherency below)) keeps open_parts part =
     coherency_stays back own machine below open_parts part
     (taken_open back below open_parts (storage_part back below part) (storage_unused back own machine below part (keeps.0 OneUser)))
-part_stays back (Dfs own machine below) keeps open_parts part = absurd (false≢true part)
-part_stays back (Vmm own machine below frames) keeps open_parts part = absurd (false≢true part)
+part_stays back _ keeps open_parts part = absurd (false≢true part)
 
 -- one line more
 
 plan_of_own : (back : List StackLine) (line : StackLine) → is_part back line ≡ true → plan_back (line ∷ back) (own_name line) ≡ plan_on back line (λ base. plan_back back base)
-plan_of_own back (Page size) e = absurd (false≢true e)
-plan_of_own back (File name pages) e = absurd (false≢true e)
-plan_of_own back (Disk name machine) e = cond-true (bytes_eq name name) (plan_on back (Disk name machine) (λ base. plan_back back base)) (plan_back back name) (bytes_same name)
-plan_of_own back (Mirror name machine left right) e = cond-true (bytes_eq name name) (plan_on back (Mirror name machine left right) (λ base. plan_back back base)) (plan_back back name) (bytes_same name)
-plan_of_own back (Coherency name machine below) e = cond-true (bytes_eq name name) (plan_on back (Coherency name machine below) (λ base. plan_back back base)) (plan_back back name) (bytes_same name)
-plan_of_own back (Dfs name machine below) e = absurd (false≢true e)
-plan_of_own back (Vmm name machine below frames) e = absurd (false≢true e)
+plan_of_own back (Layer name machine kind) e = cond-true (bytes_eq name name) (plan_on back (Layer name machine kind) (λ base. plan_back back base)) (plan_back back name) (bytes_same name)
+plan_of_own back _ e = absurd (false≢true e)
 
 open_part : (back : List StackLine) (line : StackLine) → KeepsBack (line ∷ back) → AreOpen back → is_part back line ≡ true → AreOpen (line ∷ back)
 unfolding DisksStay
@@ -314,36 +289,35 @@ some_left (line ∷ back) e =
       | inr later ↦ some_left back later
     ])
 
+-- an upper layer that stands on storage stands on an older one, and is a coherency layer
+storage_under : (newer back : List StackLine) (line : StackLine) → KeepsBack (newer ++ line ∷ back) → is_upper line ≡ true → is_storage_name (newer ++ line ∷ back) (base_of line) ≡ true
+    → (is_storage_name back (base_of line) ≡ true) × (is_coherency line ≡ true)
+storage_under newer back (Layer own machine (Upper kind below)) keeps up storage =
+    let line = Layer own machine (Upper kind below) in
+    let here = tail_back newer (line ∷ back) keeps in
+    let regrouped : newer ++ line ∷ back ≡ (newer ++ line ∷ []) ++ back = sym (append_assoc newer (line ∷ []) back) in
+    let older = old_storage (newer ++ line ∷ []) back below (subst KeepsBack regrouped keeps) (declared_back back below (here.0 EarlierLayer)) (ap (λ ls. is_storage_name ls below) (sym regrouped) ∙ storage) in
+    let turned : is_storage_name (reverse back) below ≡ true = any_reverse (λ l. is_storage l && is_named below l) back ∙ older in (
+      older,
+      elim (or_cases (is_coherency line) (not (is_storage_name (reverse back) below)) (here.0 CoherentFirst)) [
+        | inl coherent ↦ coherent
+        | inr other ↦ absurd (both_ways (is_storage_name (reverse back) below) (not-true (is_storage_name (reverse back) below) other) turned)
+      ],
+    )
+storage_under newer back _ keeps up storage = absurd (false≢true up)
+
 -- who stands on a storage takes it
 storage_takes : (newer back : List StackLine) (line : StackLine) (name : List ℕ) → KeepsBack (newer ++ line ∷ back) → is_storage_name (newer ++ line ∷ back) name ≡ true → stands_on name line ≡ true → takes back line name ≡ true
-storage_takes newer back (Page size) name keeps storage e = absurd (false≢true e)
-storage_takes newer back (File own pages) name keeps storage e = absurd (false≢true e)
-storage_takes newer back (Disk own machine) name keeps storage e = absurd (false≢true e)
-storage_takes newer back (Mirror own machine left right) name keeps storage e = e
-storage_takes newer back (Coherency own machine below) name keeps storage e =
-    let line = Coherency own machine below in
-    let same = (bytes_eq-Decides below name).0 e in
-    let here = tail_back newer (line ∷ back) keeps in
-    let regrouped : newer ++ line ∷ back ≡ (newer ++ line ∷ []) ++ back = sym (append_assoc newer (line ∷ []) back) in
-    and_from (is_storage_name back below) (bytes_eq below name)
-    (old_storage (newer ++ line ∷ []) back below (subst KeepsBack regrouped keeps) (declared_back back below (here.0 EarlierLayer))
-    (ap (λ ls. is_storage_name ls below) (sym regrouped) ∙ ap (λ n. is_storage_name (newer ++ line ∷ back) n) same ∙ storage)) e
-storage_takes newer back (Dfs own machine below) name keeps storage e =
-    let line = Dfs own machine below in
-    let same = (bytes_eq-Decides below name).0 e in
-    let here = tail_back newer (line ∷ back) keeps in
-    let regrouped : newer ++ line ∷ back ≡ (newer ++ line ∷ []) ++ back = sym (append_assoc newer (line ∷ []) back) in
-    let on_storage = old_storage (newer ++ line ∷ []) back below (subst KeepsBack regrouped keeps) (declared_back back below (here.0 EarlierLayer))
-    (ap (λ ls. is_storage_name ls below) (sym regrouped) ∙ ap (λ n. is_storage_name (newer ++ line ∷ back) n) same ∙ storage) in
-    absurd (both_ways (is_storage_name (reverse back) below) (not-true (is_storage_name (reverse back) below) (here.0 CoherentFirst)) (any_reverse (λ l. is_storage l && is_named below l) back ∙ on_storage))
-storage_takes newer back (Vmm own machine below frames) name keeps storage e =
-    let line = Vmm own machine below frames in
-    let same = (bytes_eq-Decides below name).0 e in
-    let here = tail_back newer (line ∷ back) keeps in
-    let regrouped : newer ++ line ∷ back ≡ (newer ++ line ∷ []) ++ back = sym (append_assoc newer (line ∷ []) back) in
-    let on_storage = old_storage (newer ++ line ∷ []) back below (subst KeepsBack regrouped keeps) (declared_back back below (here.0 EarlierLayer))
-    (ap (λ ls. is_storage_name ls below) (sym regrouped) ∙ ap (λ n. is_storage_name (newer ++ line ∷ back) n) same ∙ storage) in
-    absurd (both_ways (is_storage_name (reverse back) below) (not-true (is_storage_name (reverse back) below) (here.0 CoherentFirst)) (any_reverse (λ l. is_storage l && is_named below l) back ∙ on_storage))
+storage_takes newer back (Layer own machine (Mirror left right)) name keeps storage e = e
+storage_takes newer back (Layer own machine (Upper Coherency below)) name keeps storage e =
+    let line = Layer own machine (Upper Coherency below) in
+    let under = storage_under newer back line keeps refl (ap (λ n. is_storage_name (newer ++ line ∷ back) n) ((bytes_eq-Decides below name).0 e) ∙ storage) in
+    and_from (is_storage_name back below) (bytes_eq below name) under.0 e
+storage_takes newer back (Layer own machine (Upper kind below)) name keeps storage e =
+    let line = Layer own machine (Upper kind below) in
+    let under = storage_under newer back line keeps refl (ap (λ n. is_storage_name (newer ++ line ∷ back) n) ((bytes_eq-Decides below name).0 e) ∙ storage) in
+    absurd (false≢true under.1)
+storage_takes newer back _ name keeps storage e = absurd (false≢true e)
 
 used_put : (newer back : List StackLine) (name : List ℕ) → KeepsBack (newer ++ back) → is_storage_name (newer ++ back) name ≡ true → is_used back name ≡ true → is_put back name ≡ true
 used_put newer [] name keeps storage e = absurd (false≢true e)
@@ -357,13 +331,8 @@ used_put newer (line ∷ back) name keeps storage e =
     ]
 
 mirror_takes : (back : List StackLine) (line : StackLine) (name : List ℕ) → (is_mirror line && stands_on name line) ≡ true → takes back line name ≡ true
-mirror_takes back (Page size) name e = absurd (false≢true e)
-mirror_takes back (File own pages) name e = absurd (false≢true e)
-mirror_takes back (Disk own machine) name e = absurd (false≢true e)
-mirror_takes back (Mirror own machine left right) name e = e
-mirror_takes back (Coherency own machine below) name e = absurd (false≢true e)
-mirror_takes back (Dfs own machine below) name e = absurd (false≢true e)
-mirror_takes back (Vmm own machine below frames) name e = absurd (false≢true e)
+mirror_takes back (Layer own machine (Mirror left right)) name e = e
+mirror_takes back _ name e = absurd (false≢true e)
 
 side_put : (back : List StackLine) (name : List ℕ) → is_side back name ≡ true → is_put back name ≡ true
 side_put [] name e = absurd (false≢true e)
@@ -374,27 +343,18 @@ side_put (line ∷ back) name e =
     ]
 
 storage_user : (lines : List StackLine) (line : StackLine) (name : List ℕ) → is_storage line ≡ true → is_named name line ≡ true → has_user lines line ≡ true → is_used lines name ≡ true
-storage_user lines (Page size) name s n e = absurd (false≢true s)
-storage_user lines (File own pages) name s n e = absurd (false≢true s)
-storage_user lines (Disk own machine) name s n e = subst (λ m. is_used lines m ≡ true) ((bytes_eq-Decides own name).0 n) e
-storage_user lines (Mirror own machine left right) name s n e = subst (λ m. is_used lines m ≡ true) ((bytes_eq-Decides own name).0 n) e
-storage_user lines (Coherency own machine below) name s n e = absurd (false≢true s)
-storage_user lines (Dfs own machine below) name s n e = absurd (false≢true s)
-storage_user lines (Vmm own machine below frames) name s n e = absurd (false≢true s)
+storage_user lines (Layer own machine Disk) name s n e = subst (λ m. is_used lines m ≡ true) ((bytes_eq-Decides own name).0 n) e
+storage_user lines (Layer own machine (Mirror left right)) name s n e = subst (λ m. is_used lines m ≡ true) ((bytes_eq-Decides own name).0 n) e
+storage_user lines _ name s n e = absurd (false≢true s)
 
 -- a coherency layer on a storage that no mirror has as a side is a first node
 coherent_first : (lines back : List StackLine) (line : StackLine) (name : List ℕ) → is_coherent_storage back line ≡ true → is_named name line ≡ true → is_side lines name ≡ false
     → ((base : List ℕ) → is_storage_name back base ≡ true → is_storage_name lines base ≡ true) → is_first_node lines line ≡ true
-coherent_first lines back (Page size) name c n side more = absurd (false≢true c)
-coherent_first lines back (File own pages) name c n side more = absurd (false≢true c)
-coherent_first lines back (Disk own machine) name c n side more = absurd (false≢true c)
-coherent_first lines back (Mirror own machine left right) name c n side more = absurd (false≢true c)
-coherent_first lines back (Coherency own machine below) name c n side more =
+coherent_first lines back (Layer own machine (Upper Coherency below)) name c n side more =
     and_from (not (is_side lines own)) (not (not (is_storage_name lines below)))
     (not_from_false (is_side lines own) (ap (λ m. is_side lines m) ((bytes_eq-Decides own name).0 n) ∙ side))
     (not_from_false (not (is_storage_name lines below)) (not_from_true (is_storage_name lines below) (more below c)))
-coherent_first lines back (Dfs own machine below) name c n side more = absurd (false≢true c)
-coherent_first lines back (Vmm own machine below frames) name c n side more = absurd (false≢true c)
+coherent_first lines back _ name c n side more = absurd (false≢true c)
 
 -- a part that is left at the end is the first node
 first_named : (lines newer back : List StackLine) (name : List ℕ) → reverse lines ≡ newer ++ back → KeepsBack (newer ++ back) → AllByRecursion (λ line. has_user lines line ≡ true) back → part_named back name ≡ true → is_put (reverse lines) name ≡ false
@@ -475,17 +435,10 @@ only_one line (name ∷ other ∷ names) distinct some all =
 LeadsDown : List StackLine → List StackLine → StackLine → Type 0
 LeadsDown lines full line = (name : List ℕ) → is_first_node lines line ≡ true → is_named name line ≡ true → disks_named full name ≡ disks_named full (base_of line)
 
-first_storage : (lines : List StackLine) (line : StackLine) (test : Bool) → (test && not (not (is_storage_name lines (base_of line)))) ≡ true → is_storage_name lines (base_of line) ≡ true
-first_storage lines line test e = not-false (is_storage_name lines (base_of line)) (not-true (not (is_storage_name lines (base_of line))) (and_parts test (not (not (is_storage_name lines (base_of line)))) e).1)
-
 leads_down : (lines newer back : List StackLine) (line : StackLine) → reverse lines ≡ newer ++ line ∷ back → KeepsBack (newer ++ line ∷ back) → LeadsDown lines (newer ++ line ∷ back) line
 unfolding LeadsDown
-leads_down lines newer back (Page size) whole keeps name e n = absurd (false≢true e)
-leads_down lines newer back (File own pages) whole keeps name e n = absurd (false≢true e)
-leads_down lines newer back (Disk own machine) whole keeps name e n = absurd (false≢true e)
-leads_down lines newer back (Mirror own machine left right) whole keeps name e n = absurd (false≢true e)
-leads_down lines newer back (Coherency own machine below) whole keeps name e n =
-    let line = Coherency own machine below in
+leads_down lines newer back (Layer own machine (Upper Coherency below)) whole keeps name e n =
+    let line = Layer own machine (Upper Coherency below) in
     let here = tail_back newer (line ∷ back) keeps in
     let regrouped : newer ++ line ∷ back ≡ (newer ++ line ∷ []) ++ back = sym (append_assoc newer (line ∷ []) back) in
     let up : plan_back (newer ++ line ∷ back) name ≡ plan_back (line ∷ back) name = old_plan newer (line ∷ back) name keeps (or_left (is_named name line) (is_taken back name) n) in
@@ -493,26 +446,11 @@ leads_down lines newer back (Coherency own machine below) whole keeps name e n =
     let base : plan_back (newer ++ line ∷ back) below ≡ plan_back back below =
     ap (λ ls. plan_back ls below) regrouped ∙ old_plan (newer ++ line ∷ []) back below (subst KeepsBack regrouped keeps) (declared_back back below (here.0 EarlierLayer)) in
     ap disks_in (up ∙ mine) ∙ sym (ap disks_in base)
-leads_down lines newer back (Dfs own machine below) whole keeps name e n = absurd (no_dfs (Dfs own machine below) refl) where
-  no_dfs : (line : StackLine) → line ≡ Dfs own machine below → ⊥
-  no_dfs line same =
-      let at = Dfs own machine below in
-      let here = tail_back newer (at ∷ back) keeps in
-      let regrouped : newer ++ at ∷ back ≡ (newer ++ at ∷ []) ++ back = sym (append_assoc newer (at ∷ []) back) in
-      let storage : is_storage_name lines below ≡ true = first_storage lines at (is_node lines at) e in
-      let on_storage = old_storage (newer ++ at ∷ []) back below (subst KeepsBack regrouped keeps) (declared_back back below (here.0 EarlierLayer))
-      (ap (λ ls. is_storage_name ls below) (sym regrouped ∙ sym whole) ∙ any_reverse (λ l. is_storage l && is_named below l) lines ∙ storage) in
-      both_ways (is_storage_name (reverse back) below) (not-true (is_storage_name (reverse back) below) (here.0 CoherentFirst)) (any_reverse (λ l. is_storage l && is_named below l) back ∙ on_storage)
-leads_down lines newer back (Vmm own machine below frames) whole keeps name e n = absurd (no_vmm (Vmm own machine below frames) refl) where
-  no_vmm : (line : StackLine) → line ≡ Vmm own machine below frames → ⊥
-  no_vmm line same =
-      let at = Vmm own machine below frames in
-      let here = tail_back newer (at ∷ back) keeps in
-      let regrouped : newer ++ at ∷ back ≡ (newer ++ at ∷ []) ++ back = sym (append_assoc newer (at ∷ []) back) in
-      let storage : is_storage_name lines below ≡ true = first_storage lines at (is_node lines at) e in
-      let on_storage = old_storage (newer ++ at ∷ []) back below (subst KeepsBack regrouped keeps) (declared_back back below (here.0 EarlierLayer))
-      (ap (λ ls. is_storage_name ls below) (sym regrouped ∙ sym whole) ∙ any_reverse (λ l. is_storage l && is_named below l) lines ∙ storage) in
-      both_ways (is_storage_name (reverse back) below) (not-true (is_storage_name (reverse back) below) (here.0 CoherentFirst)) (any_reverse (λ l. is_storage l && is_named below l) back ∙ on_storage)
+leads_down lines newer back (Layer own machine (Upper kind below)) whole keeps name e n =
+    let line = Layer own machine (Upper kind below) in
+    let storage : is_storage_name (newer ++ line ∷ back) below ≡ true = ap (λ ls. is_storage_name ls below) (sym whole) ∙ any_reverse (λ l. is_storage l && is_named below l) lines ∙ first_base lines line e in
+    absurd (false≢true (storage_under newer back line keeps refl storage).1)
+leads_down lines newer back _ whole keeps name e n = absurd (false≢true e)
 
 each_down : (lines newer back : List StackLine) → reverse lines ≡ newer ++ back → KeepsBack (newer ++ back) → AllByRecursion (LeadsDown lines (reverse lines)) back
 each_down lines newer [] whole keeps = tt

@@ -1,3 +1,4 @@
+pub mod KindLaws
 pub mod Lists
 pub mod TreeLaws
 pub mod Kept

@@ -2,34 +2,29 @@
 use Rattle.std.proofs.Common.{◌≡◌, ℕ, ◌+◌, ◌≤◌, List, [], ◌∷◌, ◌++◌, length, map, count_by, Bool, true, ◌&&◌, cond, ltb, Some, refl, sym, ap, subst, ◌∙◌, inl, inr, arith}
 use Rattle.std.specs.Option.{option_map_or, option_to_list}
 use Rattle.std.specs.List.{list_any, filter, filter_map, cons_option, find}
-use Rattle.std.proofs.lemmas.Bool.{cases_Bool, false≢true, not-false, not-true, and_parts, eqb-true, ltb-true, cond_both, or_left, or_right}
+use Rattle.std.proofs.lemmas.Bool.{cases_Bool, false≢true, not-false, not-true, and_parts, eqb-true, ltb-true, cond_both}
 use Rattle.std.proofs.lemmas.List.{append-nil, append_assoc, length-map}
 use Rattle.std.proofs.lemmas.List.Sums.{length-filter}
 use Rattle.stack_text.specs.declared.stack.StackLine.{StackLine}
-use Rattle.stack_text.specs.declared.stack.StackLine.TheVariants.{Page, File, Disk, Mirror, Coherency, Dfs, Vmm}
+use Rattle.stack_text.specs.declared.stack.StackLine.TheVariants.{Layer}
+use Rattle.stack_text.specs.declared.stack.LayerKind.TheVariants.{Disk, Mirror, Upper}
 use Rattle.tower_core.specs.TreeShape.{IsTree}
-use Rattle.stack_accept.specs.declared.TheConstants.{MAX_FRAMES}
 use Rattle.stack_accept.specs.declared.rule.Rule.TheVariants.{OneGround, Limits}
 use Rattle.stack_accept.specs.declared.entries.NodeEntry.{NodeEntry}
 use Rattle.stack_accept.specs.Lines.{is_layer, is_storage, is_upper, is_named, is_storage_name}
-use Rattle.stack_accept.specs.Rules.{keeps, is_node, is_first_node, has_room, is_count, IsAccepted, KeepsRules}
+use Rattle.stack_accept.specs.Rules.{keeps, is_node, is_first_node, has_room, has_few_frames, IsAccepted, KeepsRules}
 use Rattle.stack_accept.specs.Mount.{base_of, ground_name, ground_line, node_lines, node_of, nodes_of, machines_of, tree_of}
 use Rattle.stack_accept.proofs.Lists.{find_some, list_any_weaker, count_by_none, count_by_push, count_by_weaker}
 use Rattle.stack_accept.proofs.Kept.{kept_after, kept_at_end}
 use Rattle.stack_accept.proofs.TreeLaws.{ArePlaced, placed_tree}
-use Rattle.stack_accept.proofs.NodeLaws.{line_frames, leafless_first, placed_after}
+use Rattle.stack_accept.proofs.NodeLaws.{storage_layer, upper_layer, line_frames, leafless_first, placed_after}
 
 pub kept : (lines : List StackLine) → IsAccepted lines → KeepsRules [] lines
 kept lines accepted = kept_after [] lines accepted
 
-first_base : (text : List StackLine) (line : StackLine) → is_first_node text line ≡ true → is_storage_name text (base_of line) ≡ true
-first_base text (Page size) e = absurd (false≢true e)
-first_base text (File name pages) e = absurd (false≢true e)
-first_base text (Disk name machine) e = absurd (false≢true e)
-first_base text (Mirror name machine left right) e = absurd (false≢true e)
-first_base text (Coherency name machine below) e = not-false (is_storage_name text below) (not-true _ (and_parts (is_node text (Coherency name machine below)) _ e).1)
-first_base text (Dfs name machine below) e = not-false (is_storage_name text below) (not-true _ (and_parts (is_node text (Dfs name machine below)) _ e).1)
-first_base text (Vmm name machine below frames) e = not-false (is_storage_name text below) (not-true _ (and_parts (is_node text (Vmm name machine below frames)) _ e).1)
+pub first_base : (text : List StackLine) (line : StackLine) → is_first_node text line ≡ true → is_storage_name text (base_of line) ≡ true
+first_base text (Layer name machine (Upper kind below)) e = not-false (is_storage_name text below) (not-true _ (and_parts (is_node text (Layer name machine (Upper kind below))) _ e).1)
+first_base text _ e = absurd (false≢true e)
 
 -- there is a first node
 pub first_node : (lines : List StackLine) → KeepsRules [] lines → (line : StackLine) × (find (λ l. is_first_node lines l) lines ≡ Some line) × (is_first_node lines line ≡ true)
@@ -64,42 +59,28 @@ record IsBareNode (machines : List (List ℕ)) (nodes : List StackLine) (line : 
   pub unframed : line_frames line ≡ 0
 
 storage_node : (machines : List (List ℕ)) (nodes : List StackLine) (line : StackLine) → is_storage line ≡ true → IsBareNode machines nodes line
-storage_node machines nodes (Page size) e = absurd (false≢true e)
-storage_node machines nodes (File name pages) e = absurd (false≢true e)
-storage_node machines nodes (Disk name machine) e = record { node = _; is = refl; low = refl; bare = refl; unframed = refl }
-storage_node machines nodes (Mirror name machine left right) e = record { node = _; is = refl; low = refl; bare = refl; unframed = refl }
-storage_node machines nodes (Coherency name machine below) e = absurd (false≢true e)
-storage_node machines nodes (Dfs name machine below) e = absurd (false≢true e)
-storage_node machines nodes (Vmm name machine below frames) e = absurd (false≢true e)
+storage_node machines nodes (Layer name machine Disk) e = record { node = _; is = refl; low = refl; bare = refl; unframed = refl }
+storage_node machines nodes (Layer name machine (Mirror left right)) e = record { node = _; is = refl; low = refl; bare = refl; unframed = refl }
+storage_node machines nodes _ e = absurd (false≢true e)
 
 abbrev AreLayers : List StackLine → Type 0
 AreLayers [] = Unit {0}
 AreLayers (line ∷ lines) = (is_layer line ≡ true) × AreLayers lines
 
 pub node_upper : (text : List StackLine) (line : StackLine) → is_node text line ≡ true → is_upper line ≡ true
-node_upper text (Page size) e = absurd (false≢true e)
-node_upper text (File name pages) e = absurd (false≢true e)
-node_upper text (Disk name machine) e = absurd (false≢true e)
-node_upper text (Mirror name machine left right) e = absurd (false≢true e)
-node_upper text (Coherency name machine below) e = refl
-node_upper text (Dfs name machine below) e = refl
-node_upper text (Vmm name machine below frames) e = refl
+node_upper text (Layer name machine (Upper kind below)) e = refl
+node_upper text _ e = absurd (false≢true e)
 
 node_layers : (text lines : List StackLine) → AreLayers (filter (λ line. is_node text line) lines)
 node_layers text [] = tt
 node_layers text (line ∷ lines) =
     let rest = filter (λ l. is_node text l) lines in
-    cond_both (is_node text line) (line ∷ rest) rest AreLayers (λ e. (or_right (is_storage line) (is_upper line) (node_upper text line e), node_layers text lines)) (λ _. node_layers text lines)
+    cond_both (is_node text line) (line ∷ rest) rest AreLayers (λ e. (upper_layer line (node_upper text line e), node_layers text lines)) (λ _. node_layers text lines)
 
 frames_of_line : (machines : List (List ℕ)) (nodes : List StackLine) (line : StackLine) (rest : List NodeEntry) → is_layer line ≡ true
     → map (λ node. node.frames) (cons_option (node_of machines nodes line) rest) ≡ line_frames line ∷ map (λ node. node.frames) rest
-frames_of_line machines nodes (Page size) rest e = absurd (false≢true e)
-frames_of_line machines nodes (File name pages) rest e = absurd (false≢true e)
-frames_of_line machines nodes (Disk name machine) rest e = refl
-frames_of_line machines nodes (Mirror name machine left right) rest e = refl
-frames_of_line machines nodes (Coherency name machine below) rest e = refl
-frames_of_line machines nodes (Dfs name machine below) rest e = refl
-frames_of_line machines nodes (Vmm name machine below frames) rest e = refl
+frames_of_line machines nodes (Layer name machine kind) rest e = refl
+frames_of_line machines nodes _ rest e = absurd (false≢true e)
 
 frames_are : (machines : List (List ℕ)) (nodes lines : List StackLine) → AreLayers lines
     → map (λ node. node.frames) (filter_map (λ line. node_of machines nodes line) lines) ≡ map (λ line. line_frames line) lines
@@ -130,7 +111,7 @@ has_nodes lines keeps =
     let bare = storage_node machines nodes found.0 found.2 in
     let rest = filter_map (λ l. node_of machines nodes l) others in
     let all : nodes_of lines ≡ bare.node ∷ rest = ap (λ ls. filter_map (λ l. node_of machines nodes l) ls) are ∙ ap (λ o. cons_option o rest) bare.is in
-    let layers : AreLayers (found.0 ∷ others) = (or_left (is_storage found.0) (is_upper found.0) found.2, node_layers lines lines) in
+    let layers : AreLayers (found.0 ∷ others) = (storage_layer found.0 found.2, node_layers lines lines) in
     let frames : map (λ node. node.frames) (bare.node ∷ rest) ≡ map (λ l. line_frames l) nodes =
     ap (λ ns. map (λ (node : NodeEntry). node.frames) ns) (sym (ap (λ o. cons_option o rest) bare.is))
     ∙ frames_are machines nodes (found.0 ∷ others) layers ∙ ap (λ ls. map (λ l. line_frames l) ls) (sym are) in
@@ -162,14 +143,9 @@ few_by p most step earlier (line ∷ lines) keeps few =
 
 -- at most 31 upper layers
 upper_step : (earlier : List StackLine) (line : StackLine) → keeps Limits earlier line ≡ true → count_by (λ l. is_upper l) earlier ≤ 31 → count_by (λ l. is_upper l) earlier + cond (is_upper line) 1 0 ≤ 31
-upper_step earlier (Page size) e few = omega arith
-upper_step earlier (File name pages) e few = omega arith
-upper_step earlier (Disk name machine) e few = omega arith
-upper_step earlier (Mirror name machine left right) e few = omega arith
-upper_step earlier (Coherency name machine below) e few = let low = ltb-true _ 31 (and_parts (ltb (count_by (λ l. is_upper l) earlier) 31) _ e).0 in omega (arith, low)
-upper_step earlier (Dfs name machine below) e few = let low = ltb-true _ 31 (and_parts (ltb (count_by (λ l. is_upper l) earlier) 31) _ e).0 in omega (arith, low)
-upper_step earlier (Vmm name machine below frames) e few =
-    let low = ltb-true _ 31 (and_parts (ltb (count_by (λ l. is_upper l) earlier) 31) _ (and_parts (has_room earlier below) (is_count MAX_FRAMES frames) e).0).0 in omega (arith, low)
+upper_step earlier (Layer name machine (Upper kind below)) e few =
+    let low = ltb-true _ 31 (and_parts (ltb (count_by (λ l. is_upper l) earlier) 31) _ (and_parts (has_room earlier below) (has_few_frames kind) e).0).0 in omega (arith, low)
+upper_step earlier _ e few = omega arith
 
 pub few_nodes : (lines : List StackLine) → KeepsRules [] lines → length (nodes_of lines) ≤ 32
 few_nodes lines keeps =

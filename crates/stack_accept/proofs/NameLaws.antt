@@ -7,7 +7,8 @@ use Rattle.std.specs.Str.{bytes_eq}
 use Rattle.std.proofs.lemmas.Slice.Eq.{bytes_eq-Decides}
 use Rattle.std.proofs.lemmas.Bool.{or_cases, or_parts, or_from, or_left, or_right, and_parts, both_ways, false≢true, cond_both}
 use Rattle.stack_text.specs.declared.stack.StackLine.{StackLine}
-use Rattle.stack_text.specs.declared.stack.StackLine.TheVariants.{Page, File, Disk, Mirror, Coherency, Dfs, Vmm}
+use Rattle.stack_text.specs.declared.stack.StackLine.TheVariants.{File, Layer}
+use Rattle.stack_text.specs.declared.stack.LayerKind.TheVariants.{Disk}
 use Rattle.stack_accept.specs.Lines.{is_file, is_disk, name_of, machine_of, is_word, is_named}
 use Rattle.stack_accept.specs.Rules.{is_taken, KeepsRules}
 use Rattle.stack_accept.specs.Mount.{file_of, disk_of, with_machine, machines_of}
@@ -94,26 +95,16 @@ names_distinct p earlier (line ∷ lines) kept =
 
 file_name : (line : StackLine) (lines : List StackLine) → map (λ file. file.name) (filter_map (λ l. file_of l) lines) ≡ names_of (filter (λ l. is_file l) lines)
     → map (λ file. file.name) (filter_map (λ l. file_of l) (line ∷ lines)) ≡ names_of (filter (λ l. is_file l) (line ∷ lines))
-file_name (Page size) lines e = e
 file_name (File name pages) lines e = ap (λ names. name ∷ names) e
-file_name (Disk name machine) lines e = e
-file_name (Mirror name machine left right) lines e = e
-file_name (Coherency name machine below) lines e = e
-file_name (Dfs name machine below) lines e = e
-file_name (Vmm name machine below frames) lines e = e
+file_name _ lines e = e
 
 file_names : (lines : List StackLine) → map (λ file. file.name) (filter_map (λ line. file_of line) lines) ≡ names_of (filter (λ line. is_file line) lines)
 file_names [] = refl
 file_names (line ∷ lines) = file_name line lines (file_names lines)
 
 disk_name : (line : StackLine) (lines : List StackLine) → filter_map (λ l. disk_of l) lines ≡ names_of (filter (λ l. is_disk l) lines) → filter_map (λ l. disk_of l) (line ∷ lines) ≡ names_of (filter (λ l. is_disk l) (line ∷ lines))
-disk_name (Page size) lines e = e
-disk_name (File name pages) lines e = e
-disk_name (Disk name machine) lines e = ap (λ names. name ∷ names) e
-disk_name (Mirror name machine left right) lines e = e
-disk_name (Coherency name machine below) lines e = e
-disk_name (Dfs name machine below) lines e = e
-disk_name (Vmm name machine below frames) lines e = e
+disk_name (Layer name machine Disk) lines e = ap (λ names. name ∷ names) e
+disk_name _ lines e = e
 
 disk_names : (lines : List StackLine) → filter_map (λ line. disk_of line) lines ≡ names_of (filter (λ line. is_disk line) lines)
 disk_names [] = refl

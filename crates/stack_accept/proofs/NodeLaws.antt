@@ -6,12 +6,14 @@ use Rattle.std.proofs.lemmas.Slice.Eq.{bytes_eq-Decides}
 use Rattle.std.proofs.lemmas.Bool.{cases_Bool, or_parts, or_from, both_ways, false≢true, true≢false, not-true, and_parts, and_from, false_from_ne_true, cond-true, cond-false, lt-ltb, le-ltb, or_left}
 use Rattle.std.proofs.lemmas.List.{append_assoc, length-append}
 use Rattle.stack_text.specs.declared.stack.StackLine.{StackLine}
-use Rattle.stack_text.specs.declared.stack.StackLine.TheVariants.{Page, File, Disk, Mirror, Coherency, Dfs, Vmm}
+use Rattle.stack_text.specs.declared.stack.StackLine.TheVariants.{Layer}
+use Rattle.stack_text.specs.declared.stack.LayerKind.TheVariants.{Upper}
+use Rattle.stack_text.specs.declared.stack.UpperKind.TheVariants.{Vmm}
 use Rattle.stack_accept.specs.declared.rule.Rule.TheVariants.{NewName, EarlierLayer, ManagerOnTop}
 use Rattle.stack_accept.specs.declared.entries.NodeEntry.{NodeEntry}
-use Rattle.stack_accept.specs.Lines.{is_vmm, is_layer, name_of, is_word, is_named, is_layer_named, is_declared, is_vmm_name}
+use Rattle.stack_accept.specs.Lines.{is_vmm, is_storage, is_upper, is_layer, name_of, is_word, is_named, is_layer_named, is_declared, is_vmm_name}
 use Rattle.stack_accept.specs.Rules.{is_taken, is_new_name, keeps, is_node, KeepsRules}
-use Rattle.stack_accept.specs.Mount.{node_number, node_of}
+use Rattle.stack_accept.specs.Mount.{node_number, node_frames, node_of}
 use Rattle.stack_accept.proofs.Lists.{list_any_weaker, list_any_filter, list_any_push, place_front}
 use Rattle.stack_accept.proofs.TreeLaws.{frames_at, EachPlaced}
 
@@ -37,19 +39,23 @@ taken_later earlier (line ∷ lines) name kept taken =
 pub declared_taken : (lines : List StackLine) (name : List ℕ) → is_declared lines name ≡ true → is_taken lines name ≡ true
 declared_taken lines name e = list_any_weaker (λ line. is_layer_named name line) (λ line. is_named name line) (λ line is. (and_parts (is_layer line) (is_named name line) is).1) lines e
 
+-- a disk, a mirror and an upper layer are layers
+pub storage_layer : (line : StackLine) → is_storage line ≡ true → is_layer line ≡ true
+storage_layer (Layer name machine kind) e = refl
+storage_layer _ e = absurd (false≢true e)
+
+pub upper_layer : (line : StackLine) → is_upper line ≡ true → is_layer line ≡ true
+upper_layer (Layer name machine kind) e = refl
+upper_layer _ e = absurd (false≢true e)
+
 -- the frames that a line gives its node
 abbrev pub line_frames : StackLine → ℕ
-line_frames (Vmm name machine below frames) = frames
+line_frames (Layer name machine kind) = node_frames kind
 line_frames _ = 0
 
 no_manager : (line : StackLine) → is_vmm line ≡ false → line_frames line ≡ 0
-no_manager (Page size) e = refl
-no_manager (File name pages) e = refl
-no_manager (Disk name machine) e = refl
-no_manager (Mirror name machine left right) e = refl
-no_manager (Coherency name machine below) e = refl
-no_manager (Dfs name machine below) e = refl
-no_manager (Vmm name machine below frames) e = absurd (true≢false e)
+no_manager (Layer name machine (Upper (Vmm frames) below)) e = absurd (true≢false e)
+no_manager _ e = refl
 
 -- no line of the name has frames
 abbrev NoLeaf : List ℕ → List StackLine → Type 0
@@ -134,16 +140,9 @@ record IsBased (earlier nodes : List StackLine) (all : List NodeEntry) (place : 
 entry_placed : (text earlier nodes : List StackLine) (machines : List (List ℕ)) (all : List NodeEntry) (place : ℕ) (line : StackLine) (rest : List NodeEntry)
     → is_node text line ≡ true → keeps EarlierLayer earlier line ≡ true → keeps ManagerOnTop earlier line ≡ true → IsBased earlier nodes all place
     → EachPlaced all (suc place) rest → EachPlaced all place (cons_option (node_of machines nodes line) rest)
-entry_placed text earlier nodes machines all place (Page size) rest is declared manager based more = absurd (false≢true is)
-entry_placed text earlier nodes machines all place (File name pages) rest is declared manager based more = absurd (false≢true is)
-entry_placed text earlier nodes machines all place (Disk name machine) rest is declared manager based more = absurd (false≢true is)
-entry_placed text earlier nodes machines all place (Mirror name machine left right) rest is declared manager based more = absurd (false≢true is)
-entry_placed text earlier nodes machines all place (Coherency name machine below) rest is declared manager based more =
+entry_placed text earlier nodes machines all place (Layer name machine (Upper kind below)) rest is declared manager based more =
     let h = based.at below declared manager in (record { lower = h.0; leafless = h.1 }, more)
-entry_placed text earlier nodes machines all place (Dfs name machine below) rest is declared manager based more =
-    let h = based.at below declared manager in (record { lower = h.0; leafless = h.1 }, more)
-entry_placed text earlier nodes machines all place (Vmm name machine below frames) rest is declared manager based more =
-    let h = based.at below declared manager in (record { lower = h.0; leafless = h.1 }, more)
+entry_placed text earlier nodes machines all place _ rest is declared manager based more = absurd (false≢true is)
 
 -- the nodes of the lines that follow the earlier ones
 pub placed_after : (text : List StackLine) (machines : List (List ℕ)) (all : List NodeEntry) (nodes : List StackLine) (first : StackLine) (earlier front lines : List StackLine)

@@ -9,7 +9,9 @@ use Rattle.std.proofs.lemmas.List.{length-append}
 use Rattle.hist_plain.specs.declared.TheConstants.{MAX_PAGES}
 use Rattle.hist_plain.specs.Plain.{IsPageSize}
 use Rattle.stack_text.specs.declared.stack.StackLine.{StackLine}
-use Rattle.stack_text.specs.declared.stack.StackLine.TheVariants.{Page, File, Disk, Mirror, Coherency, Dfs, Vmm}
+use Rattle.stack_text.specs.declared.stack.StackLine.TheVariants.{Page, File, Layer}
+use Rattle.stack_text.specs.declared.stack.LayerKind.TheVariants.{Disk, Mirror, Upper}
+use Rattle.stack_text.specs.declared.stack.UpperKind.TheVariants.{Vmm}
 use Rattle.stack_accept.specs.declared.TheConstants.{MAX_FRAMES}
 use Rattle.stack_accept.specs.declared.rule.Rule.TheVariants.{PageFirst, Limits}
 use Rattle.stack_accept.specs.declared.entries.FileEntry.{FileEntry}
@@ -23,7 +25,7 @@ use Rattle.std.proofs.lemmas.List.Sorted.{length_permutation}
 use Rattle.stack_accept.proofs.GroundLaws.{ground_disks}
 use Rattle.tower_core.specs.TreeShape.{TreeShape}
 use Rattle.stack_accept.specs.Sound.{IsInLimits, HasFrames, IsGroundNode, IsLayerNode, IsMount}
-use Rattle.stack_accept.proofs.Lists.{count_by_cons}
+use Rattle.stack_accept.proofs.Lists.{same_value, count_by_cons}
 use Rattle.stack_accept.proofs.Kept.{kept_at_end}
 use Rattle.stack_accept.proofs.TreeLaws.{EachPlaced, ArePlaced}
 use Rattle.stack_accept.proofs.MountLaws.{kept, has_nodes, mounted_tree, few_nodes, few_by, ground_storage}
@@ -55,12 +57,7 @@ power_size size e =
 
 first_page : (line : StackLine) (lines : List StackLine) → is_page line ≡ true → keeps Limits [] line ≡ true → IsPageSize (page_size_of (line ∷ lines))
 first_page (Page size) lines is e = power_size size e
-first_page (File name pages) lines is e = absurd (false≢true is)
-first_page (Disk name machine) lines is e = absurd (false≢true is)
-first_page (Mirror name machine left right) lines is e = absurd (false≢true is)
-first_page (Coherency name machine below) lines is e = absurd (false≢true is)
-first_page (Dfs name machine below) lines is e = absurd (false≢true is)
-first_page (Vmm name machine below frames) lines is e = absurd (false≢true is)
+first_page _ lines is e = absurd (false≢true is)
 
 page_size_is : (lines : List StackLine) → KeepsRules [] lines → IsPageSize (page_size_of lines)
 page_size_is [] keeps = absurd (false≢true (keeps PageFirst))
@@ -69,31 +66,16 @@ page_size_is (line ∷ lines) keeps = first_page line lines (keeps.0 PageFirst) 
 -- the files and the disks
 
 file_step : (earlier : List StackLine) (line : StackLine) → keeps Limits earlier line ≡ true → count_by (λ l. is_file l) earlier ≤ 16 → count_by (λ l. is_file l) earlier + cond (is_file line) 1 0 ≤ 16
-file_step earlier (Page size) e few = omega arith
 file_step earlier (File name pages) e few = let low = ltb-true _ 16 (and_parts (ltb (count_by (λ l. is_file l) earlier) 16) (is_count MAX_PAGES pages) e).0 in omega (arith, low)
-file_step earlier (Disk name machine) e few = omega arith
-file_step earlier (Mirror name machine left right) e few = omega arith
-file_step earlier (Coherency name machine below) e few = omega arith
-file_step earlier (Dfs name machine below) e few = omega arith
-file_step earlier (Vmm name machine below frames) e few = omega arith
+file_step earlier _ e few = omega arith
 
 disk_step : (earlier : List StackLine) (line : StackLine) → keeps Limits earlier line ≡ true → count_by (λ l. is_disk l) earlier ≤ 4 → count_by (λ l. is_disk l) earlier + cond (is_disk line) 1 0 ≤ 4
-disk_step earlier (Page size) e few = omega arith
-disk_step earlier (File name pages) e few = omega arith
-disk_step earlier (Disk name machine) e few = let low = ltb-true _ 4 e in omega (arith, low)
-disk_step earlier (Mirror name machine left right) e few = omega arith
-disk_step earlier (Coherency name machine below) e few = omega arith
-disk_step earlier (Dfs name machine below) e few = omega arith
-disk_step earlier (Vmm name machine below frames) e few = omega arith
+disk_step earlier (Layer name machine Disk) e few = let low = ltb-true _ 4 e in omega (arith, low)
+disk_step earlier _ e few = omega arith
 
 more_files : (line : StackLine) (rest : List FileEntry) → length (cons_option (file_of line) rest) ≡ cond (is_file line) 1 0 + length rest
-more_files (Page size) rest = omega arith
 more_files (File name pages) rest = omega arith
-more_files (Disk name machine) rest = omega arith
-more_files (Mirror name machine left right) rest = omega arith
-more_files (Coherency name machine below) rest = omega arith
-more_files (Dfs name machine below) rest = omega arith
-more_files (Vmm name machine below frames) rest = omega arith
+more_files _ rest = omega arith
 
 count_files : (lines : List StackLine) → length (filter_map (λ line. file_of line) lines) ≡ count_by (λ line. is_file line) lines
 count_files [] = refl
@@ -104,13 +86,8 @@ count_files (line ∷ lines) =
     omega (arith, here, counted, rest)
 
 more_disks : (line : StackLine) (rest : List (List ℕ)) → length (cons_option (disk_of line) rest) ≡ cond (is_disk line) 1 0 + length rest
-more_disks (Page size) rest = omega arith
-more_disks (File name pages) rest = omega arith
-more_disks (Disk name machine) rest = omega arith
-more_disks (Mirror name machine left right) rest = omega arith
-more_disks (Coherency name machine below) rest = omega arith
-more_disks (Dfs name machine below) rest = omega arith
-more_disks (Vmm name machine below frames) rest = omega arith
+more_disks (Layer name machine Disk) rest = omega arith
+more_disks _ rest = omega arith
 
 pub count_disks : (lines : List StackLine) → length (filter_map (λ line. disk_of line) lines) ≡ count_by (λ line. is_disk line) lines
 count_disks [] = refl
@@ -121,13 +98,8 @@ count_disks (line ∷ lines) =
     omega (arith, here, counted, rest)
 
 file_pages : (earlier : List StackLine) (line : StackLine) (rest : List FileEntry) → keeps Limits earlier line ≡ true → AllByRecursion (λ file. IsInLimits file.pages) rest → AllByRecursion (λ file. IsInLimits file.pages) (cons_option (file_of line) rest)
-file_pages earlier (Page size) rest e h = h
 file_pages earlier (File name pages) rest e h = (in_limits pages (and_parts (ltb (count_by (λ l. is_file l) earlier) 16) (is_count MAX_PAGES pages) e).1, h)
-file_pages earlier (Disk name machine) rest e h = h
-file_pages earlier (Mirror name machine left right) rest e h = h
-file_pages earlier (Coherency name machine below) rest e h = h
-file_pages earlier (Dfs name machine below) rest e h = h
-file_pages earlier (Vmm name machine below frames) rest e h = h
+file_pages earlier _ rest e h = h
 
 each_pages : (earlier lines : List StackLine) → KeepsRules earlier lines → AllByRecursion (λ file. IsInLimits file.pages) (filter_map (λ line. file_of line) lines)
 each_pages earlier [] keeps = tt
@@ -165,13 +137,8 @@ onto_longer names (line ∷ lines) =
     omega (arith, here, rest)
 
 has_machine : (line : StackLine) → is_storage line ≡ true → (machine : List ℕ) × (machine_of line ≡ Some machine)
-has_machine (Page size) e = absurd (false≢true e)
-has_machine (File name pages) e = absurd (false≢true e)
-has_machine (Disk name machine) e = (machine, refl)
-has_machine (Mirror name machine left right) e = (machine, refl)
-has_machine (Coherency name machine below) e = absurd (false≢true e)
-has_machine (Dfs name machine below) e = absurd (false≢true e)
-has_machine (Vmm name machine below frames) e = absurd (false≢true e)
+has_machine (Layer name machine kind) e = (machine, refl)
+has_machine _ e = absurd (false≢true e)
 
 some_machine : (names : List (List ℕ)) (lines : List StackLine) → list_any (λ line. is_storage line) lines ≡ true → 0 < length (machines_onto names lines)
 some_machine names [] e = absurd (false≢true e)
@@ -198,28 +165,17 @@ low_number names name some = low_place (position_or_len (λ own. bytes_eq own na
 -- the nodes
 
 ground_is : (machines : List (List ℕ)) (nodes : List StackLine) (line : StackLine) (node : NodeEntry) → 0 < length machines → is_storage line ≡ true → node_of machines nodes line ≡ Some node → IsGroundNode machines node
-ground_is machines nodes (Page size) node some e is = absurd (false≢true e)
-ground_is machines nodes (File name pages) node some e is = absurd (false≢true e)
-ground_is machines nodes (Disk name machine) node some e is = subst (IsGroundNode machines) (same _ node is) (record { kind = tt; low = refl; bare = refl; machine = low_number machines machine some }) where
-  same : (a b : NodeEntry) → Some a ≡ Some b → a ≡ b
-  same a b f = cc
-ground_is machines nodes (Mirror name machine left right) node some e is = subst (IsGroundNode machines) (same _ node is) (record { kind = tt; low = refl; bare = refl; machine = low_number machines machine some }) where
-  same : (a b : NodeEntry) → Some a ≡ Some b → a ≡ b
-  same a b f = cc
-ground_is machines nodes (Coherency name machine below) node some e is = absurd (false≢true e)
-ground_is machines nodes (Dfs name machine below) node some e is = absurd (false≢true e)
-ground_is machines nodes (Vmm name machine below frames) node some e is = absurd (false≢true e)
+ground_is machines nodes (Layer name machine (Upper kind below)) node some e is = absurd (false≢true e)
+ground_is machines nodes (Layer name machine Disk) node some e is = subst (IsGroundNode machines) (same_value _ node is) (record { kind = tt; low = refl; bare = refl; machine = low_number machines machine some })
+ground_is machines nodes (Layer name machine (Mirror left right)) node some e is = subst (IsGroundNode machines) (same_value _ node is) (record { kind = tt; low = refl; bare = refl; machine = low_number machines machine some })
+ground_is machines nodes _ node some e is = absurd (false≢true e)
 
 layer_is : (text earlier nodes : List StackLine) (machines : List (List ℕ)) (line : StackLine) (rest : List NodeEntry) → 0 < length machines → is_node text line ≡ true → keeps Limits earlier line ≡ true
     → AllByRecursion (IsLayerNode machines) rest → AllByRecursion (IsLayerNode machines) (cons_option (node_of machines nodes line) rest)
-layer_is text earlier nodes machines (Page size) rest some is e h = absurd (false≢true is)
-layer_is text earlier nodes machines (File name pages) rest some is e h = absurd (false≢true is)
-layer_is text earlier nodes machines (Disk name machine) rest some is e h = absurd (false≢true is)
-layer_is text earlier nodes machines (Mirror name machine left right) rest some is e h = absurd (false≢true is)
-layer_is text earlier nodes machines (Coherency name machine below) rest some is e h = (record { kind = refl; machine = low_number machines machine some }, h)
-layer_is text earlier nodes machines (Dfs name machine below) rest some is e h = (record { kind = refl; machine = low_number machines machine some }, h)
-layer_is text earlier nodes machines (Vmm name machine below frames) rest some is e h =
+layer_is text earlier nodes machines (Layer name machine (Upper (Vmm frames) below)) rest some is e h =
     (record { kind = frames_in_limits frames (and_parts (has_room earlier below) (is_count MAX_FRAMES frames) e).1; machine = low_number machines machine some }, h)
+layer_is text earlier nodes machines (Layer name machine (Upper kind below)) rest some is e h = (record { kind = refl; machine = low_number machines machine some }, h)
+layer_is text earlier nodes machines _ rest some is e h = absurd (false≢true is)
 
 each_layer : (text nodes : List StackLine) (machines : List (List ℕ)) (earlier lines : List StackLine) → 0 < length machines → KeepsRules earlier lines
     → AllByRecursion (IsLayerNode machines) (filter_map (λ line. node_of machines nodes line) (filter (λ line. is_node text line) lines))

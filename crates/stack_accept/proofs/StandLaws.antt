@@ -6,17 +6,20 @@ use Rattle.std.specs.List.{list_any, filter, filter_map, cons_option, find, AllB
 use Rattle.std.proofs.lemmas.Option.{slice_get-map}
 use Rattle.std.proofs.lemmas.Bool.{cases_Bool, or_cases, or_from, or_left, or_right, and_parts, and_from, both_ways, false≢true, true≢false, not-true, false_from_ne_true, cond_both, cond-true, cond-false}
 use Rattle.stack_text.specs.declared.stack.StackLine.{StackLine}
-use Rattle.stack_text.specs.declared.stack.StackLine.TheVariants.{Page, File, Disk, Mirror, Coherency, Dfs, Vmm}
-use Rattle.stack_accept.specs.declared.entries.Kind.{Kind}
+use Rattle.stack_text.specs.declared.stack.StackLine.TheVariants.{Layer}
+use Rattle.stack_text.specs.declared.stack.LayerKind.{LayerKind}
+use Rattle.stack_text.specs.declared.stack.LayerKind.TheVariants.{Upper}
+use Rattle.stack_text.specs.declared.stack.UpperKind.TheVariants.{Coherency, Dfs, Vmm}
 use Rattle.stack_accept.specs.declared.entries.Kind.TheVariants as kinds
 use Rattle.stack_accept.specs.declared.entries.NodeEntry.{NodeEntry}
 use Rattle.stack_accept.specs.Lines.{is_coherency, is_dfs, is_vmm, is_storage, is_upper, is_layer, name_of, machine_of, is_word, is_named}
 use Rattle.stack_accept.specs.Rules.{is_near, is_node, is_first_node, KeepsRules}
-use Rattle.stack_accept.specs.Mount.{number_in, base_of, ground_name, node_lines, node_number, node_of, nodes_of, machines_of, is_dfs_node, is_view}
+use Rattle.stack_accept.specs.Mount.{number_in, base_of, ground_name, node_lines, node_number, node_kind, node_below, node_of, nodes_of, machines_of, is_dfs_node, is_view}
 use Rattle.stack_accept.specs.Sound.{AreDifferent, IsStorageKind, may_stand_on, StandsOn}
 use Rattle.stack_accept.proofs.Lists.{same_value, all_found, all_filtered, all_got, all_weakly, found_passes, number_passes, list_any_weaker}
 use Rattle.stack_accept.proofs.TreeLaws.{EachPlaced}
-use Rattle.stack_accept.proofs.NodeLaws.{word_is}
+use Rattle.stack_accept.proofs.KindLaws.{storage_unseen, on_ground, on_view}
+use Rattle.stack_accept.proofs.NodeLaws.{word_is, storage_layer, upper_layer}
 use Rattle.stack_accept.proofs.MountLaws.{HasNodes, has_nodes, first_node, node_upper}
 use Rattle.stack_accept.proofs.NameLaws.{all_named, distinct_apart, names_of, has_names, distinct_option, names_distinct}
 use Rattle.stack_accept.proofs.DiskLaws.{has, AreDistinct}
@@ -35,86 +38,52 @@ pub record IsEntry (machines : List (List ℕ)) (nodes : List StackLine) (line :
 word_number : (machines : List (List ℕ)) (own word : List ℕ) → Some own ≡ Some word → number_in machines own ≡ number_in machines word
 word_number machines own word e = ap (λ w. number_in machines w) (same_value own word e)
 
+-- the parts of an entry that go by its kind
+upper_below : (nodes : List StackLine) (name machine : List ℕ) (kind : LayerKind) → is_upper (Layer name machine kind) ≡ true → node_below nodes kind ≡ node_number nodes (base_of (Layer name machine kind))
+upper_below nodes name machine (Upper kind below) u = refl
+upper_below nodes name machine _ u = absurd (false≢true u)
+
+coherency_kind : (name machine : List ℕ) (kind : LayerKind) → is_coherency (Layer name machine kind) ≡ true → node_kind kind ≡ kinds.Coherency
+coherency_kind name machine (Upper Coherency below) c = refl
+coherency_kind name machine _ c = absurd (false≢true c)
+
+storage_kind : (name machine : List ℕ) (kind : LayerKind) → is_storage (Layer name machine kind) ≡ true → IsStorageKind (node_kind kind)
+storage_kind name machine (Upper kind below) s = absurd (false≢true s)
+storage_kind name machine _ s = tt
+
+view_kind : (name machine : List ℕ) (kind : LayerKind) → is_upper (Layer name machine kind) ≡ true → is_vmm (Layer name machine kind) ≡ false → is_view (node_kind kind) ≡ true
+view_kind name machine (Upper (Vmm frames) below) u v = absurd (true≢false v)
+view_kind name machine (Upper kind below) u v = refl
+view_kind name machine _ u v = absurd (false≢true u)
+
+other_kind : (name machine : List ℕ) (kind : LayerKind) → is_dfs_node (node_kind kind) ≡ false → is_dfs (Layer name machine kind) ≡ false
+other_kind name machine (Upper Dfs below) d = d
+other_kind name machine _ d = refl
+
 pub entry_of : (machines : List (List ℕ)) (nodes : List StackLine) (line : StackLine) (node : NodeEntry) → is_layer line ≡ true → node_of machines nodes line ≡ Some node → IsEntry machines nodes line node
-entry_of machines nodes (Page size) node is e = absurd (false≢true is)
-entry_of machines nodes (File name pages) node is e = absurd (false≢true is)
-entry_of machines nodes (Disk name machine) node is e =
-    subst (IsEntry machines nodes (Disk name machine)) (same_value _ node e) (record {
+entry_of machines nodes (Layer name machine kind) node is e =
+    subst (IsEntry machines nodes (Layer name machine kind)) (same_value _ node e) (record {
       name = refl;
       machine = word_number machines machine;
-      below = λ u. absurd (false≢true u);
-      coherency = λ c. absurd (false≢true c);
-      storage = λ s. tt;
-      view = λ u v. absurd (false≢true u);
-      other = λ d. refl;
+      below = upper_below nodes name machine kind;
+      coherency = coherency_kind name machine kind;
+      storage = storage_kind name machine kind;
+      view = view_kind name machine kind;
+      other = other_kind name machine kind;
     })
-entry_of machines nodes (Mirror name machine left right) node is e =
-    subst (IsEntry machines nodes (Mirror name machine left right)) (same_value _ node e) (record {
-      name = refl;
-      machine = word_number machines machine;
-      below = λ u. absurd (false≢true u);
-      coherency = λ c. absurd (false≢true c);
-      storage = λ s. tt;
-      view = λ u v. absurd (false≢true u);
-      other = λ d. refl;
-    })
-entry_of machines nodes (Coherency name machine below) node is e =
-    subst (IsEntry machines nodes (Coherency name machine below)) (same_value _ node e) (record {
-      name = refl;
-      machine = word_number machines machine;
-      below = λ u. refl;
-      coherency = λ c. refl;
-      storage = λ s. absurd (false≢true s);
-      view = λ u v. refl;
-      other = λ d. refl;
-    })
-entry_of machines nodes (Dfs name machine below) node is e =
-    subst (IsEntry machines nodes (Dfs name machine below)) (same_value _ node e) (record {
-      name = refl;
-      machine = word_number machines machine;
-      below = λ u. refl;
-      coherency = λ c. absurd (false≢true c);
-      storage = λ s. absurd (false≢true s);
-      view = λ u v. refl;
-      other = λ d. d;
-    })
-entry_of machines nodes (Vmm name machine below frames) node is e =
-    subst (IsEntry machines nodes (Vmm name machine below frames)) (same_value _ node e) (record {
-      name = refl;
-      machine = word_number machines machine;
-      below = λ u. refl;
-      coherency = λ c. absurd (false≢true c);
-      storage = λ s. absurd (false≢true s);
-      view = λ u v. absurd (true≢false v);
-      other = λ d. refl;
-    })
+entry_of machines nodes _ node is e = absurd (false≢true is)
 
 layer_entry : (machines : List (List ℕ)) (nodes : List StackLine) (line : StackLine) → is_layer line ≡ true → (node : NodeEntry) × (node_of machines nodes line ≡ Some node)
-layer_entry machines nodes (Page size) is = absurd (false≢true is)
-layer_entry machines nodes (File name pages) is = absurd (false≢true is)
-layer_entry machines nodes (Disk name machine) is = (_, refl)
-layer_entry machines nodes (Mirror name machine left right) is = (_, refl)
-layer_entry machines nodes (Coherency name machine below) is = (_, refl)
-layer_entry machines nodes (Dfs name machine below) is = (_, refl)
-layer_entry machines nodes (Vmm name machine below frames) is = (_, refl)
+layer_entry machines nodes (Layer name machine kind) is = (_, refl)
+layer_entry machines nodes _ is = absurd (false≢true is)
 
 machine_word : (line : StackLine) → is_layer line ≡ true → (word : List ℕ) × (machine_of line ≡ Some word)
-machine_word (Page size) is = absurd (false≢true is)
-machine_word (File name pages) is = absurd (false≢true is)
-machine_word (Disk name machine) is = (machine, refl)
-machine_word (Mirror name machine left right) is = (machine, refl)
-machine_word (Coherency name machine below) is = (machine, refl)
-machine_word (Dfs name machine below) is = (machine, refl)
-machine_word (Vmm name machine below frames) is = (machine, refl)
+machine_word (Layer name machine kind) is = (machine, refl)
+machine_word _ is = absurd (false≢true is)
 
 storage_low : (line : StackLine) → is_storage line ≡ true → is_upper line ≡ true → ⊥
-storage_low (Page size) s u = false≢true s
-storage_low (File name pages) s u = false≢true s
-storage_low (Disk name machine) s u = false≢true u
-storage_low (Mirror name machine left right) s u = false≢true u
-storage_low (Coherency name machine below) s u = false≢true s
-storage_low (Dfs name machine below) s u = false≢true s
-storage_low (Vmm name machine below frames) s u = false≢true s
+storage_low (Layer name machine (Upper kind below)) s u = false≢true s
+storage_low _ s u = false≢true u
 
 -- entries and their lines stand at the same places
 record HasLine (machines : List (List ℕ)) (nodes lines : List StackLine) (i : ℕ) (node : NodeEntry) : Type 0 where
@@ -168,8 +137,8 @@ anything (line ∷ lines) = (tt, anything lines)
 node_layers : (text : List StackLine) → HasNodes text → AllByRecursion (λ l. is_layer l ≡ true) (node_lines text)
 node_layers text has =
     subst (AllByRecursion (λ l. is_layer l ≡ true)) (sym has.lines_are) (
-      or_left (is_storage has.line) (is_upper has.line) has.storage,
-      all_weakly (λ l. (is_node text l ≡ true) × Unit {0}) (λ l. is_layer l ≡ true) (λ l both. or_right (is_storage l) (is_upper l) (node_upper text l both.0)) (filter (λ l. is_node text l) text)
+      storage_layer has.line has.storage,
+      all_weakly (λ l. (is_node text l ≡ true) × Unit {0}) (λ l. is_layer l ≡ true) (λ l both. upper_layer l (node_upper text l both.0)) (filter (λ l. is_node text l) text)
           (all_filtered (λ l. Unit {0}) (λ l. is_node text l) text (anything text)),
     )
 
@@ -216,24 +185,6 @@ base_there text kept has line is only =
           subst (λ ls. list_any (λ l. is_named (base_of line) l) ls ≡ true) (sym has.lines_are)
           (or_right (is_named (base_of line) has.line) _ (any_kept (λ l. is_node text l) (λ l. is_named (base_of line) l) text some))
     ]
-
-on_ground : (base : Kind) → IsStorageKind base → may_stand_on kinds.Coherency base ≡ true
-on_ground kinds.Disk h = refl
-on_ground kinds.Mirror h = refl
-on_ground kinds.Coherency h = absurd h
-on_ground kinds.Dfs h = absurd h
-on_ground kinds.Vmm h = absurd h
-
-on_view : (layer base : Kind) → is_view base ≡ true → may_stand_on layer base ≡ true
-on_view kinds.Disk base e = e
-on_view kinds.Mirror base e = e
-on_view kinds.Coherency kinds.Disk e = refl
-on_view kinds.Coherency kinds.Mirror e = refl
-on_view kinds.Coherency kinds.Coherency e = refl
-on_view kinds.Coherency kinds.Dfs e = refl
-on_view kinds.Coherency kinds.Vmm e = e
-on_view kinds.Dfs base e = e
-on_view kinds.Vmm base e = e
 
 near_machine : (machines : List (List ℕ)) (nodes : List StackLine) (line base_line : StackLine) (node base : NodeEntry) → is_layer line ≡ true → IsEntry machines nodes line node → IsEntry machines nodes base_line base
     → is_near (machine_of line) base_line ≡ true → is_dfs_node base.kind ≡ false → node.machine ≡ base.machine
@@ -308,7 +259,7 @@ nodes_stand text kept number node base above at base_at =
             let both = and_parts (is_node text h.base_line) (not (is_vmm h.base_line)) view in
             on_view node.kind base.kind (h.base_entry.view (node_upper text h.base_line both.0) (not-true (is_vmm h.base_line) both.1))
       ];
-      near = near_machine (machines_of text) (node_lines text) h.line h.base_line node base (or_right (is_storage h.line) (is_upper h.line) h.is.upper) h.entry h.base_entry h.near;
+      near = near_machine (machines_of text) (node_lines text) h.line h.base_line node base (upper_layer h.line h.is.upper) h.entry h.base_entry h.near;
     }
 
 pub some_found : (p : StackLine → Bool) (lines : List StackLine) (line : StackLine) → find p lines ≡ Some line → list_any p lines ≡ true
@@ -343,19 +294,12 @@ nodes_differ text kept =
 
 -- the layer on the ground
 
-unseen : (kind : Kind) → IsStorageKind kind → is_view kind ≡ false
-unseen kinds.Disk h = refl
-unseen kinds.Mirror h = refl
-unseen kinds.Coherency h = absurd h
-unseen kinds.Dfs h = absurd h
-unseen kinds.Vmm h = absurd h
-
 pub ground_unseen : (text : List StackLine) → KeepsRules [] text → (node : NodeEntry) → slice_get (nodes_of text) 0 ≡ Some node → is_view node.kind ≡ false
 ground_unseen text kept node at =
     let has = has_nodes text kept in
     let same : has.ground ≡ node = same_value has.ground node (ap (λ ns. slice_get ns 0) (sym has.all) ∙ at) in
-    let entry = entry_of (machines_of text) (node_lines text) has.line has.ground (or_left (is_storage has.line) (is_upper has.line) has.storage) has.named in
-    subst (λ (n : NodeEntry). is_view n.kind ≡ false) same (unseen has.ground.kind (entry.storage has.storage))
+    let entry = entry_of (machines_of text) (node_lines text) has.line has.ground (storage_layer has.line has.storage) has.named in
+    subst (λ (n : NodeEntry). is_view n.kind ≡ false) same (storage_unseen has.ground.kind (entry.storage has.storage))
 
 -- whoever stands on the ground is the first node
 first_name : (text : List StackLine) (kept : KeepsRules [] text) (number : ℕ) (node : NodeEntry) → 0 < number → slice_get (nodes_of text) number ≡ Some node → node.below ≡ 0 → name_of (first_node text kept).0 ≡ Some node.name

@@ -4,11 +4,10 @@ use Rattle.std.specs.Prelude.{slice_get}
 use Rattle.std.specs.Option.{option_map_or}
 use Rattle.std.proofs.lemmas.Option.{slice_get_cases, slice_get_within, slice_get-get_or}
 use Rattle.std.proofs.lemmas.Bool.{cases_Bool, and_parts, both_ways, false≢true, cond-true, cond-false}
-use Rattle.stack_accept.specs.declared.entries.Kind.{Kind}
-use Rattle.stack_accept.specs.declared.entries.Kind.TheVariants.{Disk, Mirror, Coherency, Dfs, Vmm}
 use Rattle.stack_accept.specs.declared.entries.NodeEntry.{NodeEntry}
 use Rattle.stack_accept.specs.Mount.{is_dfs_node, is_view, is_view_in, goes_round, below_of, via_in}
-use Rattle.stack_accept.specs.Sound.{may_stand_on, StandsOn, Serves}
+use Rattle.stack_accept.specs.Sound.{StandsOn, Serves}
+use Rattle.stack_accept.proofs.KindLaws.{under_dfs}
 
 -- each node but the ground stands on an earlier one that it may stand on
 pub record AreBased (nodes : List NodeEntry) : Type 0 where
@@ -27,13 +26,6 @@ view_node nodes at e =
 not_ground : (nodes : List NodeEntry) → AreBased nodes → (at : ℕ) → is_view_in nodes at ≡ true → 0 < at
 not_ground nodes based zero e = let v = view_node nodes 0 e in absurd (both_ways (is_view v.0.kind) (based.unseen v.0 v.1) v.2)
 not_ground nodes based (suc at) e = omega arith
-
-under_dfs : (layer base : Kind) → is_dfs_node layer ≡ true → may_stand_on layer base ≡ true → is_view base ≡ true
-under_dfs Disk base d e = absurd (false≢true d)
-under_dfs Mirror base d e = absurd (false≢true d)
-under_dfs Coherency base d e = absurd (false≢true d)
-under_dfs Dfs base d e = e
-under_dfs Vmm base d e = absurd (false≢true d)
 
 -- a distributed layer stands on a view
 under_view : (nodes : List NodeEntry) → AreBased nodes → (at : ℕ) (node : NodeEntry) → 0 < at → slice_get nodes at ≡ Some node → is_dfs_node node.kind ≡ true → is_view_in nodes node.below ≡ true

@@ -3,7 +3,9 @@ use Rattle.std.specs.Prelude.{ℕ, List, Bool, true, false, ◌&&◌, ◌||◌, 
 use Rattle.std.specs.List.{list_any}
 use Rattle.std.specs.Str.{bytes_eq}
 use Rattle.stack_text.specs.declared.stack.StackLine.{StackLine}
-use Rattle.stack_text.specs.declared.stack.StackLine.TheVariants.{Page, File, Disk, Mirror, Coherency, Dfs, Vmm}
+use Rattle.stack_text.specs.declared.stack.StackLine.TheVariants.{Page, File, Layer}
+use Rattle.stack_text.specs.declared.stack.LayerKind.TheVariants.{Disk, Mirror, Upper}
+use Rattle.stack_text.specs.declared.stack.UpperKind.TheVariants.{Coherency, Dfs, Vmm}
 
 abbrev pub is_page : StackLine → Bool
 is_page (Page size) = true
@@ -13,56 +15,49 @@ abbrev pub is_file : StackLine → Bool
 is_file (File name pages) = true
 is_file _ = false
 
+abbrev pub is_layer : StackLine → Bool
+is_layer (Layer name machine kind) = true
+is_layer _ = false
+
 abbrev pub is_disk : StackLine → Bool
-is_disk (Disk name machine) = true
+is_disk (Layer name machine Disk) = true
 is_disk _ = false
 
 abbrev pub is_mirror : StackLine → Bool
-is_mirror (Mirror name machine left right) = true
+is_mirror (Layer name machine (Mirror left right)) = true
 is_mirror _ = false
 
+-- a coherency layer, a distributed layer or a memory manager
+abbrev pub is_upper : StackLine → Bool
+is_upper (Layer name machine (Upper kind below)) = true
+is_upper _ = false
+
 abbrev pub is_coherency : StackLine → Bool
-is_coherency (Coherency name machine below) = true
+is_coherency (Layer name machine (Upper Coherency below)) = true
 is_coherency _ = false
 
 abbrev pub is_dfs : StackLine → Bool
-is_dfs (Dfs name machine below) = true
+is_dfs (Layer name machine (Upper Dfs below)) = true
 is_dfs _ = false
 
 abbrev pub is_vmm : StackLine → Bool
-is_vmm (Vmm name machine below frames) = true
+is_vmm (Layer name machine (Upper (Vmm frames) below)) = true
 is_vmm _ = false
 
 -- a disk or a mirror
 abbrev pub is_storage : StackLine → Bool
 is_storage line = is_disk line || is_mirror line
 
--- a coherency layer, a distributed layer or a memory manager
-abbrev pub is_upper : StackLine → Bool
-is_upper line = is_coherency line || is_dfs line || is_vmm line
-
-abbrev pub is_layer : StackLine → Bool
-is_layer line = is_storage line || is_upper line
-
 -- the name that a line declares
 abbrev pub name_of : StackLine → Option (List ℕ)
 name_of (Page size) = None
 name_of (File name pages) = Some name
-name_of (Disk name machine) = Some name
-name_of (Mirror name machine left right) = Some name
-name_of (Coherency name machine below) = Some name
-name_of (Dfs name machine below) = Some name
-name_of (Vmm name machine below frames) = Some name
+name_of (Layer name machine kind) = Some name
 
 -- the machine of a layer
 abbrev pub machine_of : StackLine → Option (List ℕ)
-machine_of (Page size) = None
-machine_of (File name pages) = None
-machine_of (Disk name machine) = Some machine
-machine_of (Mirror name machine left right) = Some machine
-machine_of (Coherency name machine below) = Some machine
-machine_of (Dfs name machine below) = Some machine
-machine_of (Vmm name machine below frames) = Some machine
+machine_of (Layer name machine kind) = Some machine
+machine_of _ = None
 
 -- there is a word, and it is this one
 abbrev pub is_word : Option (List ℕ) → List ℕ → Bool
@@ -79,18 +74,14 @@ is_layer_named name line = is_layer line && is_named name line
 
 -- each layer that the line stands on passes the test
 abbrev pub all_bases : (List ℕ → Bool) → StackLine → Bool
-all_bases test (Mirror name machine left right) = test left && test right
-all_bases test (Coherency name machine below) = test below
-all_bases test (Dfs name machine below) = test below
-all_bases test (Vmm name machine below frames) = test below
+all_bases test (Layer name machine (Mirror left right)) = test left && test right
+all_bases test (Layer name machine (Upper kind below)) = test below
 all_bases test _ = true
 
 -- the line stands on the layer of this name
 abbrev pub stands_on : List ℕ → StackLine → Bool
-stands_on base (Mirror name machine left right) = bytes_eq left base || bytes_eq right base
-stands_on base (Coherency name machine below) = bytes_eq below base
-stands_on base (Dfs name machine below) = bytes_eq below base
-stands_on base (Vmm name machine below frames) = bytes_eq below base
+stands_on base (Layer name machine (Mirror left right)) = bytes_eq left base || bytes_eq right base
+stands_on base (Layer name machine (Upper kind below)) = bytes_eq below base
 stands_on base _ = false
 
 -- one of the lines declares a layer of the name
@@ -115,5 +106,5 @@ is_side lines name = list_any (λ line. is_mirror line && stands_on name line) l
 
 -- a coherency layer on a disk or a mirror
 abbrev pub is_coherent_storage : List StackLine → StackLine → Bool
-is_coherent_storage lines (Coherency name machine below) = is_storage_name lines below
+is_coherent_storage lines (Layer name machine (Upper Coherency below)) = is_storage_name lines below
 is_coherent_storage lines _ = false

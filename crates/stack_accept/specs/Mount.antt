@@ -4,7 +4,10 @@ use Rattle.std.specs.Option.{option_map_or, option_to_list}
 use Rattle.std.specs.List.{list_any, find, filter_map}
 use Rattle.std.specs.Str.{bytes_eq}
 use Rattle.stack_text.specs.declared.stack.StackLine.{StackLine}
-use Rattle.stack_text.specs.declared.stack.StackLine.TheVariants.{Page, File, Disk, Mirror, Coherency, Dfs, Vmm}
+use Rattle.stack_text.specs.declared.stack.StackLine.TheVariants.{Page, File, Layer}
+use Rattle.stack_text.specs.declared.stack.LayerKind.{LayerKind}
+use Rattle.stack_text.specs.declared.stack.LayerKind.TheVariants.{Disk, Mirror, Upper}
+use Rattle.stack_text.specs.declared.stack.UpperKind.TheVariants.{Coherency, Dfs, Vmm}
 use Rattle.stack_accept.specs.declared.entries.Kind.{Kind}
 use Rattle.stack_accept.specs.declared.entries.Kind.TheVariants as kinds
 use Rattle.stack_accept.specs.declared.entries.FileEntry.{FileEntry}
@@ -37,7 +40,7 @@ file_of (File name pages) = Some (record { name = name; pages = pages })
 file_of _ = None
 
 abbrev pub disk_of : StackLine → Option (List ℕ)
-disk_of (Disk name machine) = Some name
+disk_of (Layer name machine Disk) = Some name
 disk_of _ = None
 
 -- the names with one more, unless it is there already
@@ -51,9 +54,7 @@ machines_of lines = fold (λ names line. with_machine names (machine_of line)) [
 
 -- what an upper layer stands on
 abbrev pub base_of : StackLine → List ℕ
-base_of (Coherency name machine below) = below
-base_of (Dfs name machine below) = below
-base_of (Vmm name machine below frames) = below
+base_of (Layer name machine (Upper kind below)) = below
 base_of _ = []
 
 -- The ground is what the first node stands on.
@@ -71,15 +72,29 @@ node_lines lines = option_to_list (ground_line lines) ++ filter (λ line. is_nod
 abbrev pub node_number : List StackLine → List ℕ → ℕ
 node_number nodes name = unwrap_or (position (λ line. is_named name line) nodes) 0
 
+-- what a layer's node is
+abbrev pub node_kind : LayerKind → Kind
+node_kind Disk = kinds.Disk
+node_kind (Mirror left right) = kinds.Mirror
+node_kind (Upper Coherency below) = kinds.Coherency
+node_kind (Upper Dfs below) = kinds.Dfs
+node_kind (Upper (Vmm frames) below) = kinds.Vmm
+
+-- the number of the node that it stands on; the ground stands on none
+abbrev pub node_below : List StackLine → LayerKind → ℕ
+node_below nodes (Upper kind below) = node_number nodes below
+node_below nodes _ = 0
+
+-- how many pages of a file it holds, if it is a memory manager
+abbrev pub node_frames : LayerKind → ℕ
+node_frames (Upper (Vmm frames) below) = frames
+node_frames _ = 0
+
 -- the node of a layer's line, given the machines and the nodes' lines
 abbrev pub node_of : List (List ℕ) → List StackLine → StackLine → Option NodeEntry
-node_of machines nodes (Page size) = None
-node_of machines nodes (File name pages) = None
-node_of machines nodes (Disk name machine) = Some (record { name = name; kind = kinds.Disk; machine = number_in machines machine; below = 0; frames = 0 })
-node_of machines nodes (Mirror name machine left right) = Some (record { name = name; kind = kinds.Mirror; machine = number_in machines machine; below = 0; frames = 0 })
-node_of machines nodes (Coherency name machine below) = Some (record { name = name; kind = kinds.Coherency; machine = number_in machines machine; below = node_number nodes below; frames = 0 })
-node_of machines nodes (Dfs name machine below) = Some (record { name = name; kind = kinds.Dfs; machine = number_in machines machine; below = node_number nodes below; frames = 0 })
-node_of machines nodes (Vmm name machine below frames) = Some (record { name = name; kind = kinds.Vmm; machine = number_in machines machine; below = node_number nodes below; frames = frames })
+node_of machines nodes (Layer name machine kind) =
+    Some (record { name = name; kind = node_kind kind; machine = number_in machines machine; below = node_below nodes kind; frames = node_frames kind })
+node_of machines nodes _ = None
 
 abbrev pub nodes_of : List StackLine → List NodeEntry
 nodes_of lines = filter_map (λ line. node_of (machines_of lines) (node_lines lines) line) (node_lines lines)

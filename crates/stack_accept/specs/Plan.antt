@@ -3,7 +3,9 @@ use Rattle.std.specs.Prelude.{◌≡◌, ℕ, List, [], ◌∷◌, ◌++◌, ◌
 use Rattle.std.specs.Coded.{Coded, code_by, coded_list, coded_ℕ}
 use Rattle.std.proofs.Common.{◌∙◌}
 use Rattle.stack_text.specs.declared.stack.StackLine.{StackLine}
-use Rattle.stack_text.specs.declared.stack.StackLine.TheVariants as lines
+use Rattle.stack_text.specs.declared.stack.StackLine.TheVariants.{Layer}
+use Rattle.stack_text.specs.declared.stack.LayerKind.TheVariants as kinds
+use Rattle.stack_text.specs.declared.stack.UpperKind.TheVariants as uppers
 use Rattle.stack_accept.specs.declared.entries.GroundPlan.{GroundPlan, Disk, Mirror', Coherency'}
 use Rattle.stack_accept.specs.Lines.{is_disk, is_layer_named}
 
@@ -63,9 +65,9 @@ numbers_below (suc n) = n ∷ numbers_below n
 
 -- the plan of a layer, given the plan of each earlier one and the lines before it
 abbrev pub plan_on : List StackLine → StackLine → (List ℕ → Plan) → Plan
-plan_on earlier (lines.Disk name machine) plan = OnDisk (count_by (λ line. is_disk line) earlier)
-plan_on earlier (lines.Mirror name machine left right) plan = OnMirror (plan left) (plan right)
-plan_on earlier (lines.Coherency name machine below) plan = OnCoherency (plan below)
+plan_on earlier (Layer name machine kinds.Disk) plan = OnDisk (count_by (λ line. is_disk line) earlier)
+plan_on earlier (Layer name machine (kinds.Mirror left right)) plan = OnMirror (plan left) (plan right)
+plan_on earlier (Layer name machine (kinds.Upper uppers.Coherency below)) plan = OnCoherency (plan below)
 plan_on earlier line plan = OnDisk 0
 
 -- the plan of the layer of the name; the lines stand last first

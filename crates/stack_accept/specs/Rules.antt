@@ -4,11 +4,14 @@ use Rattle.std.specs.List.{list_any, list_all, find}
 use Rattle.std.specs.Str.{bytes_eq}
 use Rattle.hist_plain.specs.declared.TheConstants.{MAX_PAGES}
 use Rattle.stack_text.specs.declared.stack.StackLine.{StackLine}
-use Rattle.stack_text.specs.declared.stack.StackLine.TheVariants.{Page, File, Disk, Mirror, Coherency, Dfs, Vmm}
+use Rattle.stack_text.specs.declared.stack.StackLine.TheVariants.{Page, File, Layer}
+use Rattle.stack_text.specs.declared.stack.LayerKind.TheVariants.{Disk, Mirror, Upper}
+use Rattle.stack_text.specs.declared.stack.UpperKind.{UpperKind}
+use Rattle.stack_text.specs.declared.stack.UpperKind.TheVariants.{Vmm}
 use Rattle.stack_accept.specs.declared.TheConstants.{MAX_FILES, MAX_DISKS, MAX_LAYERS, MAX_DEPTH, MAX_FRAMES}
 use Rattle.stack_accept.specs.declared.rule.Rule.{Rule}
 use Rattle.stack_accept.specs.declared.rule.Rule.TheVariants.{PageFirst, NewName, EarlierLayer, MirrorSides, OneUser, OneGround, CoherentFirst, ManagerOnTop, SameMachine, Limits}
-use Rattle.stack_accept.specs.Lines.{is_file, is_disk, is_mirror, is_dfs, is_page, is_storage, is_upper, name_of, machine_of, is_word, is_named, is_layer_named, all_bases, is_declared, is_storage_name, is_vmm_name, is_used, is_side, is_coherent_storage}
+use Rattle.stack_accept.specs.Lines.{is_file, is_disk, is_mirror, is_coherency, is_dfs, is_page, is_storage, is_upper, name_of, machine_of, is_word, is_named, is_layer_named, all_bases, is_declared, is_storage_name, is_vmm_name, is_used, is_side, is_coherent_storage}
 
 -- The page line is first and alone.
 abbrev pub is_page_first : List StackLine → StackLine → Bool
@@ -28,12 +31,12 @@ abbrev pub may_be_side : List StackLine → List ℕ → Bool
 may_be_side earlier name = list_any (λ line. (is_storage line || is_coherent_storage earlier line) && is_named name line) earlier
 
 abbrev pub has_fit_sides : List StackLine → StackLine → Bool
-has_fit_sides earlier (Mirror name machine left right) = may_be_side earlier left && may_be_side earlier right
+has_fit_sides earlier (Layer name machine (Mirror left right)) = may_be_side earlier left && may_be_side earlier right
 has_fit_sides earlier _ = true
 
 -- both sides of a mirror are this one layer
 abbrev pub is_both_sides : List ℕ → StackLine → Bool
-is_both_sides base (Mirror name machine left right) = bytes_eq left base && bytes_eq right base
+is_both_sides base (Layer name machine (Mirror left right)) = bytes_eq left base && bytes_eq right base
 is_both_sides base _ = false
 
 -- A disk, a mirror and a mirror's side stand under one layer: whoever comes second is refused.
@@ -48,9 +51,7 @@ may_use earlier line base = is_unused earlier line base || is_shared_layer earli
 
 -- Only mirrors and coherency layers stand on a disk or a mirror.
 abbrev pub is_coherent_first : List StackLine → StackLine → Bool
-is_coherent_first earlier (Dfs name machine below) = not (is_storage_name earlier below)
-is_coherent_first earlier (Vmm name machine below frames) = not (is_storage_name earlier below)
-is_coherent_first earlier _ = true
+is_coherent_first earlier line = is_mirror line || is_coherency line || all_bases (λ base. not (is_storage_name earlier base)) line
 
 -- A layer is on the machine of what it stands on, unless that is a distributed layer.
 abbrev pub is_near : Option (List ℕ) → StackLine → Bool
@@ -62,9 +63,7 @@ reaches earlier machine base = list_any (λ line. is_layer_named base line && is
 
 -- what a layer adds to the depth of what it stands on
 abbrev pub depth_on : StackLine → (List ℕ → ℕ) → ℕ
-depth_on (Coherency name machine below) depth = depth below + 1
-depth_on (Dfs name machine below) depth = depth below + 1
-depth_on (Vmm name machine below frames) depth = depth below + 1
+depth_on (Layer name machine (Upper kind below)) depth = depth below + 1
 depth_on _ depth = 0
 
 -- how many upper layers there are from the layer of the name down to a disk or a mirror; the lines stand last first
@@ -86,15 +85,18 @@ is_count most n = nat_le 1 n && nat_le n most
 abbrev pub is_page_size : ℕ → Bool
 is_page_size size = list_any (λ k. size == 2 ^ k) (6 ∷ 7 ∷ 8 ∷ 9 ∷ 10 ∷ 11 ∷ 12 ∷ [])
 
+-- a memory manager's frames are within their limit
+abbrev pub has_few_frames : UpperKind → Bool
+has_few_frames (Vmm frames) = is_count MAX_FRAMES frames
+has_few_frames _ = true
+
 -- The limits on sizes and counts hold. Four disks make mirrors of three levels at most.
 abbrev pub is_within_limits : List StackLine → StackLine → Bool
 is_within_limits earlier (Page size) = is_page_size size
 is_within_limits earlier (File name pages) = nat_lt (count_by (λ line. is_file line) earlier) MAX_FILES && is_count MAX_PAGES pages
-is_within_limits earlier (Disk name machine) = nat_lt (count_by (λ line. is_disk line) earlier) MAX_DISKS
-is_within_limits earlier (Mirror name machine left right) = true
-is_within_limits earlier (Coherency name machine below) = has_room earlier below
-is_within_limits earlier (Dfs name machine below) = has_room earlier below
-is_within_limits earlier (Vmm name machine below frames) = has_room earlier below && is_count MAX_FRAMES frames
+is_within_limits earlier (Layer name machine Disk) = nat_lt (count_by (λ line. is_disk line) earlier) MAX_DISKS
+is_within_limits earlier (Layer name machine (Mirror left right)) = true
+is_within_limits earlier (Layer name machine (Upper kind below)) = has_room earlier below && has_few_frames kind
 
 -- what a rule asks of a line, given the lines before it
 abbrev pub keeps : Rule → List StackLine → StackLine → Bool
@@ -111,15 +113,13 @@ keeps Limits earlier line = is_within_limits earlier line
 
 -- A disk and a mirror stand under some layer.
 abbrev pub has_user : List StackLine → StackLine → Bool
-has_user lines (Disk name machine) = is_used lines name
-has_user lines (Mirror name machine left right) = is_used lines name
+has_user lines (Layer name machine Disk) = is_used lines name
+has_user lines (Layer name machine (Mirror left right)) = is_used lines name
 has_user lines _ = true
 
 -- an upper layer that is no mirror's side
 abbrev pub is_node : List StackLine → StackLine → Bool
-is_node lines (Coherency name machine below) = not (is_side lines name)
-is_node lines (Dfs name machine below) = not (is_side lines name)
-is_node lines (Vmm name machine below frames) = not (is_side lines name)
+is_node lines (Layer name machine (Upper kind below)) = not (is_side lines name)
 is_node lines _ = false
 
 -- such a layer that stands on a disk or a mirror

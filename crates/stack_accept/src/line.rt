@@ -3,9 +3,9 @@
 ghost use Rattle.std.specs.Prelude.{◌≡◌, map, count_by};
 ghost use Rattle.std.specs.Option.{option_map};
 ghost use Rattle.std.specs.Str.{bytes_eq};
-ghost use Rattle.stack_accept.specs.Lines.{is_page, is_file, is_disk, is_mirror, is_coherency, is_dfs, is_vmm, is_storage, is_upper, is_layer, name_of, machine_of, is_word, is_named, is_layer_named, stands_on, is_declared, is_storage_name, is_vmm_name, is_used, is_side, is_coherent_storage};
+ghost use Rattle.stack_accept.specs.Lines.{is_page, is_file, is_layer, is_disk, is_mirror, is_upper, is_coherency, is_dfs, is_vmm, is_storage, name_of, machine_of, is_word, is_named, is_layer_named, stands_on, is_declared, is_storage_name, is_vmm_name, is_used, is_side, is_coherent_storage};
 
-use stack_text::StackLine;
+use stack_text::{LayerKind, StackLine, UpperKind};
 
 /// Whether the line gives the page size.
 pub(crate) fn is_page(line: &StackLine) -> bool
@@ -21,39 +21,44 @@ pub(crate) fn is_file(line: &StackLine) -> bool
     matches!(line, StackLine::File { .. })
 }
 
+/// Whether the line declares a layer.
+pub(crate) fn is_layer(line: &StackLine) -> bool
+    ensures { result ≡ is_layer line.now }
+{
+    matches!(line, StackLine::Layer { .. })
+}
+
 /// Whether the line declares a disk.
 pub(crate) fn is_disk(line: &StackLine) -> bool
     ensures { result ≡ is_disk line.now }
 {
-    matches!(line, StackLine::Disk { .. })
+    matches!(
+        line,
+        StackLine::Layer {
+            kind: LayerKind::Disk,
+            ..
+        }
+    )
 }
 
 /// Whether the line declares a mirror.
 pub(crate) fn is_mirror(line: &StackLine) -> bool
     ensures { result ≡ is_mirror line.now }
 {
-    matches!(line, StackLine::Mirror { .. })
-}
-
-/// Whether the line declares a distributed layer.
-pub(crate) fn is_dfs(line: &StackLine) -> bool
-    ensures { result ≡ is_dfs line.now }
-{
-    matches!(line, StackLine::Dfs { .. })
-}
-
-/// Whether the line declares a memory manager.
-pub(crate) fn is_vmm(line: &StackLine) -> bool
-    ensures { result ≡ is_vmm line.now }
-{
-    matches!(line, StackLine::Vmm { .. })
+    matches!(
+        line,
+        StackLine::Layer {
+            kind: LayerKind::Mirror { .. },
+            ..
+        }
+    )
 }
 
 /// Whether the line declares a disk or a mirror.
 pub(crate) fn is_storage(line: &StackLine) -> bool
     ensures { result ≡ is_storage line.now }
 {
-    matches!(line, StackLine::Disk { .. } | StackLine::Mirror { .. })
+    is_disk(line) || is_mirror(line)
 }
 
 /// Whether the line declares a coherency layer, a distributed layer or a memory manager.
@@ -62,7 +67,58 @@ pub(crate) fn is_upper(line: &StackLine) -> bool
 {
     matches!(
         line,
-        StackLine::Coherency { .. } | StackLine::Dfs { .. } | StackLine::Vmm { .. }
+        StackLine::Layer {
+            kind: LayerKind::Upper { .. },
+            ..
+        }
+    )
+}
+
+/// Whether the line declares a coherency layer.
+pub(crate) fn is_coherency(line: &StackLine) -> bool
+    ensures { result ≡ is_coherency line.now }
+{
+    matches!(
+        line,
+        StackLine::Layer {
+            kind: LayerKind::Upper {
+                kind: UpperKind::Coherency,
+                ..
+            },
+            ..
+        }
+    )
+}
+
+/// Whether the line declares a distributed layer.
+pub(crate) fn is_dfs(line: &StackLine) -> bool
+    ensures { result ≡ is_dfs line.now }
+{
+    matches!(
+        line,
+        StackLine::Layer {
+            kind: LayerKind::Upper {
+                kind: UpperKind::Dfs,
+                ..
+            },
+            ..
+        }
+    )
+}
+
+/// Whether the line declares a memory manager.
+pub(crate) fn is_vmm(line: &StackLine) -> bool
+    ensures { result ≡ is_vmm line.now }
+{
+    matches!(
+        line,
+        StackLine::Layer {
+            kind: LayerKind::Upper {
+                kind: UpperKind::Vmm { .. },
+                ..
+            },
+            ..
+        }
     )
 }
 
@@ -73,11 +129,7 @@ pub(crate) fn name(line: &StackLine) -> Option<&str>
     match line {
         StackLine::Page { .. } => None,
         StackLine::File { name, .. } => Some(name.as_str()),
-        StackLine::Disk { name, .. } => Some(name.as_str()),
-        StackLine::Mirror { name, .. } => Some(name.as_str()),
-        StackLine::Coherency { name, .. } => Some(name.as_str()),
-        StackLine::Dfs { name, .. } => Some(name.as_str()),
-        StackLine::Vmm { name, .. } => Some(name.as_str()),
+        StackLine::Layer { name, .. } => Some(name.as_str()),
     }
 }
 
@@ -86,13 +138,8 @@ pub(crate) fn machine(line: &StackLine) -> Option<&str>
     ensures { option_map (λ n. n.now) result ≡ machine_of line.now }
 {
     match line {
-        StackLine::Page { .. } => None,
-        StackLine::File { .. } => None,
-        StackLine::Disk { machine, .. } => Some(machine.as_str()),
-        StackLine::Mirror { machine, .. } => Some(machine.as_str()),
-        StackLine::Coherency { machine, .. } => Some(machine.as_str()),
-        StackLine::Dfs { machine, .. } => Some(machine.as_str()),
-        StackLine::Vmm { machine, .. } => Some(machine.as_str()),
+        StackLine::Layer { machine, .. } => Some(machine.as_str()),
+        _ => None,
     }
 }
 
@@ -117,19 +164,20 @@ pub(crate) fn is_named(sought: &str, line: &StackLine) -> bool
 pub(crate) fn is_layer_named(name: &str, line: &StackLine) -> bool
     ensures { result ≡ is_layer_named name.now line.now }
 {
-    (is_storage(line) || is_upper(line)) && is_named(name, line)
+    is_layer(line) && is_named(name, line)
 }
 
 /// Whether the line stands on the layer of this name.
 pub(crate) fn stands_on(base: &str, line: &StackLine) -> bool
     ensures { result ≡ stands_on base.now line.now }
 {
-    match line {
-        StackLine::Mirror { left, right, .. } => left.as_str() == base || right.as_str() == base,
-        StackLine::Coherency { below, .. } => below.as_str() == base,
-        StackLine::Dfs { below, .. } => below.as_str() == base,
-        StackLine::Vmm { below, .. } => below.as_str() == base,
-        _ => false,
+    let StackLine::Layer { kind, .. } = line else {
+        return false;
+    };
+    match kind {
+        LayerKind::Disk => false,
+        LayerKind::Mirror { left, right } => left.as_str() == base || right.as_str() == base,
+        LayerKind::Upper { below, .. } => below.as_str() == base,
     }
 }
 
@@ -179,7 +227,13 @@ pub(crate) fn is_coherent_storage(lines: &[StackLine], line: &StackLine) -> bool
     ensures { result ≡ is_coherent_storage lines.now line.now }
 {
     match line {
-        StackLine::Coherency { below, .. } => is_storage_name(lines, below.as_str()),
+        StackLine::Layer {
+            kind: LayerKind::Upper {
+                kind: UpperKind::Coherency,
+                below,
+            },
+            ..
+        } => is_storage_name(lines, below.as_str()),
         _ => false,
     }
 }

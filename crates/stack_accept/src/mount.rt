@@ -7,13 +7,13 @@ ghost use Rattle.std.specs.Str.{bytes_eq};
 ghost use Rattle.stack_accept.specs.Lines.{machine_of, is_disk, is_storage, is_named};
 ghost use Rattle.stack_accept.specs.Rules.{is_node, is_first_node};
 ghost use Rattle.stack_accept.specs.Plan.{plan_of, plan_back};
-ghost use Rattle.stack_accept.specs.Mount.{number_in, page_size_of, file_of, disk_of, with_machine, machines_of, ground_name, node_lines, node_number, node_of, nodes_of, goes_round, below_of, via, tree_of};
+ghost use Rattle.stack_accept.specs.Mount.{number_in, page_size_of, file_of, disk_of, with_machine, machines_of, ground_name, node_lines, node_number, node_kind, node_below, node_frames, node_of, nodes_of, goes_round, below_of, via, tree_of};
 
 use crate::entries::{FileEntry, GroundPlan, Kind, NodeEntry};
 use crate::line::{is_disk, is_layer_named, is_named, is_storage, machine};
 use crate::rule::{is_first_node, is_node};
 use seen_values::Text;
-use stack_text::{MAX_LINES, StackLine};
+use stack_text::{LayerKind, MAX_LINES, StackLine, UpperKind};
 use std::alloc::{AllocError, Global};
 use std::boxed::Box;
 
@@ -68,7 +68,12 @@ pub(crate) fn disks_of(alloc: Global, lines: &[StackLine]) -> Result<Vec<Text>, 
 {
     let mut disks = Vec::new(alloc);
     for line in lines {
-        if let StackLine::Disk { name, .. } = line {
+        if let StackLine::Layer {
+            name,
+            kind: LayerKind::Disk,
+            ..
+        } = line
+        {
             disks.push(name.clone()?)?;
         }
     }
@@ -129,9 +134,12 @@ pub(crate) fn ground_name(lines: &[StackLine]) -> &str
     ensures { result.now ≡ ground_name lines.now }
 {
     match first_node(lines) {
-        Some(StackLine::Coherency { below, .. }) => below.as_str(),
-        Some(StackLine::Dfs { below, .. }) => below.as_str(),
-        Some(StackLine::Vmm { below, .. }) => below.as_str(),
+        Some(
+            StackLine::Layer {
+                kind: LayerKind::Upper { below, .. },
+                ..
+            },
+        ) => below.as_str(),
         _ => "",
     }
 }
@@ -181,6 +189,45 @@ fn node_number(nodes: &[&StackLine], name: &str) -> u32
     }
 }
 
+/// What a layer's node is.
+fn node_kind(kind: &LayerKind) -> Kind
+    ensures { result ≡ node_kind kind.now }
+{
+    match kind {
+        LayerKind::Disk => Kind::Disk,
+        LayerKind::Mirror { .. } => Kind::Mirror,
+        LayerKind::Upper { kind, .. } => match kind {
+            UpperKind::Coherency => Kind::Coherency,
+            UpperKind::Dfs => Kind::Dfs,
+            UpperKind::Vmm { .. } => Kind::Vmm,
+        },
+    }
+}
+
+/// The number of the node that a layer stands on, or 0.
+fn node_below(nodes: &[&StackLine], kind: &LayerKind) -> u32
+    requires { length nodes.now ≤ MAX_LINES + 1 }
+    ensures { result ≡ node_below (map (λ line. line.now) nodes.now) kind.now }
+{
+    match kind {
+        LayerKind::Upper { below, .. } => node_number(nodes, below.as_str()),
+        _ => 0,
+    }
+}
+
+/// How many pages of a file a memory manager holds; 0 for any other layer.
+fn node_frames(kind: &LayerKind) -> u32
+    ensures { result ≡ node_frames kind.now }
+{
+    match kind {
+        LayerKind::Upper {
+            kind: UpperKind::Vmm { frames },
+            ..
+        } => *frames,
+        _ => 0,
+    }
+}
+
 /// The node of a layer's line.
 fn node_of(
     machines: &[Text],
@@ -191,57 +238,20 @@ fn node_of(
     requires nodes { length nodes.now ≤ MAX_LINES + 1 }
     ensures { IfOk result (λ node. node ≡ node_of machines.now (map (λ line. line.now) nodes.now) line.now) }
 {
-    let (name, kind, machine, below, frames) = match line {
-        StackLine::Page { .. } | StackLine::File { .. } => return Ok(None),
-        StackLine::Disk { name, machine } => (name, Kind::Disk, machine, 0, 0),
-        StackLine::Mirror { name, machine, .. } => (name, Kind::Mirror, machine, 0, 0),
-        StackLine::Coherency {
-            name,
-            machine,
-            below,
-        } => {
-            (
-                name,
-                Kind::Coherency,
-                machine,
-                node_number(nodes, below.as_str()),
-                0,
-            )
-        }
-        StackLine::Dfs {
-            name,
-            machine,
-            below,
-        } => {
-            (
-                name,
-                Kind::Dfs,
-                machine,
-                node_number(nodes, below.as_str()),
-                0,
-            )
-        }
-        StackLine::Vmm {
-            name,
-            machine,
-            below,
-            frames,
-        } => {
-            (
-                name,
-                Kind::Vmm,
-                machine,
-                node_number(nodes, below.as_str()),
-                *frames,
-            )
-        }
+    let StackLine::Layer {
+        name,
+        machine,
+        kind,
+    } = line
+    else {
+        return Ok(None);
     };
     Ok(Some(NodeEntry {
         name: name.clone()?,
-        kind,
+        kind: node_kind(kind),
         machine: number_in(machines, machine.as_str()),
-        below,
-        frames,
+        below: node_below(nodes, kind),
+        frames: node_frames(kind),
     }))
 }
 
@@ -354,15 +364,21 @@ pub(crate) fn plan(alloc: Global, lines: &[StackLine], name: &str) -> Result<Gro
     if !is_layer_named(name, line) {
         return plan(alloc, before, name);
     }
-    match line {
-        StackLine::Disk { .. } => Ok(GroundPlan::Disk {
+    let StackLine::Layer { kind, .. } = line else {
+        return Ok(GroundPlan::Disk { disk: 0 });
+    };
+    match kind {
+        LayerKind::Disk => Ok(GroundPlan::Disk {
             disk: count_disks(before) as u32,
         }),
-        StackLine::Mirror { left, right, .. } => Ok(GroundPlan::Mirror {
+        LayerKind::Mirror { left, right } => Ok(GroundPlan::Mirror {
             left: Box::new(alloc, plan(alloc, before, left.as_str())?)?,
             right: Box::new(alloc, plan(alloc, before, right.as_str())?)?,
         }),
-        StackLine::Coherency { below, .. } => Ok(GroundPlan::Coherency {
+        LayerKind::Upper {
+            kind: UpperKind::Coherency,
+            below,
+        } => Ok(GroundPlan::Coherency {
             below: Box::new(alloc, plan(alloc, before, below.as_str())?)?,
         }),
         _ => Ok(GroundPlan::Disk { disk: 0 }),

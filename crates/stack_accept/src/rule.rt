@@ -1,20 +1,20 @@
 //! The rules that a stack text has to keep.
 
-ghost use Rattle.std.specs.Prelude.{◌≡◌, ◌≤◌, ◌<◌, ◌+◌, MatchResult, List, [], ◌↔◌, reverse, length, count_by};
+ghost use Rattle.std.specs.Prelude.{◌≡◌, ◌≤◌, ◌<◌, ◌+◌, not, MatchResult, List, [], ◌↔◌, reverse, length, count_by};
 ghost use Rattle.std.specs.Option.{option_map};
-ghost use Rattle.stack_accept.specs.Lines.{is_upper, is_file, is_disk};
-ghost use Rattle.stack_accept.specs.Rules.{is_page_first, is_new_name, is_taken, may_be_side, has_fit_sides, is_both_sides, is_shared_layer, is_unused, may_use, is_coherent_first, is_near, reaches, depth_back, depth_of, has_room, is_count, is_page_size, is_within_limits, keeps, has_user, is_node, is_first_node, keeps_at_end, rules_in_order, number_of, broken_by, broken_at_end, first_breach, IsAccepted, KeepsRules};
+ghost use Rattle.stack_accept.specs.Lines.{is_upper, is_file, is_disk, all_bases, is_storage_name};
+ghost use Rattle.stack_accept.specs.Rules.{is_page_first, is_new_name, is_taken, may_be_side, has_fit_sides, is_both_sides, is_shared_layer, is_unused, may_use, is_coherent_first, is_near, reaches, depth_back, depth_of, has_room, is_count, is_page_size, has_few_frames, is_within_limits, keeps, has_user, is_node, is_first_node, keeps_at_end, rules_in_order, number_of, broken_by, broken_at_end, first_breach, IsAccepted, KeepsRules};
 ghost use Rattle.stack_text.specs.declared.stack.StackLine.{StackLine};
 ghost use Rattle.stack_accept.specs.Unfit.{IsUnfit};
 
 use crate::line::{
-    is_coherent_storage, is_declared, is_dfs, is_disk, is_file, is_layer_named, is_mirror,
-    is_named, is_page, is_side, is_storage, is_storage_name, is_upper, is_used, is_vmm_name,
-    is_word, machine, name, stands_on,
+    is_coherency, is_coherent_storage, is_declared, is_dfs, is_disk, is_file, is_layer_named,
+    is_mirror, is_named, is_page, is_side, is_storage, is_storage_name, is_upper, is_used,
+    is_vmm_name, is_word, machine, name, stands_on,
 };
 use crate::{MAX_DEPTH, MAX_DISKS, MAX_FILES, MAX_FRAMES, MAX_LAYERS};
 use hist_plain::MAX_PAGES;
-use stack_text::{MAX_LINES, StackLine};
+use stack_text::{LayerKind, MAX_LINES, StackLine, UpperKind};
 use std::alloc::AllocError;
 
 /// A rule of the stack. Each is asked of every line with the lines before it; some are asked of
@@ -105,9 +105,10 @@ fn has_fit_sides(earlier: &[StackLine], line: &StackLine) -> bool
     ensures { result ≡ has_fit_sides earlier.now line.now }
 {
     match line {
-        StackLine::Mirror { left, right, .. } => {
-            may_be_side(earlier, left.as_str()) && may_be_side(earlier, right.as_str())
-        }
+        StackLine::Layer {
+            kind: LayerKind::Mirror { left, right },
+            ..
+        } => may_be_side(earlier, left.as_str()) && may_be_side(earlier, right.as_str()),
         _ => true,
     }
 }
@@ -117,7 +118,10 @@ fn is_both_sides(base: &str, line: &StackLine) -> bool
     ensures { result ≡ is_both_sides base.now line.now }
 {
     match line {
-        StackLine::Mirror { left, right, .. } => left.as_str() == base && right.as_str() == base,
+        StackLine::Layer {
+            kind: LayerKind::Mirror { left, right },
+            ..
+        } => left.as_str() == base && right.as_str() == base,
         _ => false,
     }
 }
@@ -143,15 +147,27 @@ fn may_use(earlier: &[StackLine], line: &StackLine, base: &str) -> bool
     is_unused(earlier, line, base) || is_shared_layer(earlier, line, base)
 }
 
+/// Whether no layer that the line stands on is a disk or a mirror.
+fn stands_on_no_storage(earlier: &[StackLine], line: &StackLine) -> bool
+    ensures { result ≡ all_bases (λ base. not (is_storage_name earlier.now base)) line.now }
+{
+    let StackLine::Layer { kind, .. } = line else {
+        return true;
+    };
+    match kind {
+        LayerKind::Disk => true,
+        LayerKind::Mirror { left, right } => {
+            !is_storage_name(earlier, left.as_str()) && !is_storage_name(earlier, right.as_str())
+        }
+        LayerKind::Upper { below, .. } => !is_storage_name(earlier, below.as_str()),
+    }
+}
+
 /// Only mirrors and coherency layers stand on a disk or a mirror.
 fn is_coherent_first(earlier: &[StackLine], line: &StackLine) -> bool
     ensures { result ≡ is_coherent_first earlier.now line.now }
 {
-    match line {
-        StackLine::Dfs { below, .. } => !is_storage_name(earlier, below.as_str()),
-        StackLine::Vmm { below, .. } => !is_storage_name(earlier, below.as_str()),
-        _ => true,
-    }
+    is_mirror(line) || is_coherency(line) || stands_on_no_storage(earlier, line)
 }
 
 /// Whether what a line of this machine stands on may be this layer.
@@ -183,9 +199,10 @@ fn depth_of(earlier: &[StackLine], name: &str) -> usize
         return depth_of(before, name);
     }
     match line {
-        StackLine::Coherency { below, .. } => depth_of(before, below.as_str()) + 1,
-        StackLine::Dfs { below, .. } => depth_of(before, below.as_str()) + 1,
-        StackLine::Vmm { below, .. } => depth_of(before, below.as_str()) + 1,
+        StackLine::Layer {
+            kind: LayerKind::Upper { below, .. },
+            ..
+        } => depth_of(before, below.as_str()) + 1,
         _ => 0,
     }
 }
@@ -212,6 +229,16 @@ fn is_page_size(size: u32) -> bool
     matches!(size, 64 | 128 | 256 | 512 | 1024 | 2048 | 4096)
 }
 
+/// Whether the frames of a memory manager are within their limit.
+fn has_few_frames(kind: UpperKind) -> bool
+    ensures { result ≡ has_few_frames kind }
+{
+    match kind {
+        UpperKind::Vmm { frames } => is_count(MAX_FRAMES, frames),
+        _ => true,
+    }
+}
+
 /// The limits on sizes and counts hold.
 fn is_within_limits(earlier: &[StackLine], line: &StackLine) -> bool
     ensures { result ≡ is_within_limits earlier.now line.now }
@@ -222,15 +249,13 @@ fn is_within_limits(earlier: &[StackLine], line: &StackLine) -> bool
             earlier.iter().filter(|line| is_file(line)).count() < MAX_FILES
                 && is_count(MAX_PAGES, *pages)
         }
-        StackLine::Disk { .. } => {
-            earlier.iter().filter(|line| is_disk(line)).count() < MAX_DISKS
-        }
-        StackLine::Mirror { .. } => true,
-        StackLine::Coherency { below, .. } => has_room(earlier, below.as_str()),
-        StackLine::Dfs { below, .. } => has_room(earlier, below.as_str()),
-        StackLine::Vmm { below, frames, .. } => {
-            has_room(earlier, below.as_str()) && is_count(MAX_FRAMES, *frames)
-        }
+        StackLine::Layer { kind, .. } => match kind {
+            LayerKind::Disk => earlier.iter().filter(|line| is_disk(line)).count() < MAX_DISKS,
+            LayerKind::Mirror { .. } => true,
+            LayerKind::Upper { kind, below } => {
+                has_room(earlier, below.as_str()) && has_few_frames(*kind)
+            }
+        },
     }
 }
 
@@ -238,14 +263,15 @@ fn is_within_limits(earlier: &[StackLine], line: &StackLine) -> bool
 fn stands_on_earlier(earlier: &[StackLine], line: &StackLine) -> bool
     ensures { result ≡ keeps Rule.EarlierLayer earlier.now line.now }
 {
-    match line {
-        StackLine::Mirror { left, right, .. } => {
+    let StackLine::Layer { kind, .. } = line else {
+        return true;
+    };
+    match kind {
+        LayerKind::Disk => true,
+        LayerKind::Mirror { left, right } => {
             is_declared(earlier, left.as_str()) && is_declared(earlier, right.as_str())
         }
-        StackLine::Coherency { below, .. } => is_declared(earlier, below.as_str()),
-        StackLine::Dfs { below, .. } => is_declared(earlier, below.as_str()),
-        StackLine::Vmm { below, .. } => is_declared(earlier, below.as_str()),
-        _ => true,
+        LayerKind::Upper { below, .. } => is_declared(earlier, below.as_str()),
     }
 }
 
@@ -253,14 +279,15 @@ fn stands_on_earlier(earlier: &[StackLine], line: &StackLine) -> bool
 fn is_one_user(earlier: &[StackLine], line: &StackLine) -> bool
     ensures { result ≡ keeps Rule.OneUser earlier.now line.now }
 {
-    match line {
-        StackLine::Mirror { left, right, .. } => {
+    let StackLine::Layer { kind, .. } = line else {
+        return true;
+    };
+    match kind {
+        LayerKind::Disk => true,
+        LayerKind::Mirror { left, right } => {
             may_use(earlier, line, left.as_str()) && may_use(earlier, line, right.as_str())
         }
-        StackLine::Coherency { below, .. } => may_use(earlier, line, below.as_str()),
-        StackLine::Dfs { below, .. } => may_use(earlier, line, below.as_str()),
-        StackLine::Vmm { below, .. } => may_use(earlier, line, below.as_str()),
-        _ => true,
+        LayerKind::Upper { below, .. } => may_use(earlier, line, below.as_str()),
     }
 }
 
@@ -268,14 +295,15 @@ fn is_one_user(earlier: &[StackLine], line: &StackLine) -> bool
 fn is_on_no_manager(earlier: &[StackLine], line: &StackLine) -> bool
     ensures { result ≡ keeps Rule.ManagerOnTop earlier.now line.now }
 {
-    match line {
-        StackLine::Mirror { left, right, .. } => {
+    let StackLine::Layer { kind, .. } = line else {
+        return true;
+    };
+    match kind {
+        LayerKind::Disk => true,
+        LayerKind::Mirror { left, right } => {
             !is_vmm_name(earlier, left.as_str()) && !is_vmm_name(earlier, right.as_str())
         }
-        StackLine::Coherency { below, .. } => !is_vmm_name(earlier, below.as_str()),
-        StackLine::Dfs { below, .. } => !is_vmm_name(earlier, below.as_str()),
-        StackLine::Vmm { below, .. } => !is_vmm_name(earlier, below.as_str()),
-        _ => true,
+        LayerKind::Upper { below, .. } => !is_vmm_name(earlier, below.as_str()),
     }
 }
 
@@ -284,14 +312,15 @@ fn is_on_same_machine(earlier: &[StackLine], line: &StackLine) -> bool
     ensures { result ≡ keeps Rule.SameMachine earlier.now line.now }
 {
     let machine = machine(line);
-    match line {
-        StackLine::Mirror { left, right, .. } => {
+    let StackLine::Layer { kind, .. } = line else {
+        return true;
+    };
+    match kind {
+        LayerKind::Disk => true,
+        LayerKind::Mirror { left, right } => {
             reaches(earlier, machine, left.as_str()) && reaches(earlier, machine, right.as_str())
         }
-        StackLine::Coherency { below, .. } => reaches(earlier, machine, below.as_str()),
-        StackLine::Dfs { below, .. } => reaches(earlier, machine, below.as_str()),
-        StackLine::Vmm { below, .. } => reaches(earlier, machine, below.as_str()),
-        _ => true,
+        LayerKind::Upper { below, .. } => reaches(earlier, machine, below.as_str()),
     }
 }
 
@@ -299,10 +328,12 @@ fn is_on_same_machine(earlier: &[StackLine], line: &StackLine) -> bool
 fn has_user(lines: &[StackLine], line: &StackLine) -> bool
     ensures { result ≡ has_user lines.now line.now }
 {
-    match line {
-        StackLine::Disk { name, .. } => is_used(lines, name.as_str()),
-        StackLine::Mirror { name, .. } => is_used(lines, name.as_str()),
-        _ => true,
+    let StackLine::Layer { name, kind, .. } = line else {
+        return true;
+    };
+    match kind {
+        LayerKind::Disk | LayerKind::Mirror { .. } => is_used(lines, name.as_str()),
+        LayerKind::Upper { .. } => true,
     }
 }
 
@@ -311,9 +342,11 @@ pub(crate) fn is_node(lines: &[StackLine], line: &StackLine) -> bool
     ensures { result ≡ is_node lines.now line.now }
 {
     match line {
-        StackLine::Coherency { name, .. } => !is_side(lines, name.as_str()),
-        StackLine::Dfs { name, .. } => !is_side(lines, name.as_str()),
-        StackLine::Vmm { name, .. } => !is_side(lines, name.as_str()),
+        StackLine::Layer {
+            name,
+            kind: LayerKind::Upper { .. },
+            ..
+        } => !is_side(lines, name.as_str()),
         _ => false,
     }
 }
@@ -322,13 +355,7 @@ pub(crate) fn is_node(lines: &[StackLine], line: &StackLine) -> bool
 pub(crate) fn is_first_node(lines: &[StackLine], line: &StackLine) -> bool
     ensures { result ≡ is_first_node lines.now line.now }
 {
-    is_node(lines, line)
-        && match line {
-            StackLine::Coherency { below, .. } => is_storage_name(lines, below.as_str()),
-            StackLine::Dfs { below, .. } => is_storage_name(lines, below.as_str()),
-            StackLine::Vmm { below, .. } => is_storage_name(lines, below.as_str()),
-            _ => false,
-        }
+    is_node(lines, line) && !stands_on_no_storage(lines, line)
 }
 
 /// Each disk and each mirror has a user.

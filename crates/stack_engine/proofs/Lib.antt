@@ -7,6 +7,8 @@ pub mod Entering
 pub mod Rooms
 pub mod Refusing
 pub mod Sending
+pub mod Overs
+pub mod Pages
 pub mod Making
 pub mod Granting
 pub mod Needs

@@ -20,7 +20,7 @@ use Rattle.stack_engine.specs.declared.refusal.StepErr.{StepErr}
 use Rattle.stack_engine.specs.declared.refusal.StepErr.TheVariants as errors
 use Rattle.stack_engine.specs.Engine.{EngineSeen, IsEngine, IsSheetOf, events_in, log_in, tree_in}
 use Rattle.stack_engine.specs.Messages.{NeedsDisks}
-use Rattle.stack_engine.specs.Moves.{Enters, IsRefused, IsWhy, Makes, Sends, StandsFor}
+use Rattle.stack_engine.specs.Moves.{Enters, GoesOver, IsRefused, IsWhy, Makes, Sends, StandsFor}
 use Rattle.stack_engine.specs.Opened.{IsOf}
 use Rattle.stack_engine.specs.Start.{IsFullOrNoMemory}
 
@@ -82,6 +82,9 @@ module _ (old mid new : EngineSeen) (r : ℕ) (is : mid ≡ roomy old r) where
       ((λ z. h.0 (record { nothing = z.nothing; zeros = z.zeros })), (λ nz. h.1 (λ z. nz (record { nothing = z.nothing; zeros = z.zeros }))))
   stands_room _ event h = h
 
+  over_room : (event : Event) → GoesOver (roomy old r) new event → GoesOver old new event
+  over_room event h = record { base = h.base; came = h.came; went = h.went }
+
   pub sends_room : (asked event : Event) → Sends asked mid new event → Sends asked old new event
   sends_room asked event = subst (λ (e : EngineSeen). Sends asked e new event → Sends asked old new event) (sym is) (λ h. by asked h)
     where
@@ -89,12 +92,13 @@ module _ (old mid new : EngineSeen) (r : ℕ) (is : mid ≡ roomy old r) where
       by (events.PageIn node page write) h = record {
         stands = stands_room (events.PageIn node page write) event h.stands;
         enters = record { goes = record { file = h.enters.goes.file; call = h.enters.goes.call; of = λ opening of. h.enters.goes.of opening (of_roomy opening old r of) }; log = h.enters.log; calm = h.enters.calm };
+        frames = over_room event h.frames;
         spare = h.spare;
         idle = h.idle;
       }
-      by (events.ZeroFill node page write) h = record { stands = h.stands; enters = record { goes = record { file = h.enters.goes.file; call = h.enters.goes.call; of = λ opening of. h.enters.goes.of opening (of_roomy opening old r of) }; log = h.enters.log; calm = h.enters.calm }; spare = h.spare; idle = h.idle }
-      by (events.Access caller number node life op) h = record { stands = h.stands; enters = record { goes = record { file = h.enters.goes.file; call = h.enters.goes.call; of = λ opening of. h.enters.goes.of opening (of_roomy opening old r of) }; log = h.enters.log; calm = h.enters.calm }; spare = h.spare; idle = h.idle }
-      by _ h = record { stands = h.stands; enters = record { goes = record { file = h.enters.goes.file; call = h.enters.goes.call; of = λ opening of. h.enters.goes.of opening (of_roomy opening old r of) }; log = h.enters.log; calm = h.enters.calm }; spare = h.spare; idle = h.idle }
+      by (events.ZeroFill node page write) h = record { stands = h.stands; enters = record { goes = record { file = h.enters.goes.file; call = h.enters.goes.call; of = λ opening of. h.enters.goes.of opening (of_roomy opening old r of) }; log = h.enters.log; calm = h.enters.calm }; frames = over_room event h.frames; spare = h.spare; idle = h.idle }
+      by (events.Access caller number node life op) h = record { stands = h.stands; enters = record { goes = record { file = h.enters.goes.file; call = h.enters.goes.call; of = λ opening of. h.enters.goes.of opening (of_roomy opening old r of) }; log = h.enters.log; calm = h.enters.calm }; frames = over_room event h.frames; spare = h.spare; idle = h.idle }
+      by _ h = record { stands = h.stands; enters = record { goes = record { file = h.enters.goes.file; call = h.enters.goes.call; of = λ opening of. h.enters.goes.of opening (of_roomy opening old r of) }; log = h.enters.log; calm = h.enters.calm }; frames = over_room event h.frames; spare = h.spare; idle = h.idle }
 
   pub makes_room : (caller number node life : ℕ) (op : Op) (answer : Answer) → Makes caller number node life op mid new answer → Makes caller number node life op old new answer
   makes_room caller number node life op answer = subst (λ (e : EngineSeen). Makes caller number node life op e new answer → Makes caller number node life op old new answer) (sym is) (λ h. by op h)
@@ -124,7 +128,7 @@ module _ (old mid new : EngineSeen) (r : ℕ) (is : mid ≡ roomy old r) where
 -- a full trail, and want of memory before anything was done
 pub full_refused : (caller : ℕ) (old new : EngineSeen) (r : ℕ) (err : StepErr) → new ≡ roomy old r → IsFullOrNoMemory old err → IsRefused caller old new err
 full_refused caller old new r err is h = subst (λ (e : EngineSeen). IsRefused caller old e err) (sym is) (record {
-  goes = record { file = record { tree = refl; file = refl }; call = inl refl; of = λ opening of. of_roomy opening old r of };
+  goes = record { file = record { tree = refl; file = refl; ops = refl }; call = inl refl; of = λ opening of. of_roomy opening old r of };
   tables = record { sides = λ page node. refl; uses = λ node. refl };
   pages = refl;
   why = why err h;
@@ -147,7 +151,7 @@ lacking_read caller old mid new is ground tables trail no_spare none few =
     subst (λ (e : EngineSeen). IsRefused caller e new errors.Memory) is
     (subst (λ (e : EngineSeen). IsRefused caller mid e errors.Memory) (sym all) (record {
       goes = record {
-        file = record { tree = refl; file = refl };
+        file = record { tree = refl; file = refl; ops = refl };
         call = inl refl;
         of = λ opening of. record {
           began = of.began;

@@ -39,7 +39,7 @@ use Rattle.stack_engine.specs.Engine.{EngineSeen, IsEngine, IsNext, IsSound, col
 use Rattle.stack_engine.specs.Messages.{IsPush, NeedsDisks, event_asked, event_called, event_granted}
 use Rattle.tower_shows.proofs.Telling.{FindsShown, began_shown, read_here, sent_shown, told_shown}
 use Rattle.stack_engine.specs.Answers.{FindsPagesOf, ShowsWhatItRead}
-use Rattle.stack_engine.specs.Moves.{Enters, FindsZeros, Sends, StandsFor, bytes_kept}
+use Rattle.stack_engine.specs.Moves.{Enters, FindsZeros, GoesOver, Sends, StandsFor, bytes_kept}
 use Rattle.stack_engine.specs.Opened.{IsOf, from_after, last_from}
 use Rattle.stack_engine.proofs.Rooms.{roomy}
 use Rattle.stack_engine.proofs.Entering.{finds_last, of_entered, sheet_entered, shows_entered, sound_entered}
@@ -196,12 +196,13 @@ pub plain_engine : (old new : EngineSeen) (event : Event) (page : ℕ) (step : S
 plain_engine old new event page step sound plain m found sheet sheet' is book = sent_engine old new event [] page step sound m sheet sheet' (plain_shows old new event page step sound plain m found)
     (λ p none grant. absurd (let both : true ≡ false = sym grant ∙ plain.no_grant p in cc)) is book
 
-pub plain_sends : (old new : EngineSeen) (event : Event) (page : ℕ) (step : Step) → IsSound old → IsPlain event → IsMessage old new event [] page step → (event' : Event) → event' ≡ event → new.trail.spare ≡ old.trail.spare → ((NeedsDisks old event → ⊥) → new.ground ≡ old.ground) → Sends event old new event'
-plain_sends old new event page step sound plain m event' is spare idle = subst (λ (e : Event). Sends event old new e) (sym is) (record {
+pub plain_sends : (old new : EngineSeen) (event : Event) (page : ℕ) (step : Step) → IsSound old → IsPlain event → IsMessage old new event [] page step → (event' : Event) → event' ≡ event → new.trail.spare ≡ old.trail.spare → ((NeedsDisks old event → ⊥) → new.ground ≡ old.ground) → GoesOver old new event → Sends event old new event'
+plain_sends old new event page step sound plain m event' is spare idle over = subst (λ (e : Event). Sends event old new e) (sym is) (record {
   stands = plain.stands old new;
   enters = subst (λ (bytes : List ℕ). Enters (record { event = event; answer = None; bytes = bytes }) old new) (sym (plain.no_bytes old new))
       (sent_enters old new event [] page step sound m (λ opening of. plain.filled (tree_in old) (file_in old).page_size opening (events_in old))
       (λ opening of p none grant. absurd (let both : true ≡ false = sym grant ∙ plain.no_grant p in cc)));
+  frames = over;
   spare = spare;
   idle = idle;
 })
@@ -300,11 +301,12 @@ module _ (old new : EngineSeen) (sound : IsSound old) (node page : ℕ) (write z
   stands true e = ((λ f. refl), (λ no'. absurd (no' (found (sym e)))))
   stands false e = ((λ f. absurd (missed (sym e) f)), (λ no'. refl))
 
-  pub grant_sends : (event : Event) → event ≡ event_granted zeros node page write → new.trail.spare ≡ old.trail.spare → ((NeedsDisks old (events.PageIn node page write) → ⊥) → new.ground ≡ old.ground) → Sends (events.PageIn node page write) old new event
-  grant_sends event is spare idle = subst (λ (e : Event). Sends (events.PageIn node page write) old new e) (sym is) (record {
+  pub grant_sends : (event : Event) → event ≡ event_granted zeros node page write → new.trail.spare ≡ old.trail.spare → ((NeedsDisks old (events.PageIn node page write) → ⊥) → new.ground ≡ old.ground) → GoesOver old new (event_granted zeros node page write) → Sends (events.PageIn node page write) old new event
+  grant_sends event is spare idle over = subst (λ (e : Event). Sends (events.PageIn node page write) old new e) (sym is) (record {
     stands = stands zeros refl;
     enters = subst (λ (b : List ℕ). Enters (record { event = event_granted zeros node page write; answer = None; bytes = b }) old new) bytes_are
         (sent_enters old new (event_granted zeros node page write) bytes page (Grants node write) sound m (λ opening of. filled opening old.ground.pages of.began m.sent zeros refl) kept);
+    frames = over;
     spare = spare;
     idle = idle;
   })

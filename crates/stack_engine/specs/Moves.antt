@@ -1,5 +1,5 @@
 -- What one call does to a file's engine.
-use Rattle.std.specs.Prelude.{◌≡◌, ℕ, ◌<◌, ◌≤◌, ◌==◌, List, [], ◌∷◌, ◌++◌, take, drop, length, Some, None, if◌then◌else◌}
+use Rattle.std.specs.Prelude.{◌≡◌, ℕ, ◌<◌, ◌≤◌, ◌==◌, List, [], ◌∷◌, ◌++◌, take, drop, length, unwrap_or, Some, None, if◌then◌else◌}
 use Rattle.hist_plain.specs.declared.TheConstants.{MAX_EVENTS}
 use Rattle.hist_plain.specs.declared.event.Event.{Event}
 use Rattle.hist_plain.specs.declared.event.Event.TheVariants as events
@@ -7,9 +7,13 @@ use Rattle.hist_plain.specs.declared.event.Op.{Op}
 use Rattle.hist_plain.specs.declared.event.Op.TheVariants as ops
 use Rattle.hist_plain.specs.declared.event.Answer.{Answer}
 use Rattle.hist_plain.specs.declared.event.Answer.TheVariants as answers
+use Rattle.hist_plain.specs.Event.{node_of, page_of}
 use Rattle.hist_plain.specs.History.{IsZeroPage, mine}
 use Rattle.page_ground.specs.Seen.{IsFault}
 use Rattle.tower_core.specs.declared.right.Right.{Right}
+use Rattle.layer_laws.specs.Sent.{page_above}
+use Rattle.layer_laws.specs.Side.{Side}
+use Rattle.page_messages.specs.Written.{AreFramesFor}
 use Rattle.page_exchange.specs.Ground.{IsCalmCall, IsOneCall}
 use Rattle.page_exchange.specs.Tables.{AreLeft, IsSameFile}
 use Rattle.tower_log.specs.declared.logged.Entry.{Entry}
@@ -17,7 +21,7 @@ use Rattle.tower_log.specs.declared.logged.Logged.TheVariants.{Entered, Noted}
 use Rattle.tower_log.specs.Log.{place_of}
 use Rattle.stack_engine.specs.declared.refusal.StepErr.{StepErr}
 use Rattle.stack_engine.specs.declared.refusal.StepErr.TheVariants as errors
-use Rattle.stack_engine.specs.Engine.{EngineSeen, column_in, events_in, file_in, log_in, reads_ground, sides_in, state_in}
+use Rattle.stack_engine.specs.Engine.{EngineSeen, column_in, events_in, file_in, log_in, reads_ground, sides_in, state_in, tree_in, wire_in}
 use Rattle.stack_engine.specs.Messages.{NeedsDisks}
 use Rattle.stack_engine.specs.Opened.{IsOf}
 
@@ -49,9 +53,24 @@ abbrev pub bytes_kept : EngineSeen → EngineSeen → Event → List ℕ
 bytes_kept old new (events.PageIn node page write) = if reads_ground old.tables node page then (sides_in new page node).copy else []
 bytes_kept old new asked = []
 
--- a page message was sent, and stands in the log. It calls the ground only if it needs it
+-- what the event's node has of its page, by its own table; and what the node's parent has of it, where the ground's page is this
+abbrev pub own_side : EngineSeen → Event → Side
+own_side e event = sides_in e (unwrap_or (page_of event) 0) (node_of event)
+
+abbrev pub page_over : EngineSeen → List ℕ → Event → List ℕ
+page_over e base event = page_above (tree_in e) (sides_in e (unwrap_or (page_of event) 0)) base (node_of event)
+
+-- THE FRAMES OF THE EVENT went over the wire, as the two write them by what they had before it. A page that came to a node that had nothing of it
+-- is the parent's
+pub record GoesOver (old new : EngineSeen) (event : Event) : Type 0 where
+  pub base : List ℕ
+  pub came : (own_side old event).right ≡ Right.Nothing → (own_side new event).copy ≡ page_over old base event
+  pub went : AreFramesFor (tree_in old) (state_in old) (wire_in new).ops (file_in old) (own_side old event) (page_over old base event) event (wire_in new).first (wire_in new).second
+
+-- a page message was sent in its two frames, and stands in the log. It calls the ground only if it needs it
 pub record Sends (asked : Event) (old new : EngineSeen) (event : Event) : Type 0 where
   pub stands : StandsFor old new asked event
+  pub frames : GoesOver old new event
   pub enters : Enters (record { event = event; answer = None; bytes = bytes_kept old new asked }) old new
   pub spare : new.trail.spare ≡ old.trail.spare
   pub idle : (NeedsDisks old asked → ⊥) → new.ground ≡ old.ground

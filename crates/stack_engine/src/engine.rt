@@ -1,14 +1,14 @@
 //! A file's engine: its ground, the tables of the layers above it, and its book.
 
-ghost use Rattle.std.specs.Prelude.{◌≡◌, ◌≢◌, ◌<◌, ◌≤◌, ◌↔◌, ℕ, IfErr, IfOk, IsTrue, List, OnErr, OnOk, length};
+ghost use Rattle.std.specs.Prelude.{◌≡◌, ◌≢◌, ◌<◌, ◌≤◌, ◌↔◌, ℕ, [], IfErr, IfOk, IsTrue, List, OnErr, OnOk, length};
 ghost use Rattle.hist_plain.specs.History.{mine};
 ghost use Rattle.hist_plain.specs.declared.TheConstants.{MAX_EVENTS};
 ghost use Rattle.page_ground.specs.Seen.{faults_in, opened_in};
 ghost use Rattle.page_messages.specs.Paged.{IsPagedFile};
 ghost use Rattle.tower_core.specs.TreeShape.{IsUpper, frames_of, nodes};
 ghost use Rattle.tower_log.specs.Log.{place_of};
-ghost use Rattle.page_exchange.specs.Tables.{IsUnderFile};
-ghost use Rattle.stack_engine.specs.Engine.{EngineSeen, IsSound, events_in, file_in, log_in, sides_in, state_in, tree_in, uses_in};
+ghost use Rattle.page_exchange.specs.Tables.{IsUnderFile, wire_of};
+ghost use Rattle.stack_engine.specs.Engine.{EngineSeen, IsSound, events_in, file_in, log_in, sides_in, state_in, tree_in, uses_in, wire_in};
 ghost use Rattle.stack_engine.specs.Opened.{IsOf};
 ghost use Rattle.coherency_layer.specs.Node as layers;
 ghost use Rattle.vmm_cache.specs.Leaf as leaves;
@@ -50,7 +50,8 @@ impl<G: Ground> Model for Engine<G> {
 fn start(alloc: Global, tree: Tree, file: PagedFile, ops: Ops) -> Result<(Tables, Book), AllocError>
     requires paged { IsPagedFile file }
     requires frames { (node : ℕ) → frames_of tree node ≤ 1024 }
-    ensures { IfOk result (λ parts. Starts tree file parts.0 parts.1) }
+    ensures starts { IfOk result (λ parts. Starts tree file parts.0 parts.1) }
+    ensures wire { IfOk result (λ parts. wire_of parts.0 ≡ record { ops = ops; first = []; second = [] }) }
 {
     let sheet = Sheet::new(alloc, &tree, file.pages)?;
     let trail = Trail::new(alloc, file.page_size);
@@ -73,6 +74,7 @@ impl<G: Ground> Engine<G> {
         requires under { IsUnderFile (G.seen ground) file }
         requires counts { (disk : ℕ) → opened_in (G.seen ground).disks disk ≤ faults_in (G.seen ground).disks disk }
         ensures opened { IfOk result (Opens tree file (G.seen ground)) }
+        ensures wire { IfOk result (λ e. wire_in e ≡ record { ops = ops; first = []; second = [] }) }
         ensures back { IfErr result (λ g. g ≡ ground) }
     {
         match start(alloc, tree, file, ops) {
@@ -113,6 +115,14 @@ impl<G: Ground> Engine<G> {
         ensures { result ≡ length (mine (events_in self.now) caller) }
     {
         self.book.trail.number(caller)
+    }
+
+    /// Lends the two frames of the last page message.
+    pub(crate) fn frames(&self) -> (&[u8], &[u8])
+        ensures first { result.0.now ≡ (wire_in self.now).first }
+        ensures second { result.1.now ≡ (wire_in self.now).second }
+    {
+        self.tables.frames()
     }
 
     /// A layer's own table.

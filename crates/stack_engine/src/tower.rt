@@ -15,7 +15,7 @@ ghost use Rattle.tower_shows.specs.Began.{ArePagesOf};
 ghost use Rattle.page_exchange.specs.Tables.{IsUnderFile};
 ghost use Rattle.tower_core.specs.Trail.{IsSettled};
 ghost use Rattle.stack_engine.specs.Accesses.{SparesRead, SparesTry};
-ghost use Rattle.stack_engine.specs.Engine.{IsNext, IsSound, column_in, events_in, file_in, log_in, sides_in, state_in, tree_in, uses_in};
+ghost use Rattle.stack_engine.specs.Engine.{IsNext, IsSound, column_in, events_in, file_in, log_in, sides_in, state_in, tree_in, uses_in, wire_in};
 ghost use Rattle.stack_engine.specs.Messages.{NeedsDisks};
 ghost use Rattle.stack_engine.specs.Moves.{IsRefused, bytes_to};
 ghost use Rattle.stack_engine.specs.Opened.{IsOf};
@@ -73,6 +73,7 @@ impl<G: Ground> Tower<G> {
         requires counts { (disk : ℕ) → opened_in (G.seen ground).disks disk ≤ faults_in (G.seen ground).disks disk }
         ensures opened { IfOk result (λ t. Opens tree file (G.seen ground) t.engine) }
         ensures free { IfOk result (λ t. t.turns ≡ []) }
+        ensures wire { IfOk result (λ t. wire_in t.engine ≡ record { ops = ops; first = []; second = [] }) }
         ensures began { IfOk result (λ t. (opening : List ℕ) (told : List (List ℕ)) → (G.seen ground).pages ≡ Some told →
             length opening ≡ file.pages * file.page_size → ArePagesOf file.page_size file.pages opening told → IsOf opening t.engine) }
         ensures back { IfErr result (λ g. g ≡ ground) }
@@ -109,6 +110,15 @@ impl<G: Ground> Tower<G> {
         ensures paged { IsPagedFile result }
     {
         self.engine.tables.file()
+    }
+
+    /// Lends the two frames of the page message that was sent last: a question or an order, and its answer. Both are
+    /// empty before the first. A message that a try could not send may have left its question or order there.
+    pub fn frames(&self) -> (&[u8], &[u8])
+        ensures first { result.0.now ≡ (wire_in self.now.engine).first }
+        ensures second { result.1.now ≡ (wire_in self.now.engine).second }
+    {
+        self.engine.frames()
     }
 
     /// How many events there are.

@@ -13,14 +13,17 @@ use Rattle.text_words.proofs.LineLaws.{words_bytes, words_again, rows_joined, ro
 use Rattle.text_words.proofs.Spellings.{name_word, decimal_word}
 use Rattle.text_words.proofs.NumberLaws.{number_is, number_again}
 use Rattle.stack_text.specs.declared.stack.StackLine.{StackLine}
-use Rattle.stack_text.specs.declared.stack.StackLine.TheVariants.{Page, File, Disk, Mirror, Coherency, Dfs, Vmm}
+use Rattle.stack_text.specs.declared.stack.StackLine.TheVariants.{Page, File, Layer}
+use Rattle.stack_text.specs.declared.stack.LayerKind.TheVariants.{Disk, Mirror, Upper}
+use Rattle.stack_text.specs.declared.stack.UpperKind.{UpperKind}
+use Rattle.stack_text.specs.declared.stack.UpperKind.TheVariants.{Coherency, Dfs, Vmm}
 use Rattle.stack_text.specs.declared.why.StackWhy.{StackWhy}
 use Rattle.stack_text.specs.declared.why.StackWhy.TheVariants as why
 use Rattle.stack_text.specs.declared.why.Refused.{Refused}
 use Rattle.stack_text.specs.declared.stack.StackText.{StackText}
-use Rattle.stack_text.specs.Grammar.{line_words, IsStackLine, IsStack, spelling}
+use Rattle.stack_text.specs.Grammar.{line_words, HasNumber, IsStackLine, IsStack, spelling}
 use Rattle.stack_text.specs.Why.{Tells}
-use Rattle.stack_text.specs.Reading.{◌>>=◌, name_at, number_at, page_at, file_at, disk_at, mirror_at, coherency_at, dfs_at, vmm_at, with_one, with_two, with_three, with_four, words_line, as_stack_why, line_at, in_line, lines_at, stack_at}
+use Rattle.stack_text.specs.Reading.{◌>>=◌, name_at, number_at, page_at, file_at, disk_at, mirror_at, upper_at, vmm_at, with_one, with_two, with_three, with_four, words_line, as_stack_why, line_at, in_line, lines_at, stack_at}
 
 -- the value of a step that did not fail
 bind_ok : {A B E : Type 0} (r : Result A E) (f : A → Result B E) (y : B) → (r >>= f) ≡ Ok y → (x : A) × (r ≡ Ok x) × (f x ≡ Ok y)
@@ -92,63 +95,53 @@ file_is name pages line e =
 disk_is : (name machine : List ℕ) (line : StackLine) → disk_at name machine ≡ Ok line → IsLine (codes "disk" ∷ name ∷ machine ∷ []) line
 unfolding disk_at
 disk_is name machine line e =
-    let own = bind_ok (name_at name) (λ own. name_at machine >>= λ at. done (Disk own at)) line e in
-    let at = bind_ok (name_at machine) (λ at. done (Disk own.0 at)) line own.2 in
+    let own = bind_ok (name_at name) (λ own. name_at machine >>= λ at. done (Layer own at Disk)) line e in
+    let at = bind_ok (name_at machine) (λ at. done (Layer own.0 at Disk)) line own.2 in
     let a = name_is name own.0 own.1 in
     let b = name_is machine at.0 at.1 in
-    subst (IsLine (codes "disk" ∷ name ∷ machine ∷ [])) (ok_is (Disk own.0 at.0) line at.2) ((a.0, b.0), two_words (codes "disk") name own.0 machine at.0 a.1 b.1)
+    subst (IsLine (codes "disk" ∷ name ∷ machine ∷ [])) (ok_is (Layer own.0 at.0 Disk) line at.2) ((a.0, b.0, tt), two_words (codes "disk") name own.0 machine at.0 a.1 b.1)
 
 mirror_is : (name machine left right : List ℕ) (line : StackLine) → mirror_at name machine left right ≡ Ok line → IsLine (codes "mirror" ∷ name ∷ machine ∷ left ∷ right ∷ []) line
 unfolding mirror_at
 mirror_is name machine left right line e =
-    let own = bind_ok (name_at name) (λ own. name_at machine >>= λ at. name_at left >>= λ one. name_at right >>= λ other. done (Mirror own at one other)) line e in
-    let at = bind_ok (name_at machine) (λ at. name_at left >>= λ one. name_at right >>= λ other. done (Mirror own.0 at one other)) line own.2 in
-    let one = bind_ok (name_at left) (λ one. name_at right >>= λ other. done (Mirror own.0 at.0 one other)) line at.2 in
-    let other = bind_ok (name_at right) (λ other. done (Mirror own.0 at.0 one.0 other)) line one.2 in
+    let own = bind_ok (name_at name) (λ own. name_at machine >>= λ at. name_at left >>= λ one. name_at right >>= λ other. done (Layer own at (Mirror one other))) line e in
+    let at = bind_ok (name_at machine) (λ at. name_at left >>= λ one. name_at right >>= λ other. done (Layer own.0 at (Mirror one other))) line own.2 in
+    let one = bind_ok (name_at left) (λ one. name_at right >>= λ other. done (Layer own.0 at.0 (Mirror one other))) line at.2 in
+    let other = bind_ok (name_at right) (λ other. done (Layer own.0 at.0 (Mirror one.0 other))) line one.2 in
     let a = name_is name own.0 own.1 in
     let b = name_is machine at.0 at.1 in
     let c = name_is left one.0 one.1 in
     let d = name_is right other.0 other.1 in
-    subst (IsLine (codes "mirror" ∷ name ∷ machine ∷ left ∷ right ∷ [])) (ok_is (Mirror own.0 at.0 one.0 other.0) line other.2)
-    ((a.0, b.0, c.0, d.0), four_words (codes "mirror") name own.0 machine at.0 left one.0 right other.0 a.1 b.1 c.1 d.1)
+    subst (IsLine (codes "mirror" ∷ name ∷ machine ∷ left ∷ right ∷ [])) (ok_is (Layer own.0 at.0 (Mirror one.0 other.0)) line other.2)
+    ((a.0, b.0, (c.0, d.0)), four_words (codes "mirror") name own.0 machine at.0 left one.0 right other.0 a.1 b.1 c.1 d.1)
 
-coherency_is : (name machine below : List ℕ) (line : StackLine) → coherency_at name machine below ≡ Ok line → IsLine (codes "coherency" ∷ name ∷ machine ∷ below ∷ []) line
-unfolding coherency_at
-coherency_is name machine below line e =
-    let own = bind_ok (name_at name) (λ own. name_at machine >>= λ at. name_at below >>= λ base. done (Coherency own at base)) line e in
-    let at = bind_ok (name_at machine) (λ at. name_at below >>= λ base. done (Coherency own.0 at base)) line own.2 in
-    let base = bind_ok (name_at below) (λ base. done (Coherency own.0 at.0 base)) line at.2 in
+-- an upper layer, whose line has its verb and no more than its names
+upper_is : (verb : List ℕ) (kind : UpperKind) → ((name machine below : List ℕ) → (verb ∷ name ∷ machine ∷ below ∷ []) ≡ line_words (Layer name machine (Upper kind below))) → HasNumber kind
+    → (name machine below : List ℕ) (line : StackLine) → upper_at kind name machine below ≡ Ok line → IsLine (verb ∷ name ∷ machine ∷ below ∷ []) line
+unfolding upper_at
+upper_is verb kind words number name machine below line e =
+    let own = bind_ok (name_at name) (λ own. name_at machine >>= λ at. name_at below >>= λ base. done (Layer own at (Upper kind base))) line e in
+    let at = bind_ok (name_at machine) (λ at. name_at below >>= λ base. done (Layer own.0 at (Upper kind base))) line own.2 in
+    let base = bind_ok (name_at below) (λ base. done (Layer own.0 at.0 (Upper kind base))) line at.2 in
     let a = name_is name own.0 own.1 in
     let b = name_is machine at.0 at.1 in
     let c = name_is below base.0 base.1 in
-    subst (IsLine (codes "coherency" ∷ name ∷ machine ∷ below ∷ [])) (ok_is (Coherency own.0 at.0 base.0) line base.2)
-    ((a.0, b.0, c.0), three_words (codes "coherency") name own.0 machine at.0 below base.0 a.1 b.1 c.1)
-
-dfs_is : (name machine below : List ℕ) (line : StackLine) → dfs_at name machine below ≡ Ok line → IsLine (codes "dfs" ∷ name ∷ machine ∷ below ∷ []) line
-unfolding dfs_at
-dfs_is name machine below line e =
-    let own = bind_ok (name_at name) (λ own. name_at machine >>= λ at. name_at below >>= λ base. done (Dfs own at base)) line e in
-    let at = bind_ok (name_at machine) (λ at. name_at below >>= λ base. done (Dfs own.0 at base)) line own.2 in
-    let base = bind_ok (name_at below) (λ base. done (Dfs own.0 at.0 base)) line at.2 in
-    let a = name_is name own.0 own.1 in
-    let b = name_is machine at.0 at.1 in
-    let c = name_is below base.0 base.1 in
-    subst (IsLine (codes "dfs" ∷ name ∷ machine ∷ below ∷ [])) (ok_is (Dfs own.0 at.0 base.0) line base.2)
-    ((a.0, b.0, c.0), three_words (codes "dfs") name own.0 machine at.0 below base.0 a.1 b.1 c.1)
+    subst (IsLine (verb ∷ name ∷ machine ∷ below ∷ [])) (ok_is (Layer own.0 at.0 (Upper kind base.0)) line base.2)
+    ((a.0, b.0, (c.0, number)), three_words verb name own.0 machine at.0 below base.0 a.1 b.1 c.1 ∙ words own.0 at.0 base.0)
 
 vmm_is : (name machine below frames : List ℕ) (line : StackLine) → vmm_at name machine below frames ≡ Ok line → IsLine (codes "vmm" ∷ name ∷ machine ∷ below ∷ frames ∷ []) line
 unfolding vmm_at
 vmm_is name machine below frames line e =
-    let own = bind_ok (name_at name) (λ own. name_at machine >>= λ at. name_at below >>= λ base. number_at frames >>= λ n. done (Vmm own at base n)) line e in
-    let at = bind_ok (name_at machine) (λ at. name_at below >>= λ base. number_at frames >>= λ n. done (Vmm own.0 at base n)) line own.2 in
-    let base = bind_ok (name_at below) (λ base. number_at frames >>= λ n. done (Vmm own.0 at.0 base n)) line at.2 in
-    let n = bind_ok (number_at frames) (λ n. done (Vmm own.0 at.0 base.0 n)) line base.2 in
+    let own = bind_ok (name_at name) (λ own. name_at machine >>= λ at. name_at below >>= λ base. number_at frames >>= λ n. done (Layer own at (Upper (Vmm n) base))) line e in
+    let at = bind_ok (name_at machine) (λ at. name_at below >>= λ base. number_at frames >>= λ n. done (Layer own.0 at (Upper (Vmm n) base))) line own.2 in
+    let base = bind_ok (name_at below) (λ base. number_at frames >>= λ n. done (Layer own.0 at.0 (Upper (Vmm n) base))) line at.2 in
+    let n = bind_ok (number_at frames) (λ n. done (Layer own.0 at.0 (Upper (Vmm n) base.0))) line base.2 in
     let a = name_is name own.0 own.1 in
     let b = name_is machine at.0 at.1 in
     let c = name_is below base.0 base.1 in
     let d = number_at_is frames n.0 n.1 in
-    subst (IsLine (codes "vmm" ∷ name ∷ machine ∷ below ∷ frames ∷ [])) (ok_is (Vmm own.0 at.0 base.0 n.0) line n.2)
-    ((a.0, b.0, c.0, d.0), four_words (codes "vmm") name own.0 machine at.0 below base.0 frames (decimal n.0) a.1 b.1 c.1 d.1)
+    subst (IsLine (codes "vmm" ∷ name ∷ machine ∷ below ∷ frames ∷ [])) (ok_is (Layer own.0 at.0 (Upper (Vmm n.0) base.0)) line n.2)
+    ((a.0, b.0, (c.0, d.0)), four_words (codes "vmm") name own.0 machine at.0 below base.0 frames (decimal n.0) a.1 b.1 c.1 d.1)
 
 -- so many words were there
 one_is : (v : List ℕ) (read : List ℕ → Result StackLine StackWhy) → ((a : List ℕ) (line : StackLine) → read a ≡ Ok line → IsLine (v ∷ a ∷ []) line)
@@ -197,8 +190,8 @@ words_line_is (verb ∷ words) line e =
     (verb_is verb (codes "file") words (with_two file_at words) _ line (two_is (codes "file") file_at file_is words line)
     (verb_is verb (codes "disk") words (with_two disk_at words) _ line (two_is (codes "disk") disk_at disk_is words line)
     (verb_is verb (codes "mirror") words (with_four mirror_at words) _ line (four_is (codes "mirror") mirror_at mirror_is words line)
-    (verb_is verb (codes "coherency") words (with_three coherency_at words) _ line (three_is (codes "coherency") coherency_at coherency_is words line)
-    (verb_is verb (codes "dfs") words (with_three dfs_at words) _ line (three_is (codes "dfs") dfs_at dfs_is words line)
+    (verb_is verb (codes "coherency") words (with_three (upper_at Coherency) words) _ line (three_is (codes "coherency") (upper_at Coherency) (upper_is (codes "coherency") Coherency (λ n m b. refl) tt) words line)
+    (verb_is verb (codes "dfs") words (with_three (upper_at Dfs) words) _ line (three_is (codes "dfs") (upper_at Dfs) (upper_is (codes "dfs") Dfs (λ n m b. refl) tt) words line)
     (verb_is verb (codes "vmm") words (with_four vmm_at words) _ line (four_is (codes "vmm") vmm_at vmm_is words line)
     (λ none. absurd cc))))))) e
 
@@ -213,50 +206,44 @@ file_again name pages h =
     ap (λ r. r >>= λ own. number_at (decimal pages) >>= λ n. done (File own n)) (name_again name h.0)
     ∙ ap (λ r. r >>= λ n. done (File name n)) (number_at_again pages h.1)
 
-disk_again : (name machine : List ℕ) → IsStackLine (Disk name machine) → words_line (line_words (Disk name machine)) ≡ Ok (Disk name machine)
+disk_again : (name machine : List ℕ) → IsStackLine (Layer name machine Disk) → words_line (line_words (Layer name machine Disk)) ≡ Ok (Layer name machine Disk)
 unfolding words_line disk_at
 disk_again name machine h =
-    ap (λ r. r >>= λ own. name_at machine >>= λ at. done (Disk own at)) (name_again name h.0)
-    ∙ ap (λ r. r >>= λ at. done (Disk name at)) (name_again machine h.1)
+    ap (λ r. r >>= λ own. name_at machine >>= λ at. done (Layer own at Disk)) (name_again name h.0)
+    ∙ ap (λ r. r >>= λ at. done (Layer name at Disk)) (name_again machine h.1)
 
-mirror_again : (name machine left right : List ℕ) → IsStackLine (Mirror name machine left right) → words_line (line_words (Mirror name machine left right)) ≡ Ok (Mirror name machine left right)
+mirror_again : (name machine left right : List ℕ) → IsStackLine (Layer name machine (Mirror left right)) → words_line (line_words (Layer name machine (Mirror left right))) ≡ Ok (Layer name machine (Mirror left right))
 unfolding words_line mirror_at
 mirror_again name machine left right h =
-    ap (λ r. r >>= λ own. name_at machine >>= λ at. name_at left >>= λ one. name_at right >>= λ other. done (Mirror own at one other)) (name_again name h.0)
-    ∙ ap (λ r. r >>= λ at. name_at left >>= λ one. name_at right >>= λ other. done (Mirror name at one other)) (name_again machine h.1)
-    ∙ ap (λ r. r >>= λ one. name_at right >>= λ other. done (Mirror name machine one other)) (name_again left h.2)
-    ∙ ap (λ r. r >>= λ other. done (Mirror name machine left other)) (name_again right h.3)
+    ap (λ r. r >>= λ own. name_at machine >>= λ at. name_at left >>= λ one. name_at right >>= λ other. done (Layer own at (Mirror one other))) (name_again name h.0)
+    ∙ ap (λ r. r >>= λ at. name_at left >>= λ one. name_at right >>= λ other. done (Layer name at (Mirror one other))) (name_again machine h.1)
+    ∙ ap (λ r. r >>= λ one. name_at right >>= λ other. done (Layer name machine (Mirror one other))) (name_again left h.2.0)
+    ∙ ap (λ r. r >>= λ other. done (Layer name machine (Mirror left other))) (name_again right h.2.1)
 
-coherency_again : (name machine below : List ℕ) → IsStackLine (Coherency name machine below) → words_line (line_words (Coherency name machine below)) ≡ Ok (Coherency name machine below)
-unfolding words_line coherency_at
-coherency_again name machine below h =
-    ap (λ r. r >>= λ own. name_at machine >>= λ at. name_at below >>= λ base. done (Coherency own at base)) (name_again name h.0)
-    ∙ ap (λ r. r >>= λ at. name_at below >>= λ base. done (Coherency name at base)) (name_again machine h.1)
-    ∙ ap (λ r. r >>= λ base. done (Coherency name machine base)) (name_again below h.2)
+upper_again : (kind : UpperKind) (name machine below : List ℕ) → IsStackLine (Layer name machine (Upper kind below)) → upper_at kind name machine below ≡ Ok (Layer name machine (Upper kind below))
+unfolding upper_at
+upper_again kind name machine below h =
+    ap (λ r. r >>= λ own. name_at machine >>= λ at. name_at below >>= λ base. done (Layer own at (Upper kind base))) (name_again name h.0)
+    ∙ ap (λ r. r >>= λ at. name_at below >>= λ base. done (Layer name at (Upper kind base))) (name_again machine h.1)
+    ∙ ap (λ r. r >>= λ base. done (Layer name machine (Upper kind base))) (name_again below h.2.0)
 
-dfs_again : (name machine below : List ℕ) → IsStackLine (Dfs name machine below) → words_line (line_words (Dfs name machine below)) ≡ Ok (Dfs name machine below)
-unfolding words_line dfs_at
-dfs_again name machine below h =
-    ap (λ r. r >>= λ own. name_at machine >>= λ at. name_at below >>= λ base. done (Dfs own at base)) (name_again name h.0)
-    ∙ ap (λ r. r >>= λ at. name_at below >>= λ base. done (Dfs name at base)) (name_again machine h.1)
-    ∙ ap (λ r. r >>= λ base. done (Dfs name machine base)) (name_again below h.2)
-
-vmm_again : (name machine below : List ℕ) (frames : ℕ) → IsStackLine (Vmm name machine below frames) → words_line (line_words (Vmm name machine below frames)) ≡ Ok (Vmm name machine below frames)
+vmm_again : (name machine below : List ℕ) (frames : ℕ) → IsStackLine (Layer name machine (Upper (Vmm frames) below)) → words_line (line_words (Layer name machine (Upper (Vmm frames) below))) ≡ Ok (Layer name machine (Upper (Vmm frames) below))
 unfolding words_line vmm_at
 vmm_again name machine below frames h =
-    ap (λ r. r >>= λ own. name_at machine >>= λ at. name_at below >>= λ base. number_at (decimal frames) >>= λ n. done (Vmm own at base n)) (name_again name h.0)
-    ∙ ap (λ r. r >>= λ at. name_at below >>= λ base. number_at (decimal frames) >>= λ n. done (Vmm name at base n)) (name_again machine h.1)
-    ∙ ap (λ r. r >>= λ base. number_at (decimal frames) >>= λ n. done (Vmm name machine base n)) (name_again below h.2)
-    ∙ ap (λ r. r >>= λ n. done (Vmm name machine below n)) (number_at_again frames h.3)
+    ap (λ r. r >>= λ own. name_at machine >>= λ at. name_at below >>= λ base. number_at (decimal frames) >>= λ n. done (Layer own at (Upper (Vmm n) base))) (name_again name h.0)
+    ∙ ap (λ r. r >>= λ at. name_at below >>= λ base. number_at (decimal frames) >>= λ n. done (Layer name at (Upper (Vmm n) base))) (name_again machine h.1)
+    ∙ ap (λ r. r >>= λ base. number_at (decimal frames) >>= λ n. done (Layer name machine (Upper (Vmm n) base))) (name_again below h.2.0)
+    ∙ ap (λ r. r >>= λ n. done (Layer name machine (Upper (Vmm n) below))) (number_at_again frames h.2.1)
 
 pub line_again : (line : StackLine) → IsStackLine line → words_line (line_words line) ≡ Ok line
+unfolding words_line
 line_again (Page size) h = page_again size h
 line_again (File name pages) h = file_again name pages h
-line_again (Disk name machine) h = disk_again name machine h
-line_again (Mirror name machine left right) h = mirror_again name machine left right h
-line_again (Coherency name machine below) h = coherency_again name machine below h
-line_again (Dfs name machine below) h = dfs_again name machine below h
-line_again (Vmm name machine below frames) h = vmm_again name machine below frames h
+line_again (Layer name machine Disk) h = disk_again name machine h
+line_again (Layer name machine (Mirror left right)) h = mirror_again name machine left right h
+line_again (Layer name machine (Upper Coherency below)) h = upper_again Coherency name machine below h
+line_again (Layer name machine (Upper Dfs below)) h = upper_again Dfs name machine below h
+line_again (Layer name machine (Upper (Vmm frames) below)) h = vmm_again name machine below frames h
 
 number_word : (n : ℕ) → n < 4294967296 → IsWord (decimal n)
 number_word n h = decimal_word n (omega (arith, h))
@@ -265,11 +252,10 @@ number_word n h = decimal_word n (omega (arith, h))
 pub are_words : (line : StackLine) → IsStackLine line → AreWords (line_words line)
 are_words (Page size) h = (refl, (number_word size h, tt))
 are_words (File name pages) h = (refl, (name_word name h.0, (number_word pages h.1, tt)))
-are_words (Disk name machine) h = (refl, (name_word name h.0, (name_word machine h.1, tt)))
-are_words (Mirror name machine left right) h = (refl, (name_word name h.0, (name_word machine h.1, (name_word left h.2, (name_word right h.3, tt)))))
-are_words (Coherency name machine below) h = (refl, (name_word name h.0, (name_word machine h.1, (name_word below h.2, tt))))
-are_words (Dfs name machine below) h = (refl, (name_word name h.0, (name_word machine h.1, (name_word below h.2, tt))))
-are_words (Vmm name machine below frames) h = (refl, (name_word name h.0, (name_word machine h.1, (name_word below h.2, (number_word frames h.3, tt)))))
+are_words (Layer name machine Disk) h = (refl, (name_word name h.0, (name_word machine h.1, tt)))
+are_words (Layer name machine (Mirror left right)) h = (refl, (name_word name h.0, (name_word machine h.1, (name_word left h.2.0, (name_word right h.2.1, tt)))))
+are_words (Layer name machine (Upper (Vmm frames) below)) h = (refl, (name_word name h.0, (name_word machine h.1, (name_word below h.2.0, (number_word frames h.2.1, tt)))))
+are_words (Layer name machine (Upper kind below)) h = (refl, (name_word name h.0, (name_word machine h.1, (name_word below h.2.0, tt))))
 
 -- a line that is read is one of the first 128, and stands so in the text
 pub record IsRead (number : ℕ) (row : Row) (line : StackLine) : Type 0 where

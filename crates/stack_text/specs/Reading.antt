@@ -7,7 +7,10 @@ use Rattle.text_words.specs.Numbers.{number_of}
 use Rattle.text_words.specs.Words.{is_name}
 use Rattle.stack_text.specs.declared.stack.TheConstants.{MAX_LINES}
 use Rattle.stack_text.specs.declared.stack.StackLine.{StackLine}
-use Rattle.stack_text.specs.declared.stack.StackLine.TheVariants.{Page, File, Disk, Mirror, Coherency, Dfs, Vmm}
+use Rattle.stack_text.specs.declared.stack.StackLine.TheVariants.{Page, File, Layer}
+use Rattle.stack_text.specs.declared.stack.LayerKind.TheVariants.{Disk, Mirror, Upper}
+use Rattle.stack_text.specs.declared.stack.UpperKind.{UpperKind}
+use Rattle.stack_text.specs.declared.stack.UpperKind.TheVariants.{Coherency, Dfs, Vmm}
 use Rattle.stack_text.specs.declared.why.StackWhy.{StackWhy}
 use Rattle.stack_text.specs.declared.why.StackWhy.TheVariants as why
 use Rattle.stack_text.specs.declared.why.Refused.{Refused}
@@ -43,7 +46,7 @@ unfoldable pub disk_at : List ℕ → List ℕ → Result StackLine StackWhy
 disk_at name machine = do
   own ← name_at name
   at ← name_at machine
-  Ok (Disk own at)
+  Ok (Layer own at Disk)
 
 unfoldable pub mirror_at : List ℕ → List ℕ → List ℕ → List ℕ → Result StackLine StackWhy
 mirror_at name machine left right = do
@@ -51,21 +54,14 @@ mirror_at name machine left right = do
   at ← name_at machine
   one ← name_at left
   other ← name_at right
-  Ok (Mirror own at one other)
+  Ok (Layer own at (Mirror one other))
 
-unfoldable pub coherency_at : List ℕ → List ℕ → List ℕ → Result StackLine StackWhy
-coherency_at name machine below = do
+unfoldable pub upper_at : UpperKind → List ℕ → List ℕ → List ℕ → Result StackLine StackWhy
+upper_at kind name machine below = do
   own ← name_at name
   at ← name_at machine
   base ← name_at below
-  Ok (Coherency own at base)
-
-unfoldable pub dfs_at : List ℕ → List ℕ → List ℕ → Result StackLine StackWhy
-dfs_at name machine below = do
-  own ← name_at name
-  at ← name_at machine
-  base ← name_at below
-  Ok (Dfs own at base)
+  Ok (Layer own at (Upper kind base))
 
 unfoldable pub vmm_at : List ℕ → List ℕ → List ℕ → List ℕ → Result StackLine StackWhy
 vmm_at name machine below frames = do
@@ -73,7 +69,7 @@ vmm_at name machine below frames = do
   at ← name_at machine
   base ← name_at below
   n ← number_at frames
-  Ok (Vmm own at base n)
+  Ok (Layer own at (Upper (Vmm n) base))
 
 -- the verb is followed by `count` words
 abbrev pub with_one : (List ℕ → Result StackLine StackWhy) → List (List ℕ) → Result StackLine StackWhy
@@ -100,8 +96,8 @@ words_line (verb ∷ words) =
     else if bytes_eq verb (codes "file") then with_two file_at words
     else if bytes_eq verb (codes "disk") then with_two disk_at words
     else if bytes_eq verb (codes "mirror") then with_four mirror_at words
-    else if bytes_eq verb (codes "coherency") then with_three coherency_at words
-    else if bytes_eq verb (codes "dfs") then with_three dfs_at words
+    else if bytes_eq verb (codes "coherency") then with_three (upper_at Coherency) words
+    else if bytes_eq verb (codes "dfs") then with_three (upper_at Dfs) words
     else if bytes_eq verb (codes "vmm") then with_four vmm_at words
     else Err why.Verb
 

@@ -8,5 +8,5 @@ mod why;
 
 pub use print::print_stack;
 pub use read::parse_stack;
-pub use stack::{MAX_LINES, StackLine, StackText};
+pub use stack::{LayerKind, MAX_LINES, StackLine, StackText, UpperKind};
 pub use why::{Refused, StackWhy};

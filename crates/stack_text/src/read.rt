@@ -4,10 +4,10 @@ ghost use Rattle.std.specs.Prelude.{◌≡◌, ◌∷◌, ◌<◌, ◌≤◌, �
 ghost use Rattle.text_words.specs.Lines.{row_of, rows_of, words_at};
 ghost use Rattle.stack_text.specs.Grammar.{IsStack, spelling};
 ghost use Rattle.stack_text.specs.Why.{Fails, Gives, IsRefused, refused_line, Reads};
-ghost use Rattle.stack_text.specs.Reading.{name_at, number_at, page_at, file_at, disk_at, mirror_at, coherency_at, dfs_at, vmm_at, with_four, words_line, line_at, AddsLine, stack_at};
+ghost use Rattle.stack_text.specs.Reading.{name_at, number_at, page_at, file_at, disk_at, mirror_at, upper_at, vmm_at, with_three, with_four, words_line, line_at, AddsLine, stack_at};
 ghost use Rattle.stack_text.specs.declared.stack.StackText.{StackText};
 
-use crate::stack::{MAX_LINES, StackLine, StackText};
+use crate::stack::{LayerKind, MAX_LINES, StackLine, StackText, UpperKind};
 use crate::why::{Refused, StackWhy};
 use seen_values::{Items, Text};
 use std::alloc::Global;
@@ -56,7 +56,12 @@ fn disk(alloc: Global, name: &[u8], machine: &[u8]) -> Result<StackLine, StackWh
 {
     let name = name_of(alloc, name)?;
     let machine = name_of(alloc, machine)?;
-    Ok(StackLine::Disk { name, machine })
+    let kind = LayerKind::Disk;
+    Ok(StackLine::Layer {
+        name,
+        machine,
+        kind,
+    })
 }
 
 #[tactic(auto, unfolding(crate::specs::Reading::mirror_at))]
@@ -73,44 +78,33 @@ fn mirror(
     let machine = name_of(alloc, machine)?;
     let left = name_of(alloc, left)?;
     let right = name_of(alloc, right)?;
-    Ok(StackLine::Mirror {
+    let kind = LayerKind::Mirror { left, right };
+    Ok(StackLine::Layer {
         name,
         machine,
-        left,
-        right,
+        kind,
     })
 }
 
-#[tactic(auto, unfolding(crate::specs::Reading::coherency_at))]
-fn coherency(
+/// An upper layer whose line has no more than its names.
+#[tactic(auto, unfolding(crate::specs::Reading::upper_at))]
+fn upper(
     alloc: Global,
+    kind: UpperKind,
     name: &[u8],
     machine: &[u8],
     below: &[u8],
 ) -> Result<StackLine, StackWhy>
-    ensures { Gives result (coherency_at name.now machine.now below.now) }
+    ensures { Gives result (upper_at kind name.now machine.now below.now) }
 {
     let name = name_of(alloc, name)?;
     let machine = name_of(alloc, machine)?;
     let below = name_of(alloc, below)?;
-    Ok(StackLine::Coherency {
+    let kind = LayerKind::Upper { kind, below };
+    Ok(StackLine::Layer {
         name,
         machine,
-        below,
-    })
-}
-
-#[tactic(auto, unfolding(crate::specs::Reading::dfs_at))]
-fn dfs(alloc: Global, name: &[u8], machine: &[u8], below: &[u8]) -> Result<StackLine, StackWhy>
-    ensures { Gives result (dfs_at name.now machine.now below.now) }
-{
-    let name = name_of(alloc, name)?;
-    let machine = name_of(alloc, machine)?;
-    let below = name_of(alloc, below)?;
-    Ok(StackLine::Dfs {
-        name,
-        machine,
-        below,
+        kind,
     })
 }
 
@@ -128,11 +122,14 @@ fn vmm(
     let machine = name_of(alloc, machine)?;
     let below = name_of(alloc, below)?;
     let frames = number_of(frames)?;
-    Ok(StackLine::Vmm {
+    let kind = LayerKind::Upper {
+        kind: UpperKind::Vmm { frames },
+        below,
+    };
+    Ok(StackLine::Layer {
         name,
         machine,
-        below,
-        frames,
+        kind,
     })
 }
 
@@ -141,6 +138,15 @@ fn mirror_line(alloc: Global, words: &[&[u8]]) -> Result<StackLine, StackWhy>
 {
     match words {
         [name, machine, left, right] => mirror(alloc, name, machine, left, right),
+        _ => Err(StackWhy::Words),
+    }
+}
+
+fn upper_line(alloc: Global, kind: UpperKind, words: &[&[u8]]) -> Result<StackLine, StackWhy>
+    ensures { Gives result (with_three (upper_at kind) (map (λ word. word.now) words.now)) }
+{
+    match words {
+        [name, machine, below] => upper(alloc, kind, name, machine, below),
         _ => Err(StackWhy::Words),
     }
 }
@@ -177,15 +183,9 @@ fn by_verb(alloc: Global, verb: &[u8], words: &[&[u8]]) -> Result<StackLine, Sta
     } else if verb == b"mirror".as_slice() {
         mirror_line(alloc, words)
     } else if verb == b"coherency".as_slice() {
-        match words {
-            [name, machine, below] => coherency(alloc, name, machine, below),
-            _ => Err(StackWhy::Words),
-        }
+        upper_line(alloc, UpperKind::Coherency, words)
     } else if verb == b"dfs".as_slice() {
-        match words {
-            [name, machine, below] => dfs(alloc, name, machine, below),
-            _ => Err(StackWhy::Words),
-        }
+        upper_line(alloc, UpperKind::Dfs, words)
     } else if verb == b"vmm".as_slice() {
         vmm_line(alloc, words)
     } else {

@@ -28,50 +28,47 @@ pub enum StackLine {
         /// How many pages it has.
         pages: u32,
     },
-    /// A disk.
-    Disk {
+    /// A layer.
+    Layer {
         /// Its name.
         name: Text,
         /// The machine that it is at.
         machine: Text,
+        /// What it is, and what it stands on.
+        kind: LayerKind,
     },
+}
+
+/// What a layer is, and what it stands on.
+#[derive(Debug, Drop)]
+pub enum LayerKind {
+    /// A disk. It stands on no layer.
+    Disk,
     /// A mirror over two layers.
     Mirror {
-        /// Its name.
-        name: Text,
-        /// The machine that it runs on.
-        machine: Text,
         /// Its left side.
         left: Text,
         /// Its right side.
         right: Text,
     },
+    /// An upper layer, which stands on one layer.
+    Upper {
+        /// What it is.
+        kind: UpperKind,
+        /// What it stands on.
+        below: Text,
+    },
+}
+
+/// What an upper layer is.
+#[derive(Clone, Copy, Debug, PartialEq, Eq)]
+pub enum UpperKind {
     /// A coherency layer.
-    Coherency {
-        /// Its name.
-        name: Text,
-        /// The machine that it runs on.
-        machine: Text,
-        /// What it stands on.
-        below: Text,
-    },
+    Coherency,
     /// A distributed layer.
-    Dfs {
-        /// Its name.
-        name: Text,
-        /// The machine that it runs on.
-        machine: Text,
-        /// What it stands on.
-        below: Text,
-    },
+    Dfs,
     /// A virtual memory manager.
     Vmm {
-        /// Its name.
-        name: Text,
-        /// The machine that it runs on.
-        machine: Text,
-        /// What it stands on.
-        below: Text,
         /// How many pages of a file it may hold.
         frames: u32,
     },

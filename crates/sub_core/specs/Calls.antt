@@ -26,8 +26,8 @@ RefusesHeld domain object whys.Memory = IsSome (door_of domain object)
 pub record Marshals (form : Form) (object : Object) (old_domain new_domain : Doors) (old new : Held) : Type 0 where
   pub door : Door
   pub held : door_of old_domain object ≡ Some door
-  pub puts : Puts (object_bytes object.sub form (length old.doors) object.tag) (door ∷ []) old new
-  pub len : length new.bytes ≡ length old.bytes + object_len form
+  pub puts : Puts (object_bytes object.sub form (length old.doors) object.tag object.name) (door ∷ []) old new
+  pub len : length new.bytes ≡ length old.bytes + object_len form object.name
   pub leaves : Updates old_domain new_domain object.door None
 
 -- the copy is the object but for its identifier, which was in no use and has the same door

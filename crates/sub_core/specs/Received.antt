@@ -3,14 +3,13 @@ use Rattle.std.specs.Prelude.{◌≡◌, ℕ, Bool, true, Some, None, Result, Ok
 use Rattle.marshal_buf.specs.Reading.{Reading, number_at, Takes}
 use Rattle.domain_doors.specs.Doors.{Doors, door_at, Updates}
 use Rattle.sub_core.specs.declared.shape.Form.{Form}
-use Rattle.sub_core.specs.declared.values.Fields.{Fields}
 use Rattle.sub_core.specs.declared.values.Object.{Object}
 use Rattle.sub_core.specs.declared.why.ObjectErr.{ObjectErr}
 use Rattle.sub_core.specs.declared.why.ObjectErr.TheVariants as whys
 use Rattle.sub_core.specs.declared.why.AnyErr.{AnyErr}
 use Rattle.sub_core.specs.declared.why.AnyErr.TheVariants as any_whys
 use Rattle.sub_core.specs.Forms.{object_bytes, IsOf}
-use Rattle.sub_core.specs.Fields.{fields_behind}
+use Rattle.sub_core.specs.Fields.{Fields, fields_behind}
 
 -- an object of the subcontract and the form was read, behind which the reading goes on; its door is in the domain
 -- under an identifier that was in no use
@@ -19,11 +18,12 @@ pub record Unmarshals (id : ℕ) (form : Form) (old_domain new_domain : Doors) (
   pub read : fields_behind form old ≡ Ok fields
   pub sub : object.sub ≡ id
   pub tag : object.tag ≡ fields.tag
+  pub name : object.name ≡ fields.name
   pub of : IsOf form object
   pub life : object.life ≡ 0
   pub vacant : door_at old_domain object.door ≡ None
   pub enters : Updates old_domain new_domain object.door (Some fields.door)
-  pub taken : Takes (object_bytes id form old.next object.tag) 1 old new
+  pub taken : Takes (object_bytes id form old.next object.tag object.name) 1 old new
 
 -- the fields cannot be read, or memory ran out for an object whose fields can
 abbrev pub Refuses : Result Fields ℕ → ObjectErr → Type 0

@@ -1,6 +1,6 @@
 //! Laws of every object that is sent.
 
-ghost use Rattle.sub_core.specs.Laws.{IdIsRead, FieldsAreRead, KeepsRoute};
+ghost use Rattle.sub_core.specs.Laws.{IdIsRead, FieldsAreRead, SentArrives};
 
 use crate::roles::Subcontract;
 
@@ -10,7 +10,7 @@ pub fn written_is_read()
     ensures fields { FieldsAreRead }
 {}
 
-/// An object that is sent and received leads where it led.
-pub fn sent_keeps_route<S: Subcontract>()
-    ensures { KeepsRoute S.form S.route }
+/// An object that is sent and received has the tag and the name that it had, and leads where it led.
+pub fn sent_arrives<S: Subcontract>()
+    ensures { SentArrives S.form S.route }
 {}

@@ -1,52 +1,76 @@
-//! The name of a manager, as an object has it.
+//! The tag and the name that stand behind the door of an object.
 
-ghost use Rattle.std.specs.Prelude.{◌≡◌, ◌+◌, ◌<◌, ◌≤◌, ◌^◌, ◌++◌, [], Ok, Err, IsOk, IfOk, OnOk, MatchResult, length};
-ghost use Rattle.marshal_buf.specs.Held.{Puts};
-ghost use Rattle.marshal_buf.specs.Numbers.{number_bytes};
+ghost use Rattle.std.specs.Prelude.{◌≡◌, ◌≤◌, ◌+◌, ◌<◌, ◌^◌, [], IfOk, IsOk, MatchResult, Ok, Err, length};
+ghost use Rattle.std.specs.Str.{bytes_eq};
+ghost use Rattle.marshal_buf.specs.Counted.{counted};
 ghost use Rattle.marshal_buf.specs.Reading.{Takes};
-ghost use Rattle.sub_core.specs.Names.{manager_name, name_bytes, string_at, name_at};
+ghost use Rattle.text_words.specs.Words.{is_path_word};
+ghost use Rattle.sub_core.specs.declared.shape.Form.TheVariants.{Managed, Pathed};
+ghost use Rattle.sub_core.specs.Names.{manager_name};
+ghost use Rattle.sub_core.specs.Forms.{tail_bytes, IsTagOf, IsNameOf};
+ghost use Rattle.sub_core.specs.Fields.{named, tail_at};
 
-use marshal_buf::{Buf, Reader, Short};
-use std::alloc::AllocError;
+use crate::shape::Form;
+use marshal_buf::Reader;
+use text_words::is_path_word;
 
 /// The name of every manager.
-pub(crate) const NAME: &str = "vmm";
+pub const MANAGER: &str = "vmm";
 
-/// Puts the manager's name as a string, for which there is room.
-pub(crate) fn put_name(buf: &mut Buf) -> Result<(), AllocError>
-    requires bytes { length buf.old.bytes + 7 < 2 ^ 32 }
-    requires room { 7 ≤ buf.old.spare }
-    ensures ok { IsOk result }
-    ensures put { Puts name_bytes [] buf.old buf.new }
-    ensures len { length buf.new.bytes ≡ length buf.old.bytes + 7 }
+/// Whether a name is the manager's.
+fn is_manager(name: &[u8]) -> bool
+    ensures { result ≡ bytes_eq name.now manager_name }
 {
-    buf.put_u32(3)?;
-    buf.put_bytes(NAME.as_bytes())
-}
-
-/// Takes a string. A refused call may leave the reader behind the length.
-fn get_string<'a>(from: &mut Reader<'a>) -> Result<&'a [u8], Short>
-    ensures value { MatchResult result (λ part. string_at from.old ≡ Ok part.now) (λ short. string_at from.old ≡ Err short) }
-    ensures taken { IfOk result (λ part. Takes (number_bytes 4 (length part.now) ++ part.now) 0 from.old from.new) }
-{
-    let len = from.get_u32()?;
-    from.get_part(len)
+    name == MANAGER.as_bytes()
 }
 
 /// Takes the manager's name. An error is the byte at which it cannot stand; a refused call may leave the reader behind it.
-pub(crate) fn get_name(from: &mut Reader<'_>) -> Result<(), u32>
-    ensures value { MatchResult result (λ _. name_at from.old ≡ Ok manager_name) (λ at. name_at from.old ≡ Err at) }
-    ensures taken { OnOk result (Takes name_bytes 0 from.old from.new) }
+fn read_manager<'a>(from: &mut Reader<'a>) -> Result<&'a [u8], u32>
+    ensures value { MatchResult result (λ name. tail_at Managed from.old ≡ Ok (0, name.now)) (λ at. tail_at Managed from.old ≡ Err at) }
+    ensures of { IfOk result (λ name. IsNameOf Managed name.now) }
+    ensures taken { IfOk result (λ name. Takes (counted name.now) 0 from.old from.new) }
 {
     let at = from.at();
-    match get_string(from) {
+    match from.get_counted() {
+        Err(short) => Err(short.at),
+        Ok(name) => { if is_manager(name) { Ok(name) } else { Err(at) } }
+    }
+}
+
+/// Takes a path, in the same way.
+fn read_path<'a>(from: &mut Reader<'a>) -> Result<&'a [u8], u32>
+    ensures value { MatchResult result (λ name. tail_at Pathed from.old ≡ Ok (0, name.now)) (λ at. tail_at Pathed from.old ≡ Err at) }
+    ensures of { IfOk result (λ name. IsNameOf Pathed name.now) }
+    ensures taken { IfOk result (λ name. Takes (counted name.now) 0 from.old from.new) }
+{
+    let at = from.at();
+    match from.get_counted() {
         Err(short) => Err(short.at),
         Ok(name) => {
-            if name == NAME.as_bytes() {
-                Ok(())
+            if is_path_word(name) {
+                Ok(name)
             } else {
                 Err(at)
             }
         }
+    }
+}
+
+/// Takes what the form has behind a door: the tag and the name. An error is the byte at which it cannot stand; a refused call
+/// may leave the reader behind it.
+pub(crate) fn read_tail<'a>(form: Form, from: &mut Reader<'a>) -> Result<(u32, &'a [u8]), u32>
+    ensures value { MatchResult result (λ tail. tail_at form from.old ≡ Ok (tail.0, tail.1.now)) (λ at. tail_at form from.old ≡ Err at) }
+    ensures tag { IfOk result (λ tail. IsTagOf form tail.0) }
+    ensures name { IfOk result (λ tail. IsNameOf form tail.1.now) }
+    ensures taken { IfOk result (λ tail. Takes (tail_bytes form tail.0 tail.1.now) 0 from.old from.new) }
+{
+    match form {
+        Form::Bare => Ok((0, &[])),
+        Form::Tagged => match from.get_u32() {
+            Ok(tag) => Ok((tag, &[])),
+            Err(short) => Err(short.at),
+        },
+        Form::Managed => Ok((0, read_manager(from)?)),
+        Form::Pathed => Ok((0, read_path(from)?)),
     }
 }

@@ -4,12 +4,12 @@ ghost use Rattle.std.specs.Prelude.{◌≡◌, ◌++◌, Some, None, Ok, IfOk, I
 ghost use Rattle.marshal_buf.specs.Numbers.{number_bytes};
 ghost use Rattle.marshal_buf.specs.Reading.{number_at, Takes};
 ghost use Rattle.domain_doors.specs.Doors.{door_at, Updates};
-ghost use Rattle.sub_core.specs.Forms.{tail_bytes, IsTagOf, name_of};
+ghost use Rattle.sub_core.specs.Forms.{tail_bytes, IsTagOf, IsNameOf};
 ghost use Rattle.sub_core.specs.Fields.{fields_at, fields_behind};
 ghost use Rattle.sub_core.specs.Received.{Unmarshals, Refuses};
 
 use crate::fields::read_fields;
-use crate::shape::{Form, name_of};
+use crate::shape::Form;
 use crate::values::{Fields, Object};
 use crate::why::ObjectErr;
 use domain_doors::Domain;
@@ -36,17 +36,18 @@ pub fn unmarshal_as(
     let mut ahead = from.copy();
     let _id = ahead.get_u16()?;
     let fields = get_fields(form, &mut ahead)?;
-    let object = hold(id, form, fields, alloc, domain)?;
+    let object = hold(id, form, &fields, alloc, domain)?;
     *from = ahead;
     Ok(object)
 }
 
 /// Takes what the bytes behind an identifier say.
-fn get_fields(form: Form, from: &mut Reader<'_>) -> Result<Fields, ObjectErr>
+fn get_fields<'a>(form: Form, from: &mut Reader<'a>) -> Result<Fields<'a>, ObjectErr>
     ensures value { IfOk result (λ fields. fields_at form from.old ≡ Ok fields) }
     ensures why { IfErr result (Refuses (fields_at form from.old)) }
-    ensures of { IfOk result (λ fields. IsTagOf form fields.tag) }
-    ensures taken { IfOk result (λ fields. Takes (number_bytes 4 from.old.next ++ tail_bytes form fields.tag) 1 from.old from.new) }
+    ensures tag { IfOk result (λ fields. IsTagOf form fields.tag) }
+    ensures name { IfOk result (λ fields. IsNameOf form fields.name) }
+    ensures taken { IfOk result (λ fields. Takes (number_bytes 4 from.old.next ++ tail_bytes form fields.tag fields.name) 1 from.old from.new) }
 {
     match read_fields(form, from) {
         Ok(fields) => Ok(fields),
@@ -55,24 +56,26 @@ fn get_fields(form: Form, from: &mut Reader<'_>) -> Result<Fields, ObjectErr>
 }
 
 /// Takes the door of a received object into the domain. An error leaves the domain as it was.
+#[tactic(auto, using(crate::proofs::Utf8::name_utf8))]
 fn hold(
     id: u16,
     form: Form,
-    fields: Fields,
+    fields: &Fields<'_>,
     alloc: Global,
     domain: &mut Domain,
 ) -> Result<Object, AllocError>
-    ensures object { IfOk result (λ object. object ≡ record { sub = id; door = object.door; tag = fields.tag; name = name_of form; life = 0 }) }
+    requires { IsNameOf form fields.now.name }
+    ensures object { IfOk result (λ object. object ≡ record { sub = id; door = object.door; tag = fields.now.tag; name = fields.now.name; life = 0 }) }
     ensures vacant { IfOk result (λ object. door_at domain.old object.door ≡ None) }
-    ensures enters { IfOk result (λ object. Updates domain.old domain.new object.door (Some fields.door)) }
+    ensures enters { IfOk result (λ object. Updates domain.old domain.new object.door (Some fields.now.door)) }
     ensures err { OnErr result (domain.new ≡ domain.old) }
 {
-    let name = Text::of(alloc, name_of(form))?;
-    let door = domain.add(fields.door)?;
+    let name = Text::of_ascii(alloc, fields.name())?;
+    let door = domain.add(fields.door())?;
     Ok(Object {
         sub: id,
         door,
-        tag: fields.tag,
+        tag: fields.tag(),
         name,
         life: 0,
     })

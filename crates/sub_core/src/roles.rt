@@ -42,7 +42,7 @@ pub trait Subcontract {
     ) -> Result<(), (ObjectErr, Object)>
         requires sub { object.sub ≡ id }
         requires of { IsOf form object }
-        requires bytes { length buf.old.bytes + object_len form < 2 ^ 32 }
+        requires bytes { length buf.old.bytes + object_len form object.name < 2 ^ 32 }
         requires doors { length buf.old.doors + 1 < 2 ^ 32 }
         ensures ok { OnOk result (Marshals form object domain.old domain.new buf.old buf.new) }
         ensures why { IfErr result (λ e. RefusesHeld domain.old object e.0) }
@@ -97,7 +97,8 @@ pub trait Subcontract {
         ensures why { IfErr result (Lacks domain.now object.now.door) };
 }
 
-/// The subcontracts that a domain knows.
+/// The subcontracts that a domain knows, and what each of them does with its objects. A call takes an object of a subcontract
+/// that is known, and does what that subcontract does.
 pub trait Registry {
     /// Whether a subcontract of the identifier is known.
     ghost has: { ℕ → Bool };

@@ -2,6 +2,7 @@
 
 use marshal_buf::Door;
 use seen_values::Text;
+use std::marker::Model;
 
 /// An object that a domain holds, as its subcontract sees it.
 #[derive(Debug, Drop)]
@@ -27,11 +28,49 @@ pub struct Route {
     pub file: u32,
 }
 
-/// What the bytes of an object say.
-#[derive(Clone, Copy, Debug, PartialEq, Eq)]
-pub struct Fields {
+/// What the bytes of an object say. It lends the name from them.
+#[derive(Debug, Drop)]
+pub struct Fields<'a> {
+    door: Door,
+    tag: u32,
+    name: &'a [u8],
+}
+
+impl<'a> Model for Fields<'a> {
+    ghost use Rattle.sub_core.specs.Fields.{Fields};
+
+    ghost Value = { Fields };
+
+    ghost view = { λ f. record { door = f.door; tag = f.tag; name = f.name.now } };
+}
+
+impl<'a> Fields<'a> {
+    ghost use Rattle.std.specs.Prelude.{◌≡◌};
+
+    pub(crate) fn new(door: Door, tag: u32, name: &'a [u8]) -> Fields<'a>
+        ensures { result ≡ record { door = door; tag = tag; name = name.now } }
+    {
+        Fields { door, tag, name }
+    }
+
     /// The door.
-    pub door: Door,
+    pub fn door(&self) -> Door
+        ensures { result ≡ self.now.door }
+    {
+        self.door
+    }
+
     /// The tag, or 0 for an object that has none.
-    pub tag: u32,
+    pub fn tag(&self) -> u32
+        ensures { result ≡ self.now.tag }
+    {
+        self.tag
+    }
+
+    /// Lends the name, which is empty for an object that has none.
+    pub fn name(&self) -> &'a [u8]
+        ensures { result.now ≡ self.now.name }
+    {
+        self.name
+    }
 }

@@ -47,9 +47,13 @@ is_path parts = nat_le 1 (length parts) && nat_le (length parts) 8 && list_all i
 abbrev pub IsPath : List (List ℕ) → Type 0
 IsPath parts = IsTrue (is_path parts)
 
--- the parts of a path, which stand between its slashes
+-- a path is what has such parts between its slashes
+abbrev pub is_path_word : List ℕ → Bool
+is_path_word word = is_path (slice_split (λ b. b == 47) word)
+
+-- the parts of a path
 unfoldable pub path_of : List ℕ → Option (List (List ℕ))
-path_of word = if is_path (slice_split (λ b. b == 47) word) then Some (slice_split (λ b. b == 47) word) else None
+path_of word = if is_path_word word then Some (slice_split (λ b. b == 47) word) else None
 
 -- a path as a word
 abbrev pub path_word : List (List ℕ) → List ℕ

@@ -12,4 +12,4 @@ pub use numbers::{address, number};
 pub use print::{
     put, put_hex, put_line, put_number, put_path, put_spaced, put_spaced_number, put_word,
 };
-pub use words::{hex_bytes, is_name, read_path, text_of_name};
+pub use words::{hex_bytes, is_name, is_path_word, read_path, text_of_name};

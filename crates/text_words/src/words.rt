@@ -1,9 +1,9 @@
 //! Reading names, hex and paths.
 
-ghost use Rattle.std.specs.Prelude.{◌≡◌, ◌==◌, IfOk, IfSome, List, ℕ, map, Some};
+ghost use Rattle.std.specs.Prelude.{◌≡◌, ◌==◌, IfOk, IfSome, List, ℕ, length, map, Some};
 ghost use Rattle.std.specs.List.{list_all, slice_split};
 ghost use Rattle.hex.specs.Hex.{encode_lower};
-ghost use Rattle.text_words.specs.Words.{IsHexBytes, IsPath, path_word, is_letter, is_name_char, is_name, IsName, is_lower_hex, hex_of, is_path, path_of};
+ghost use Rattle.text_words.specs.Words.{IsHexBytes, IsPath, path_word, is_letter, is_name_char, is_name, IsName, is_lower_hex, hex_of, is_path, is_path_word, path_of};
 
 use hex::FromHexError;
 use seen_values::{Bytes, Path, Text};
@@ -80,6 +80,28 @@ pub fn hex_bytes(alloc: Global, word: &[u8]) -> Result<Option<Bytes>, AllocError
     ensures only { (b : List ℕ) → IsHexBytes b → word.now ≡ encode_lower b → IfOk result (λ bytes. bytes ≡ Some b) }
 {
     decoded(alloc, word)
+}
+
+/// How many parts stand between the slashes of a word.
+fn count_parts(word: &[u8]) -> usize
+    ensures { result ≡ length (slice_split (λ b. b == 47) word.now) }
+{
+    word.split(|b| *b == b'/').count()
+}
+
+/// Whether each part between the slashes of a word is a name.
+fn has_names(word: &[u8]) -> bool
+    ensures { result ≡ list_all is_name (slice_split (λ b. b == 47) word.now) }
+{
+    word.split(|b| *b == b'/').all(|part| is_name(part))
+}
+
+/// Whether a word is a path: 1 to 8 names with `/` between each two. It takes no memory.
+pub fn is_path_word(word: &[u8]) -> bool
+    ensures { result ≡ is_path_word word.now }
+{
+    let parts = count_parts(word);
+    1 <= parts && parts <= 8 && has_names(word)
 }
 
 /// Whether each part is a name.

@@ -10,7 +10,7 @@ ghost use Rattle.page_exchange.specs.Exchange.{IsPair};
 ghost use Rattle.page_exchange.specs.Ground.{IsUnder};
 
 use crate::layers::right_word;
-use coherency_layer::{Asked, Called, Node};
+use coherency_layer::{Asked, Called, Node, NodeErr};
 use page_exchange::{GroundErr, Table, Wire};
 use page_ground::Ground;
 use std::alloc::{AllocError, Global};
@@ -91,7 +91,11 @@ fn leaf_gets(wire: &mut Wire, own: &mut Table, above: &mut Node) -> Result<(), H
     if !above.may_write(0) {
         return Err(Halt::Impossible);
     }
-    Ok(wire.ask_above(own, above, 2, Asked::PageInWrite, 0)?)
+    match wire.ask_above(own, above, 2, Asked::PageInWrite, 0) {
+        Ok(()) => Ok(()),
+        Err(NodeErr::Memory) => Err(Halt::Memory),
+        Err(NodeErr::NotAllowed { .. }) => Err(Halt::Impossible),
+    }
 }
 
 /// The layer orders the leaf not to write page 0.

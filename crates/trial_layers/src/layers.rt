@@ -7,6 +7,7 @@ ghost use Rattle.coherency_layer.specs.Node.{MayAskAbout, MayCallAbout, file_of}
 use crate::frames::{asked_of, called_of};
 use coherency_layer::{Asked, Called, Node, NodeErr};
 use marshal_buf::Buf;
+use page_messages::Letter;
 use pager_channel::{Frame, Ops, read_frame};
 use std::alloc::{AllocError, Global};
 use tower_core::Right;
@@ -207,8 +208,10 @@ fn ground_answers(
     if page >= file.pages || file.page_size != 64 {
         return Err(Halt::Impossible);
     }
+    let whole = page_of(bytes);
+    let letter = Letter::answer(node.right(page), &whole, what);
     second.clear();
-    node.ground_answer(&operations(), what, page, &page_of(bytes), second)?;
+    file.put(&operations(), page, &letter, second)?;
     put_frame(alloc, second.as_slice(), answer)
 }
 

@@ -7,6 +7,7 @@ use crate::frames::{asked_of, called_of};
 use crate::layers::{frame_of, put_frame, put_taken, right_word};
 use coherency_layer::{Asked, Called};
 use marshal_buf::Buf;
+use page_messages::Letter;
 use std::alloc::Global;
 use tower_core::Right;
 use trial_parts::{Subject, operations};
@@ -32,12 +33,14 @@ impl OneLeaf {
     /// The ground answers a question about a page of zeros, and the leaf takes the answer or not.
     fn answered(&mut self, what: Asked, page: u32, answer: &mut String) -> Result<(), Halt> {
         let ops = operations();
-        if self.leaf.file().page_size != 64 {
+        let file = self.leaf.file();
+        if file.page_size != 64 {
             return Err(Halt::Impossible);
         }
+        let zeros = [0; 64];
+        let letter = Letter::answer(self.leaf.right(page), &zeros, what);
         self.second.clear();
-        self.leaf
-            .ground_answer(&ops, what, page, &[0; 64], &mut self.second)?;
+        file.put(&ops, page, &letter, &mut self.second)?;
         let frame = frame_of(&ops, self.second.as_slice())?;
         put_taken(self.leaf.accept_reply(&frame), answer)?;
         self.put_victim(answer)
@@ -71,9 +74,11 @@ impl OneLeaf {
         page: u32,
         answer: &mut String,
     ) -> Result<(), Halt> {
+        let letter = Letter::order(what);
         self.first.clear();
         self.leaf
-            .ground_order(&operations(), what, page, &mut self.first)?;
+            .file()
+            .put(&operations(), page, &letter, &mut self.first)?;
         put_frame(alloc, self.first.as_slice(), answer)
     }
 

@@ -61,7 +61,20 @@ fn try_sync(
     Ok(answer.push('\n')?)
 }
 
-/// Does a step of an open tower: a try, or room and turns.
+/// Appends the head of a frame, and the first three bytes of its data.
+fn put_start(alloc: Global, frame: &[u8], answer: &mut String) -> Result<(), Halt> {
+    put_hex(alloc, &frame[..frame.len().min(27)], answer)?;
+    Ok(answer.push('\n')?)
+}
+
+/// Appends how the two frames of the last message begin.
+fn put_frames(alloc: Global, tower: &Tower<Ram>, answer: &mut String) -> Result<(), Halt> {
+    let (first, second) = tower.frames();
+    put_start(alloc, first, answer)?;
+    put_start(alloc, second, answer)
+}
+
+/// Does a step of an open tower: a try, its frames, or room and turns.
 fn over_open(
     alloc: Global,
     tower: &mut Tower<Ram>,
@@ -77,6 +90,7 @@ fn over_open(
             let (caller, node) = two(caller, node)?;
             try_access(alloc, tower, caller, node, &access_of(alloc, op)?, answer)
         }
+        ["frames"] => put_frames(alloc, tower, answer),
         ["events"] => Ok(writeln!(answer, "{} events", tower.len())?),
         ["reserve", reads] => Ok(tower.reserve(number(reads)?)?),
         ["give", "up", caller] => {

@@ -38,6 +38,7 @@ impl Buffer {
             ["u64", number] => self.buf.put_u64(count_of(number)),
             ["door", door] => self.buf.put_door(door_of(door)),
             ["bytes", word] => self.put(alloc, word, answer),
+            ["counted", word] => self.put_counted(alloc, word, answer),
             ["raw", word] => {
                 self.buf.clear();
                 self.put(alloc, word, answer)
@@ -65,6 +66,20 @@ impl Buffer {
             return say(answer, "impossible");
         }
         self.buf.put_bytes(&bytes)
+    }
+
+    /// Puts the bytes of a word behind their length.
+    fn put_counted(
+        &mut self,
+        alloc: Global,
+        word: &str,
+        answer: &mut String,
+    ) -> Result<(), AllocError> {
+        let bytes = bytes_of(alloc, word)?;
+        if bytes.len() > 10_000 || self.buf.bytes_len() > MOST {
+            return say(answer, "impossible");
+        }
+        self.buf.put_counted(&bytes)
     }
 
     /// What the buffer has.
@@ -113,6 +128,10 @@ fn read_one(reader: &mut Reader<'_>, call: &str, answer: &mut String) -> Result<
         "door" => match reader.get_door() {
             Ok(door) => say_door(answer, door)?,
             Err(bad) => return refused(answer, bad),
+        },
+        "counted" => match reader.get_counted() {
+            Ok(bytes) => say_hex(answer, bytes)?,
+            Err(short) => return refused(answer, short),
         },
         "rest" => say_hex(answer, reader.rest())?,
         _ => return read_part(reader, call, answer),

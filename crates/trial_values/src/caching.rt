@@ -13,7 +13,7 @@ use seen_values::Text;
 use stack_accept::Mounted;
 use std::alloc::{AllocError, Global};
 use sub_caching::{CACHING, Caching};
-use sub_core::{Form, Object, ObjectErr, Route, Subcontract, name_of};
+use sub_core::{MANAGER, Object, ObjectErr, Route, Subcontract};
 use trial_words::say;
 
 /// An object with a door of a domain.
@@ -24,7 +24,7 @@ fn object(alloc: Global, door: usize) -> Result<Object, AllocError>
         sub: CACHING,
         door,
         tag: 0,
-        name: Text::of(alloc, name_of(Form::Managed))?,
+        name: Text::of(alloc, MANAGER)?,
         life: 0,
     })
 }

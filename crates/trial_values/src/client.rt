@@ -7,13 +7,11 @@ ghost use Rattle.client_objects.specs.Objects.{IsOnStack, object_of};
 use crate::basic::parts;
 use crate::say::{say_hex, short_of, small_of};
 use crate::stack::mounted;
-use client_objects::{Found, NotReceived, Objects, bound_object};
+use client_objects::{Found, NotReceived, ObjectKind, Objects, bound_object};
 use marshal_buf::Buf;
 use seen_values::Text;
 use stack_accept::Mounted;
 use std::alloc::{AllocError, Global};
-use sub_basic::{CLUSTER, SINGLETON};
-use sub_caching::CACHING;
 use trial_words::say;
 
 /// `client CALL ..` over the stack of the case.
@@ -28,11 +26,10 @@ pub fn step(
     };
     match words {
         ["open", sub, view, file, machine] => {
-            let (sub, view, file) = (short_of(sub), small_of(view), small_of(file));
-            if sub != SINGLETON && sub != CLUSTER && sub != CACHING {
+            let Some(kind) = ObjectKind::of(short_of(sub)) else {
                 return say(answer, "impossible");
-            }
-            let stored = bound_object(alloc, sub, view, file)?;
+            };
+            let stored = bound_object(alloc, kind, "t/k", small_of(view), small_of(file))?;
             say_hex(answer, stored.as_slice())?;
             walk(alloc, &mounted, small_of(machine), &stored, answer)
         }
@@ -47,7 +44,7 @@ pub fn step(
 /// Appends where an object leads.
 fn say_found(found: &Found, answer: &mut String) -> Result<(), AllocError> {
     let target = &found.target;
-    let (sub, tag, view) = (target.sub, target.tag, target.view);
+    let (sub, tag, view) = (target.kind.id(), target.tag, target.view);
     let (file, life, node) = (target.file, target.life, found.node);
     write!(
         answer,

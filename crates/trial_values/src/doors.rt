@@ -79,6 +79,13 @@ impl Doors {
                     Err(NoDoor { id: told }) => lacking(answer, id, told),
                 }
             }
+            ["exchange", word, door] => {
+                let id = id_of(&self.held, word);
+                match self.domain.exchange(id, door_of(door)) {
+                    Ok(had) => say_door(answer, had),
+                    Err(NoDoor { id: told }) => lacking(answer, id, told),
+                }
+            }
             ["take", word] => {
                 let id = id_of(&self.held, word);
                 match self.domain.take_out(id) {

@@ -225,11 +225,16 @@ fn call_frame(alloc: Global, call: FileCall, answer: &mut String) -> Result<(), 
     say_hex(answer, buf.as_slice())?;
     match read_call(alloc, &ops, page_size, buf.as_slice()) {
         Ok(received) => {
-            let (subcontract, tag) = (received.subcontract, received.tag);
+            let (subcontract, tag) = (received.subcontract(), received.tag());
             writeln!(answer, "subcontract {subcontract} tag {tag}")?;
-            let read = through_frame(alloc, &ops, page_size, 1, 0, received.call)?;
+            let read = through_frame(alloc, &ops, page_size, 1, 0, received.into_call())?;
+            let (subcontract, tag) = (read.subcontract(), read.tag());
+            writeln!(
+                answer,
+                "through a frame: subcontract {subcontract} tag {tag}"
+            )?;
             let mut again = Buf::new(alloc);
-            put_call(&ops, page_size, 2, 5, &read, &mut again)?;
+            put_call(&ops, page_size, 2, 5, &read.into_call(), &mut again)?;
             say_again(answer, buf.as_slice(), again.as_slice())
         }
         Err(why) => writeln!(answer, "{why}"),

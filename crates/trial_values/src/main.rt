@@ -9,6 +9,7 @@ mod client;
 mod doors;
 mod frame;
 mod names;
+mod packet;
 mod registry;
 mod say;
 mod space;
@@ -76,6 +77,7 @@ impl Trial for ValueTrial {
             "buffer" => self.buffer.step(alloc, rest, answer),
             "value" => self.values.step(alloc, rest, body, answer),
             "frame" => self.frames.step(alloc, rest, answer),
+            "packet" => packet::step(alloc, rest, answer),
             "doors" => self.doors.step(alloc, rest, answer),
             "registry" => registry::step(alloc, rest, answer),
             "basic" => basic::step(alloc, rest, &self.stack, answer),

@@ -2,6 +2,7 @@
 
 ghost use Rattle.std.specs.Prelude.{◌≡◌, ◌==◌, if◌then◌else◌};
 ghost use Rattle.sub_core.specs.declared.shape.Form.TheVariants.{Tagged, Managed};
+ghost use Rattle.sub_core.specs.Forms.{IsNameOf};
 
 use crate::say::{bytes_of, door_of, say_door, say_hex, short_of, small_of};
 use domain_doors::{Domain, NoDoor};
@@ -9,7 +10,7 @@ use marshal_buf::{Buf, Reader};
 use seen_values::Text;
 use std::alloc::{AllocError, Global};
 use sub_core::{
-    Form, Object, ObjectErr, Registry, consume_held, copy_held, marshal_as, name_of, read_fields,
+    Form, MANAGER, Object, ObjectErr, Registry, consume_held, copy_held, marshal_as, read_fields,
     unmarshal_any, unmarshal_as,
 };
 use trial_words::say;
@@ -45,6 +46,13 @@ fn form_of(id: u16) -> Form
     ensures { result ≡ (if id == 7 then Tagged else Managed) }
 {
     if id == 7 { Form::Tagged } else { Form::Managed }
+}
+
+/// The name of the objects of a subcontract.
+fn name_of(id: u16) -> &'static str
+    ensures { IsNameOf (if id == 7 then Tagged else Managed) result.now }
+{
+    if id == 7 { "" } else { MANAGER }
 }
 
 /// Appends the door that a domain holds under an identifier.
@@ -85,7 +93,10 @@ fn send(
 ) -> Result<(), AllocError> {
     let mut domain = Domain::new(alloc);
     let door = domain.add(door_of(door))?;
-    let name = Text::of(alloc, name_of(form_of(sub)))?;
+    if sub != 7 && tag != 0 {
+        return say(answer, "impossible");
+    }
+    let name = Text::of(alloc, name_of(sub))?;
     let object = Object {
         sub,
         door,

@@ -5,8 +5,7 @@ ghost use Rattle.marshal_buf.specs.Held.{IsAsBefore};
 ghost use Rattle.pager_channel.specs.Frame.{IsFrame};
 ghost use Rattle.page_messages.specs.declared.refusal.NodeErr.{NodeErr as ARefusal};
 ghost use Rattle.page_messages.specs.Paged.{page_about};
-ghost use Rattle.page_messages.specs.Rights.{IsForPage};
-ghost use Rattle.page_messages.specs.Letters.{IsLetter, question, answer, order, reply};
+ghost use Rattle.page_messages.specs.Letters.{IsLetter, question, reply};
 ghost use Rattle.page_messages.specs.Sealed.{sealed, PutsFrame};
 ghost use Rattle.vmm_cache.specs.Leaf.{file_of, side, MayAskAbout, MayObeyAt, AllowsFirst, IsRefusal, WritesReply};
 
@@ -82,44 +81,5 @@ impl Leaf {
             Ok(()) => Ok(()),
             Err(_) => Err(NodeErr::Memory),
         }
-    }
-
-    /// Writes what this leaf is answered by the ground, which has no table, where it has this page. It cannot be refused
-    /// where there is room for a head and a page; want of memory leaves the bytes as they were.
-    pub fn ground_answer(
-        &self,
-        ops: &Ops,
-        what: Asked,
-        page: u32,
-        bytes: &[u8],
-        buf: &mut Buf,
-    ) -> Result<(), AllocError>
-        requires bytes { IsForPage what → length bytes.now ≡ (file_of self.now).page_size }
-        requires few { length buf.old.bytes < 2 ^ 31 }
-        ensures ok { OnOk result (PutsFrame (sealed ops.now (file_of self.now) page (answer (side self.now page).right bytes.now what)) buf.old buf.new) }
-        ensures frame { IsFrame ops.now (sealed ops.now (file_of self.now) page (answer (side self.now page).right bytes.now what)) }
-        ensures err { OnErr result (IsAsBefore buf.old buf.new) }
-        ensures room { 24 + (file_of self.now).page_size ≤ buf.old.spare → IsOk result }
-    {
-        let letter = Letter::answer(self.right(page), bytes, what);
-        self.file.put(ops, page, &letter, buf)
-    }
-
-    /// Writes what this leaf is ordered to do by the ground, which has no table. It cannot be refused where there is room
-    /// for a head and a page; want of memory leaves the bytes as they were.
-    pub fn ground_order(
-        &self,
-        ops: &Ops,
-        what: Called,
-        page: u32,
-        buf: &mut Buf,
-    ) -> Result<(), AllocError>
-        requires few { length buf.old.bytes < 2 ^ 31 }
-        ensures ok { OnOk result (PutsFrame (sealed ops.now (file_of self.now) page (order what)) buf.old buf.new) }
-        ensures frame { IsFrame ops.now (sealed ops.now (file_of self.now) page (order what)) }
-        ensures err { OnErr result (IsAsBefore buf.old buf.new) }
-        ensures room { 24 + (file_of self.now).page_size ≤ buf.old.spare → IsOk result }
-    {
-        self.file.put(ops, page, &Letter::order(what), buf)
     }
 }

@@ -1,5 +1,4 @@
-use Rattle.std.proofs.Common.{◌≡◌, ◌∙◌, ap, sym, arith}
-use Rattle.file_frames.specs.declared.call.Received.{Received}
+use Rattle.std.proofs.Common.{◌≡◌, ◌∙◌, sym, arith}
 use Rattle.file_frames.specs.declared.why.CallWhy.{CallWhy}
 use Rattle.file_frames.proofs.ReadLaws.{can_be_read}
 use Rattle.file_frames.proofs.through.through_frame.Goals as goal
@@ -7,7 +6,7 @@ use Rattle.file_frames.proofs.through.through_frame.Goals as goal
 pub returns-in-Ok : goal.returns-in-Ok
 returns-in-Ok c =
     let is = can_be_read c.args.page_size c.args.subcontract c.args.tag c.args.call c.requires.subcontract (omega arith) c.requires.call in
-    ap (λ (x : Received). x.call) (c.in-Ok.ensures.only _ is (c.as_slice.ensures.value ∙ c.in_ok-buf.ensures))
+    c.in-Ok.ensures.only _ is (c.as_slice.ensures.value ∙ c.in_ok-buf.ensures)
 
 pub unreachable-requires : goal.unreachable-requires
 unreachable-requires c =

@@ -33,3 +33,8 @@ pub returns-clause-follows : goal.returns-clause-follows
 returns-clause-follows c =
     let two = pairs.two_parted c.args.tree.now c.args.pages c.args.page c.args.nodes.now c.args.node c.index-high-0.result c.index-low-above.result c.call_below.new.own c.in-Layer.upper c.call_below.new.above c.requires.tables c.requires.upper c.split_at_mut-low.ensures.front c.split_at_mut-low.ensures.back c.in-Layer.is c.parent-above.ensures.value c.parent-above.ensures.below in
     pairs.called_follows c.args.tree.now _ _ c.args.node _ _ _ _ two c.args.pages c.args.page c.requires.tables c.args.what c.call_below.ensures.own
+
+pub returns-clause-went : goal.returns-clause-went
+returns-clause-went c =
+    let two = pairs.two_parted c.args.tree.now c.args.pages c.args.page c.args.nodes.now c.args.node c.index-high-0.result c.index-low-above.result c.call_below.new.own c.in-Layer.upper c.call_below.new.above c.requires.tables c.requires.upper c.split_at_mut-low.ensures.front c.split_at_mut-low.ensures.back c.in-Layer.is c.parent-above.ensures.value c.parent-above.ensures.below in
+    pairs.called_frames c.args.tree.now _ _ c.args.node _ _ _ _ two c.call_below.new.self c.args.page c.args.what c.call_below.ensures.went

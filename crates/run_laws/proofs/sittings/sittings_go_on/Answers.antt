@@ -1,14 +1,11 @@
-use Rattle.run_laws.proofs.SittingLaws.{closed-goes-on, each-sync-is-dumped, looks-go-on, refusals-go-on, runs-are-seen}
+use Rattle.run_laws.proofs.SittingLaws.{closed-are-seen, each-sync-is-dumped, runs-are-seen, sittings-go-on}
 use Rattle.run_laws.proofs.sittings.sittings_go_on.Goals as goal
 
-pub returns-clause-looks : goal.returns-clause-looks
-returns-clause-looks c = looks-go-on
-
-pub returns-clause-refusals : goal.returns-clause-refusals
-returns-clause-refusals c = refusals-go-on
+pub returns-clause-sittings : goal.returns-clause-sittings
+returns-clause-sittings c = sittings-go-on
 
 pub returns-clause-closed : goal.returns-clause-closed
-returns-clause-closed c = closed-goes-on
+returns-clause-closed c = closed-are-seen
 
 pub returns-clause-seen : goal.returns-clause-seen
 returns-clause-seen c = runs-are-seen

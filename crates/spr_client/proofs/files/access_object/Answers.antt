@@ -1,4 +1,4 @@
-use Rattle.std.proofs.Common.{sym, ap, ◌∙◌}
+use Rattle.std.proofs.Common.{ℕ, sym, ap, ◌∙◌}
 use Rattle.hist_plain.specs.declared.event.Op.{Op}
 use Rattle.run_defs.specs.Plan.{asking, access, node_at, plan_call}
 use Rattle.spr_client.proofs.LineLaws.{done-as, done-lacks}
@@ -16,6 +16,8 @@ returns g c =
     let found = c.args.found in
     let target = found.target in
     let state = c.args.client.now.state in
-    done-as mount c.args.client.now.caller state (plan_call state (asking target.file (access found.node target.life c.in-Ok-framed.op))) _ c.args.pass.now c.answer_access.new.pass c.answer_access.result state
-    (ap (λ (op : Op). plan_call state (asking target.file (access (node_at mount state target) target.life op))) (sym c.in-Ok-framed.ensures)
-    ∙ ap (λ n. plan_call state (asking target.file (access n target.life c.in-Ok-framed.op))) (sym c.requires.node)) c.answer_access.ensures
+    let op = c.in-Ok-framed.op in
+    done-as mount c.args.client.now.caller state (plan_call state (asking c.in-Ok-framed.file (access found.node target.life op))) _ c.args.pass.now c.answer_access.new.pass c.answer_access.result state
+    (ap (λ (o : Op). plan_call state (asking target.file (access (node_at mount state target) target.life o))) (sym c.in-Ok-framed.ensures.op)
+    ∙ ap (λ n. plan_call state (asking target.file (access n target.life op))) (sym c.requires.node)
+    ∙ ap (λ (n : ℕ). plan_call state (asking n (access found.node target.life op))) (sym c.in-Ok-framed.ensures.file)) c.answer_access.ensures

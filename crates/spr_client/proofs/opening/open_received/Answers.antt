@@ -31,7 +31,8 @@ returns-in-Ok-access_at-clause-done g c = λ objects name is.
     let go_on : Told → Plan = λ told. ends (reply_of told) (holding state (with_object objects name (opened target told))) in
     let answered = c.in-Ok-access_at.answered in
     let out : List ℕ = c.access_at.new.out in
-    let there = subst (λ (op : Op). CallDone caller (asking target.file (access c.args.found.node 0 op)) c.args.pass.now c.access_at.new.pass out c.access_at.result) c.in-Ok.ensures c.access_at.ensures in
+    let at_file = subst (λ (n : ℕ). CallDone caller (asking n (access c.args.found.node 0 c.in-Ok.op)) c.args.pass.now c.access_at.new.pass out c.access_at.result) c.in-Ok.ensures.file c.access_at.ensures in
+    let there = subst (λ (op : Op). CallDone caller (asking target.file (access c.args.found.node 0 op)) c.args.pass.now c.access_at.new.pass out c.access_at.result) c.in-Ok.ensures.op at_file in
     let called = subst (λ n. CallDone caller (asking target.file (access n 0 ops.Open)) c.args.pass.now c.access_at.new.pass out c.access_at.result) c.requires.node there in
     let done = subst (λ r. CallDone caller ask c.args.pass.now c.access_at.new.pass out r) c.in-Ok-access_at.is called in
     plan-ok mount c.args.common.now.volume.now caller (plan_found mount state name (Some target)) ask state go_on c.args.pass.now c.access_at.new.pass out answered c.reply_to.result (holding state c.set_life.new.self) c.requires.may refl done
@@ -52,7 +53,8 @@ returns-clause-done g c = λ objects name is.
     let ask : Request = asking target.file (access (node_at mount state target) 0 ops.Open) in
     let go_on : Told → Plan = λ told. ends (reply_of told) (holding state (with_object objects name (opened target told))) in
     let out : List ℕ = c.access_at.new.out in
-    let there = subst (λ (op : Op). CallDone caller (asking target.file (access c.args.found.node 0 op)) c.args.pass.now c.access_at.new.pass out c.access_at.result) c.in-Ok.ensures c.access_at.ensures in
+    let at_file = subst (λ (n : ℕ). CallDone caller (asking n (access c.args.found.node 0 c.in-Ok.op)) c.args.pass.now c.access_at.new.pass out c.access_at.result) c.in-Ok.ensures.file c.access_at.ensures in
+    let there = subst (λ (op : Op). CallDone caller (asking target.file (access c.args.found.node 0 op)) c.args.pass.now c.access_at.new.pass out c.access_at.result) c.in-Ok.ensures.op at_file in
     let called = subst (λ n. CallDone caller (asking target.file (access n 0 ops.Open)) c.args.pass.now c.access_at.new.pass out c.access_at.result) c.requires.node there in
     let done = subst (λ r. CallDone caller ask c.args.pass.now c.access_at.new.pass out r) c.in-Err.is called in
     subst (λ (os : List OpenObject). PlanDone mount caller (plan_found mount state name (Some target)) c.args.pass.now c.access_at.new.pass c.refused.result (holding state os)) (sym (c.give_up_last-in-Err.ensures.last objects name target is))

@@ -24,7 +24,8 @@ returns-clause-ok c =
     id.ensures.place
     id.ensures.taken
     fields.ensures.value
-    fields.ensures.of
+    fields.ensures.tag
+    fields.ensures.name
     fields.ensures.taken
     object.ensures.object
     object.ensures.vacant

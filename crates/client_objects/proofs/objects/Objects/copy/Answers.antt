@@ -22,7 +22,7 @@ pub invariant_of-self-2 : goal.invariant_of-self-2
 invariant_of-self-2 c =
     let within : c.in-Some.place < length c.self.inside.entries.items = rw (← c.deref.ensures.value) c.in-Some.ensures.within in
     let at : c.index.result.now ≡ slice_index_or c.self.inside.entries.items c.in-Some.place c.index.result.now = rw (← c.reserve.ensures.items) c.index.ensures in
-    let entry : Entry = record { name = c.args.other; object = c.in_ok-object.object } in
+    let entry : Entry = record { name = c.args.other; kind = c.index.result.now.kind; object = c.in_ok-object.object } in
     let items = c.push_reserved.ensures.items ∙ ap (λ (es : List Entry). es ++ entry ∷ []) c.reserve.ensures.items in
     subst (λ (es : List Entry). AreHeld c.copy_of.new.domain es) (sym items)
     (are_held-copy c.self.inside.domain c.copy_of.new.domain c.self.inside.entries.items c.in-Some.place c.index.result.now c.args.other c.in_ok-object.object c.self.invariant within at c.in_ok-object.ensures.ok)
@@ -32,12 +32,12 @@ returns-clause-ok c target is =
     let found : position (λ (e : Entry). bytes_eq e.name c.args.name.now) c.self.inside.entries.items ≡ Some c.in-Some.place =
     rw (← c.deref.ensures.value) (sym c.place_of.ensures.place ∙ c.in-Some.is) in
     let at : c.index.result.now ≡ slice_index_or c.self.inside.entries.items c.in-Some.place c.index.result.now = rw (← c.reserve.ensures.items) c.index.ensures in
-    let here : object_of c.args.name.now c.args.self.now ≡ Some (target_in c.self.inside.domain c.index.result.now.object) =
+    let here : object_of c.args.name.now c.args.self.now ≡ Some (target_in c.self.inside.domain c.index.result.now.kind c.index.result.now.object) =
     ap (object_of c.args.name.now) (sym c.self.view_is) ∙ object_of-at c.self.inside.domain c.args.name.now c.self.inside.entries.items c.in-Some.place c.index.result.now found at in
-    let same : target_in c.self.inside.domain c.index.result.now.object ≡ target = cc (here, is) in
-    let entry : Entry = record { name = c.args.other; object = c.in_ok-object.object } in
+    let same : target_in c.self.inside.domain c.index.result.now.kind c.index.result.now.object ≡ target = cc (here, is) in
+    let entry : Entry = record { name = c.args.other; kind = c.index.result.now.kind; object = c.in_ok-object.object } in
     let items = c.push_reserved.ensures.items ∙ ap (λ (es : List Entry). es ++ entry ∷ []) c.reserve.ensures.items in
     ap (seen c.copy_of.new.domain) items
     ∙ seen-copy c.self.inside.domain c.copy_of.new.domain c.self.inside.entries.items c.index.result.now c.args.other c.in_ok-object.object c.self.invariant c.in_ok-object.ensures.ok
-    ∙ ap (λ (os : List OpenObject). with_object os c.args.other (target_in c.self.inside.domain c.index.result.now.object)) c.self.view_is
+    ∙ ap (λ (os : List OpenObject). with_object os c.args.other (target_in c.self.inside.domain c.index.result.now.kind c.index.result.now.object)) c.self.view_is
     ∙ ap (λ (t : Target). with_object c.args.self.now c.args.other t) same

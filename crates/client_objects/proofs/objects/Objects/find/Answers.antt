@@ -34,4 +34,4 @@ returns-clause-is c =
 
 pub returns-clause-chosen : goal.returns-clause-chosen
 returns-clause-chosen c =
-    subst (λ (f : Found). IsChosen f.target) (sym c.found_of.ensures) (chosen_in c.self.inside.domain c.index.result.now.object)
+    subst (λ (f : Found). IsChosen f.target) (sym c.found_of.ensures) (chosen_in c.self.inside.domain c.index.result.now.kind c.index.result.now.object)

@@ -21,7 +21,7 @@ invariant_of-self-clause-tables g c =
 pub returns-clause-sent : goal.returns-clause-sent
 returns-clause-sent g c =
     let one = singles.one_is c.args.self.now.tree c.args.self.now.file c.args.self.now.nodes.items c.args.node c.index_mut-own.result.now c.ask_ground.new.own c.args.self.now.tables c.requires.upper c.index_mut-own.ensures.value in
-    on_ok c.ask_ground.result (singles.answered_sent c.args.self.now.tree c.args.self.now.file _ _ c.args.node _ _ c.args.self.now.tables one c.args.page c.requires.upper c.requires.on_ground _ c.args.what c.requires.about_page c.requires.may.own) c.ask_ground.ensures.own
+    on_ok c.ask_ground.result (singles.answered_sent c.args.self.now.tree c.args.self.now.file _ _ c.args.node _ _ c.args.self.now.tables one c.args.page c.requires.upper c.requires.on_ground _ _ c.args.what c.requires.about_page c.requires.may.own) c.ask_ground.ensures.own
 
 pub returns-clause-follows : goal.returns-clause-follows
 returns-clause-follows g c =
@@ -40,3 +40,8 @@ returns-clause-idle g c = λ needless.
     c.ask_ground.ensures.idle
     (subst (λ (s : Side). IsForPage c.args.what → s.right ≢ Right.Nothing) at (asked_has c.args.self.now.tree c.args.node c.args.what (sides_in c.args.self.now.nodes.items c.args.page) c.requires.on_ground needless))
     (subst (λ (s : Side). asked_up s c.args.what ≡ None) at (asked_nothing c.args.self.now.tree c.args.node c.args.what (sides_in c.args.self.now.nodes.items c.args.page) c.requires.on_ground needless))
+
+pub returns-clause-went : goal.returns-clause-went
+returns-clause-went g c =
+    let one = singles.one_is c.args.self.now.tree c.args.self.now.file c.args.self.now.nodes.items c.args.node c.index_mut-own.result.now c.ask_ground.new.own c.args.self.now.tables c.requires.upper c.index_mut-own.ensures.value in
+    on_ok c.ask_ground.result (singles.answered_frames c.args.self.now.tree c.args.self.now.file _ _ c.args.node _ _ c.args.self.now.tables one c.args.page c.requires.upper c.requires.on_ground _ _ c.args.what c.requires.about_page) c.ask_ground.ensures.own

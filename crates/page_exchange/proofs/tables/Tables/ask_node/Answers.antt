@@ -21,3 +21,7 @@ returns-in-Err-clause-ground c = sending.asked_none _ c.args.node c.args.what _ 
 
 pub returns-in-Err-clause-left : goal.returns-in-Err-clause-left
 returns-in-Err-clause-left c = let s = lent.left_back c.args.self.now.tree c.args.self.now.file c.args.self.now.nodes.items c.deref_mut.result.now c.ask_in.new.nodes c.args.self.now.nodes.len c.args.self.now.tables c.args.self.now.nodes.ok.0 c.deref_mut.ensures.value c.ask_in.ensures.tables c.in-Err.ensures.left in record { sides = s.sides; uses = s.uses }
+
+pub returns-in-Ok-clause-went : goal.returns-in-Ok-clause-went
+returns-in-Ok-clause-went c =
+    lent.asked_frames_back c.args.self.now.tree c.args.self.now.file c.args.self.now.nodes.items c.deref_mut.result.now c.ask_in.new.nodes c.args.self.now.nodes.len c.args.self.now.tables c.args.self.now.nodes.ok.0 c.deref_mut.ensures.value c.ask_in.ensures.tables c.args.page c.args.node c.ask_in.ensures.apart c.ask_in.new.wire c.args.what c.requires.above c.in-Ok.ensures.ok c.ask_in.ensures.went

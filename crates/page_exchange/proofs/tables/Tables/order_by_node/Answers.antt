@@ -14,3 +14,6 @@ returns-clause-follows c = lent.follows_back c.args.self.now.tree c.args.self.no
 
 pub returns-clause-ground : goal.returns-clause-ground
 returns-clause-ground c = sending.called_none _ c.args.node c.args.what _ c.requires.above
+
+pub returns-clause-went : goal.returns-clause-went
+returns-clause-went c = lent.called_frames_back c.args.self.now.tree c.args.self.now.file c.args.self.now.nodes.items c.deref_mut.result.now c.call_in.new.nodes c.args.self.now.nodes.len c.args.self.now.tables c.args.self.now.nodes.ok.0 c.deref_mut.ensures.value c.call_in.ensures.tables c.args.page c.args.node c.call_in.ensures.apart c.call_in.new.wire c.args.what c.call_in.ensures.went
