@@ -54,8 +54,8 @@ def pack_row(file, index, row, stack, texts):
 
 def pack_message(file, index, row, node, texts):
     """What a message's row has behind the rest: its heads, its sentence, its call's row, and the reason."""
-    reason, pager = file.reasons.found.get(index), node.parent.name if node and node.parent else "?"
-    said = [texts.place(head) for head in row.heads] + [texts.place(message_words(row, pager) + ".")]
+    reason = file.reasons.found.get(index)
+    said = [texts.place(head) for head in row.heads] + [texts.place(message_words(row, node) + ".")]
     return said + ([-1, -1] if reason is None else [reason.call, texts.place(reason.words)])
 
 

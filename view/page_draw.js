@@ -31,10 +31,10 @@ function bars(of, before, after) {
   return drawn;
 }
 
-function arrow(from, to, y, thick) {
+function arrow(from, to, y, thick, far) {
   const way = to > from ? 1 : -1, begin = from + way * 8, end = to - way * 8;
   const size = thick ? 9 : 6, half = thick ? 5 : 3;
-  return `<path class="${thick ? "thick" : "thin"}" d="M${begin} ${y}H${end - way * size}"/>` +
+  return `<path class="${thick ? "thick" : "thin"}${far ? " far" : ""}" d="M${begin} ${y}H${end - way * size}"/>` +
     `<path class="tip" d="M${end} ${y}l${-way * size} ${-half}v${2 * half}z"/>`;
 }
 
@@ -42,7 +42,8 @@ function messageArrows(row) {
   if (row[3] <= 0) return "";
   const [first, second] = headsOf(row), node = centre(row[3]), pager = centre(nodes[row[3]].parent);
   const [from, to] = data.orders.includes(kindOf(row)) ? [pager, node] : [node, pager];
-  return arrow(from, to, 15, first.flags & 1) + arrow(to, from, 23, second.flags & 1) +
+  const far = nodes[row[3]].machine !== nodes[nodes[row[3]].parent].machine;
+  return arrow(from, to, 15, first.flags & 1, far) + arrow(to, from, 23, second.flags & 1, far) +
     `<text class="name" x="${(from + to) / 2}" y="10">${kindOf(row)}</text>`;
 }
 

@@ -30,6 +30,7 @@ STYLE = """
   .full { fill: var(--write); } .core { fill: var(--core); }
   .ground { stroke: var(--ground); stroke-width: 1.5; fill: none; }
   .thin { stroke: var(--ink); fill: none; } .thick { stroke: var(--ink); stroke-width: 3.4; fill: none; }
+  .far { stroke-dasharray: 7 3; }
   .tip { fill: var(--ink); } .mark { fill: var(--back); stroke: var(--ink); stroke-width: 1.6; }
   .solid { fill: var(--ink); } .span { stroke: var(--good); stroke-width: 2; fill: none; } .dot { fill: var(--good); }
 """
@@ -47,12 +48,13 @@ def bar(x, top, bottom, right, changed):
         x - 5, top, high, x - 5, top, bottom, x + 5, top, bottom) + core
 
 
-def arrow(begin, end, y, thick):
-    """A frame that goes from one height of a column to another column's, thick if it brings the page."""
+def arrow(begin, end, y, thick, far=False):
+    """A frame that goes from a column to another one, thick if it brings the page, and broken if in a packet."""
     way, size, half = (1 if end > begin else -1), (9 if thick else 6), (5 if thick else 3)
     begin, end = begin + 8 * way, end - 8 * way
+    look = ("thick" if thick else "thin") + (" far" if far else "")
     return '<path class="%s" d="M%g %gH%g"/><path class="tip" d="M%g %gl%g %gv%gz"/>' % (
-        "thick" if thick else "thin", begin, y, end - way * size, end, y, -way * size, -half, 2 * half)
+        look, begin, y, end - way * size, end, y, -way * size, -half, 2 * half)
 
 
 def call_words(row):
@@ -158,7 +160,8 @@ class Picture:
         here, pager = self.x[node.number], self.x[node.parent.number]
         begin, end = (pager, here) if row.kind in ORDERS else (here, pager)
         data = [read_head(head).flags & DATA for head in row.heads]
-        self.add("%s%s", arrow(begin, end, y + 15, data[0]), arrow(end, begin, y + 23, data[1]))
+        self.add("%s%s", arrow(begin, end, y + 15, data[0], node.is_far()),
+                 arrow(end, begin, y + 23, data[1], node.is_far()))
         self.text((begin + end) / 2, y + 10, "name", row.kind)
 
     def draw_call(self, row, y, effective):

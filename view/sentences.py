@@ -17,14 +17,16 @@ SENTENCES = {
 }
 
 
-def message_words(row, pager):
-    """What a message does, given the name of the node's pager."""
+def message_words(row, node):
+    """What a message does, given the node, or None if the stack has none of the name."""
+    pager = node.parent.name if node and node.parent else "?"
     heads = [read_head(head) for head in row.heads]
     right = ("nothing",) + ACCESS[1:]
-    return SENTENCES[row.kind].format(
+    said = SENTENCES[row.kind].format(
         node=row.node, pager=pager, page="page %d" % row.page,
         right=right[heads[0].access] if heads[0].access < len(right) else "nothing",
         along="its bytes go along" if (heads[0].flags | heads[1].flags) & DATA else "no bytes go along")
+    return said + (", in packets" if node and node.is_far() else "")
 
 
 def bytes_words(data):
@@ -58,7 +60,6 @@ def row_words(row, stack):
     if row.kind == "unreadable":
         return row.text
     if row.kind in MESSAGES:
-        node = stack.by_name.get(row.node)
-        return message_words(row, node.parent.name if node and node.parent else "?")
+        return message_words(row, stack.by_name.get(row.node))
     life = "" if row.kind in SYNCS + ENDS + ("open",) or not row.life else ", life %d" % row.life
     return "%s at %s%s: %s -> %s" % (row.caller, row.node, life, asked_words(row), answer_words(row))

@@ -31,6 +31,10 @@ class Node:
             self.depth = parent.depth + 1
             parent.children.append(self)
 
+    def is_far(self):
+        """Whether its pager is on another machine, so that its frames go as packets."""
+        return self.parent is not None and self.parent.machine != self.machine
+
     def subtree(self):
         """The node and every node below which it is the pager, this one first."""
         found = [self]

@@ -12,16 +12,17 @@ use Rattle.stack_accept.specs.Mount.{Mount, is_view_in}
 use Rattle.domain_doors.specs.Doors.{Doors, door_at, Updates}
 use Rattle.sub_core.specs.Fields.{Fields}
 use Rattle.sub_core.specs.declared.values.Object.{Object}
-use Rattle.sub_core.specs.Forms.{IsOf}
+use Rattle.sub_core.specs.Forms.{IsOf, IsTagOf}
 use Rattle.sub_core.specs.Calls.{door_of, CopiesObject, LeadsToView}
 use Rattle.sub_core.specs.Received.{UnmarshalsAny}
 use Rattle.client_objects.specs.declared.target.Target.{Target}
 use Rattle.client_objects.specs.declared.entry.Entry.{Entry}
 use Rattle.client_objects.specs.declared.kind.ObjectKind.{ObjectKind}
 use Rattle.client_objects.specs.Kinds.{is_built, form_at, id_of, form_of, file_of}
+use Rattle.client_objects.specs.Reconnected.{reconnected}
 use Rattle.client_objects.specs.Stored.{target_of}
 use Rattle.client_objects.proofs.KindLaws.{form_at-id}
-use Rattle.client_objects.specs.Objects.{OpenObject, IsOnStack, object_of, with_object, without}
+use Rattle.client_objects.specs.Objects.{OpenObject, IsOnStack, object_of, with_object, with_target, without, word_of}
 use Rattle.client_objects.specs.Held.{no_door, target_at, target_in, seen_entry, seen, IsHeld, IsOther, AreApart, AreHeld}
 
 abbrev HeldBy : Doors → Entry → Type 0
@@ -53,7 +54,7 @@ all_at P (y ∷ ys) (suc i) x all lt is = all_at P ys i x all.1 (omega arith) is
 -- an entry whose door has another identifier stays
 entry_stays : (old new : Doors) (id : ℕ) (what : Option Door) (entry : Entry) → Updates old new id what → IsOther id entry → seen_entry new entry ≡ seen_entry old entry
 entry_stays old new id what entry updates other =
-    ap (λ (held : Option Door). let seen : OpenObject = record { name = entry.name; target = target_at entry.kind entry.object (unwrap_or held no_door) } in seen) (updates.others entry.object.door other)
+    ap (λ (held : Option Door). let seen : OpenObject = record { name = entry.name; target = target_at entry.kind entry.object (unwrap_or held no_door); word = entry.object.name } in seen) (updates.others entry.object.door other)
 
 seen_stays : (old new : Doors) (id : ℕ) (what : Option Door) (entries : List Entry) → Updates old new id what → AllByRecursion (IsOther id) entries → seen new entries ≡ seen old entries
 seen_stays old new id what [] updates others = refl
@@ -108,12 +109,12 @@ are_held-push old new entries entry what held vacant updates some sub of =
     }
 
 pub seen-push : (old new : Doors) (entries : List Entry) (entry : Entry) (what : Option Door) → AreHeld old entries → door_at old entry.object.door ≡ None → Updates old new entry.object.door what
-    → seen new (entries ++ entry ∷ []) ≡ with_object (seen old entries) entry.name (target_at entry.kind entry.object (unwrap_or what no_door))
+    → seen new (entries ++ entry ∷ []) ≡ with_object (seen old entries) entry.name (target_at entry.kind entry.object (unwrap_or what no_door)) entry.object.name
 seen-push old new entries entry what held vacant updates =
     let others = others_of_vacant old entry.object.door entries vacant held.held in
     map-append (seen_entry new) entries (entry ∷ [])
     ∙ ap (λ (os : List OpenObject). os ++ seen_entry new entry ∷ []) (seen_stays old new entry.object.door what entries updates others)
-    ∙ ap (λ (door : Option Door). with_object (seen old entries) entry.name (target_at entry.kind entry.object (unwrap_or door no_door))) updates.changed
+    ∙ ap (λ (door : Option Door). with_object (seen old entries) entry.name (target_at entry.kind entry.object (unwrap_or door no_door)) entry.object.name) updates.changed
 
 apart_front : (entries : List Entry) (entry : Entry) → AreApart (entries ++ entry ∷ []) → AreApart entries
 apart_front [] entry apart = tt
@@ -272,6 +273,29 @@ missed domain name [] few = refl
 missed domain name (entry ∷ entries) few =
     missed_step (IsNamed name entry) (seen_entry domain entry) (first_named name (seen domain entries)) (length entries) (place name entries) few (missed domain name entries)
 
+abbrev word_found : Option OpenObject → List ℕ
+word_found found = unwrap_or (option_map (λ (o : OpenObject). o.word) found) []
+
+word_step : (domain : Doors) (b : Bool) (first entry : Entry) (entries : List Entry) (i rest : ℕ) (found : Option OpenObject) → cond (not b) (1 + rest) 0 ≡ i → i < length (first ∷ entries) → entry ≡ slice_index_or (first ∷ entries) i entry
+    → ((j : ℕ) → rest ≡ j → j < length entries → entry ≡ slice_index_or entries j entry → word_found found ≡ entry.object.name)
+    → word_found (cond b (Some (seen_entry domain first)) found) ≡ entry.object.name
+word_step domain true first entry entries zero rest found is lt at then = ap (λ (e : Entry). e.object.name) (sym at)
+word_step domain true first entry entries (suc i) rest found is lt at then = absurd (omega arith)
+word_step domain false first entry entries zero rest found is lt at then = absurd (omega arith)
+word_step domain false first entry entries (suc i) rest found is lt at then = then i (omega arith) (omega arith) at
+
+word_at : (domain : Doors) (name : List ℕ) (entries : List Entry) (i : ℕ) (entry : Entry) → place name entries ≡ i → i < length entries → entry ≡ slice_index_or entries i entry → word_of name (seen domain entries) ≡ entry.object.name
+word_at domain name [] i entry is lt at = absurd (omega arith)
+word_at domain name (first ∷ entries) i entry is lt at =
+    word_step domain (IsNamed name first) first entry entries i (place name entries) (first_named name (seen domain entries)) is lt at
+    (λ j next below there. word_at domain name entries j entry next below there)
+
+-- the word of the object of a name
+pub word_of-at : (domain : Doors) (name : List ℕ) (entries : List Entry) (i : ℕ) (entry : Entry) → position (IsNamed name) entries ≡ Some i → entry ≡ slice_index_or entries i entry → word_of name (seen domain entries) ≡ entry.object.name
+word_of-at domain name entries i entry at is =
+    let first = placed name entries i at in
+    word_at domain name entries i entry first.0 first.1 is
+
 -- no object has the name
 pub object_of-none : (domain : Doors) (name : List ℕ) (entries : List Entry) → position (IsNamed name) entries ≡ None → object_of name (seen domain entries) ≡ None
 object_of-none domain name entries none = missed domain name entries (unplaced name entries none)
@@ -300,10 +324,11 @@ are_held-copy old new entries i entry name copy held lt is copies =
     (is_of_copy entry.kind entry.object copy copies.same original.of)
 
 pub seen-copy : (old new : Doors) (entries : List Entry) (entry : Entry) (name : List ℕ) (copy : Object) → AreHeld old entries → CopiesObject entry.object copy old new
-    → seen new (entries ++ copied entry name copy ∷ []) ≡ with_object (seen old entries) name (target_in old entry.kind entry.object)
+    → seen new (entries ++ copied entry name copy ∷ []) ≡ with_object (seen old entries) name (target_in old entry.kind entry.object) entry.object.name
 seen-copy old new entries entry name copy held copies =
     seen-push old new entries (copied entry name copy) (door_of old entry.object) held copies.door.vacant copies.door.updates
-    ∙ ap (λ (t : Target). with_object (seen old entries) name t) (target_copy old new entry.kind entry.object copy copies)
+    ∙ ap (λ (t : Target). with_object (seen old entries) name t copy.name) (target_copy old new entry.kind entry.object copy copies)
+    ∙ ap (λ (o : Object). with_object (seen old entries) name (target_in old entry.kind entry.object) o.name) copies.same
 
 -- what was received has the form of its subcontract
 form_received : (kind : ObjectKind) (object : Object) → object.sub ≡ id_of kind → IsOf (form_at object.sub) object → IsOf (form_of kind) object
@@ -321,10 +346,11 @@ target_received kind object fields tag life =
     ∙ ap (λ (n : ℕ). let t : Target = record { kind = kind; tag = fields.tag; view = fields.door.node; file = file_of kind fields.door fields.tag; life = n } in t) life
 
 pub seen-receive : (old new : Doors) (entries : List Entry) (name : List ℕ) (kind : ObjectKind) (object : Object) (from end : Reading) → AreHeld old entries → (got : UnmarshalsAny is_built form_at old new from end object)
-    → seen new (entries ++ record { name = name; kind = kind; object = object } ∷ []) ≡ with_object (seen old entries) name (target_of kind got.reads.fields)
+    → seen new (entries ++ record { name = name; kind = kind; object = object } ∷ []) ≡ with_object (seen old entries) name (target_of kind got.reads.fields) got.reads.fields.name
 seen-receive old new entries name kind object from end held got =
     seen-push old new entries (record { name = name; kind = kind; object = object }) (Some got.reads.fields.door) held got.reads.vacant got.reads.enters
-    ∙ ap (λ (t : Target). with_object (seen old entries) name t) (target_received kind object got.reads.fields got.reads.tag got.reads.life)
+    ∙ ap (λ (t : Target). with_object (seen old entries) name t object.name) (target_received kind object got.reads.fields got.reads.tag got.reads.life)
+    ∙ ap (with_object (seen old entries) name (target_of kind got.reads.fields)) got.reads.name
 
 -- a received object is held, and its target is where its fields lead
 pub held-receive : (old new : Doors) (kind : ObjectKind) (object : Object) (from end : Reading) → object.sub ≡ id_of kind → UnmarshalsAny is_built form_at old new from end object → IsHeld new kind object
@@ -349,16 +375,16 @@ ends_same {X} (a ∷ xs) (b ∷ ys) x y same =
     let ends = ends_same xs ys x y tail in
     (ap (λ (first : X). first ∷ xs) head ∙ ap (λ (more : List X). b ∷ more) ends.0, ends.1)
 
-seen-ends : (domain : Doors) (entries : List Entry) (entry : Entry) (objects : List OpenObject) (name : List ℕ) (target : Target) → seen domain (entries ++ entry ∷ []) ≡ with_object objects name target
-    → (seen domain entries ≡ objects) × (seen_entry domain entry ≡ record { name = name; target = target })
-seen-ends domain entries entry objects name target is =
-    ends_same (seen domain entries) objects (seen_entry domain entry) (record { name = name; target = target }) (sym (map-append (seen_entry domain) entries (entry ∷ [])) ∙ is)
+seen-ends : (domain : Doors) (entries : List Entry) (entry : Entry) (objects : List OpenObject) (name word : List ℕ) (target : Target) → seen domain (entries ++ entry ∷ []) ≡ with_object objects name target word
+    → (seen domain entries ≡ objects) × (seen_entry domain entry ≡ record { name = name; target = target; word = word })
+seen-ends domain entries entry objects name word target is =
+    ends_same (seen domain entries) objects (seen_entry domain entry) (record { name = name; target = target; word = word }) (sym (map-append (seen_entry domain) entries (entry ∷ [])) ∙ is)
 
 -- the last object is given up
-pub seen-popped : (old new : Doors) (entries : List Entry) (entry : Entry) (objects : List OpenObject) (name : List ℕ) (target : Target) → AreHeld old (entries ++ entry ∷ []) → Updates old new entry.object.door None
-    → seen old (entries ++ entry ∷ []) ≡ with_object objects name target → seen new entries ≡ objects
-seen-popped old new entries entry objects name target held updates is =
-    seen-pop old new entries entry held updates ∙ (seen-ends old entries entry objects name target is).0
+pub seen-popped : (old new : Doors) (entries : List Entry) (entry : Entry) (objects : List OpenObject) (name word : List ℕ) (target : Target) → AreHeld old (entries ++ entry ∷ []) → Updates old new entry.object.door None
+    → seen old (entries ++ entry ∷ []) ≡ with_object objects name target word → seen new entries ≡ objects
+seen-popped old new entries entry objects name word target held updates is =
+    seen-pop old new entries entry held updates ∙ (seen-ends old entries entry objects name word target is).0
 
 all_seen : (P : OpenObject → Type 0) (domain : Doors) (entries : List Entry) → AllByRecursion P (seen domain entries) → AllByRecursion (λ (e : Entry). P (seen_entry domain e)) entries
 all_seen P domain [] all = tt
@@ -412,14 +438,14 @@ are_held-life domain entries i entry life held last is =
     subst (λ (es : List Entry). AreHeld domain es) (sym (set_end entries i (of_life entry life) last))
     (held_of_life domain (take i entries) entry life (subst (λ (es : List Entry). AreHeld domain es) (split_end entries i entry last is) held))
 
-pub seen-life : (domain : Doors) (entries : List Entry) (i : ℕ) (entry : Entry) (life : ℕ) (objects : List OpenObject) (name : List ℕ) (target : Target) → suc i ≡ length entries → entry ≡ slice_index_or entries i entry
-    → seen domain entries ≡ with_object objects name target → seen domain (slice_set entries i (of_life entry life)) ≡ with_object objects name (record target { life = life })
-seen-life domain entries i entry life objects name target last is old =
-    let ends = seen-ends domain (take i entries) entry objects name target (ap (seen domain) (sym (split_end entries i entry last is)) ∙ old) in
+pub seen-life : (domain : Doors) (entries : List Entry) (i : ℕ) (entry : Entry) (life : ℕ) (objects : List OpenObject) (name word : List ℕ) (target : Target) → suc i ≡ length entries → entry ≡ slice_index_or entries i entry
+    → seen domain entries ≡ with_object objects name target word → seen domain (slice_set entries i (of_life entry life)) ≡ with_object objects name (record target { life = life }) word
+seen-life domain entries i entry life objects name word target last is old =
+    let ends = seen-ends domain (take i entries) entry objects name word target (ap (seen domain) (sym (split_end entries i entry last is)) ∙ old) in
     ap (seen domain) (set_end entries i (of_life entry life) last)
     ∙ map-append (seen_entry domain) (take i entries) (of_life entry life ∷ [])
     ∙ ap (λ (os : List OpenObject). os ++ seen_entry domain (of_life entry life) ∷ []) ends.0
-    ∙ ap (λ (o : OpenObject). with_object objects o.name (record o.target { life = life })) ends.1
+    ∙ ap (λ (o : OpenObject). with_object objects o.name (record o.target { life = life }) o.word) ends.1
 
 -- where no object is seen, there is no last one
 pub seen-no_last : {X : Type 0} (domain : Doors) (entries : List Entry) (i : ℕ) → suc i ≡ length entries → seen domain entries ≡ [] → X
@@ -429,3 +455,102 @@ seen-no_last domain (entry ∷ entries) i last none = absurd cc
 pub seen-no_end : {X : Type 0} (domain : Doors) (entries : List Entry) (entry : Entry) → seen domain (entries ++ entry ∷ []) ≡ [] → X
 seen-no_end domain [] entry none = absurd cc
 seen-no_end domain (first ∷ entries) entry none = absurd cc
+
+-- AN OBJECT THAT LEADS ELSEWHERE
+
+all_set : {X : Type 0} (P : X → Type 0) (xs : List X) (i : ℕ) (y : X) → AllByRecursion P xs → P y → AllByRecursion P (slice_set xs i y)
+all_set P [] i y all new = tt
+all_set P (x ∷ xs) zero y all new = (new, all.1)
+all_set P (x ∷ xs) (suc i) y all new = (all.0, all_set P xs i y all.1 new)
+
+all_others : {X : Type 0} (P : X → Type 0) (xs : List X) (i : ℕ) (y : X) → AllByRecursion P (remove xs i) → P y → AllByRecursion P (slice_set xs i y)
+all_others P [] zero y all new = tt
+all_others P [] (suc i) y all new = tt
+all_others P (x ∷ xs) zero y all new = (new, all)
+all_others P (x ∷ xs) (suc i) y all new = (all.0, all_others P xs i y all.1 new)
+
+all_back : {X : Type 0} (P : X → Type 0) (xs : List X) (i : ℕ) (x y : X) → i < length xs → x ≡ slice_index_or xs i x → AllByRecursion P (slice_set xs i y) → (P y → P x) → AllByRecursion P xs
+all_back P [] i x y lt is all back = tt
+all_back P (z ∷ xs) zero x y lt is all back = (subst P is (back all.0), all.1)
+all_back P (z ∷ xs) (suc i) x y lt is all back = (all.0, all_back P xs i x y (omega arith) is all.1 back)
+
+put_there : {X : Type 0} (P : X → Type 0) (xs : List X) (i : ℕ) (y : X) → i < length xs → AllByRecursion P (slice_set xs i y) → P y
+put_there P [] i y lt all = absurd (omega arith)
+put_there P (x ∷ xs) zero y lt all = all.0
+put_there P (x ∷ xs) (suc i) y lt all = put_there P xs i y (omega arith) all.1
+
+-- the other doors are other ones still
+apart_put : (entries : List Entry) (i : ℕ) (entry next : Entry) → i < length entries → entry ≡ slice_index_or entries i entry → next.object.door ≡ entry.object.door → AreApart entries → AreApart (slice_set entries i next)
+apart_put [] i entry next lt is same apart = tt
+apart_put (first ∷ entries) zero entry next lt is same apart =
+    (subst (λ (id : ℕ). AllByRecursion (IsOther id) entries) (ap (λ (e : Entry). e.object.door) (sym is) ∙ sym same) apart.0, apart.1)
+apart_put (first ∷ entries) (suc i) entry next lt is same apart =
+    let here : IsOther first.object.door entry = all_at (IsOther first.object.door) entries i entry apart.0 (omega arith) is in
+    (all_set (IsOther first.object.door) entries i next apart.0 (λ door. here (sym same ∙ door)), apart_put entries i entry next (omega arith) is same apart.1)
+
+-- the entry, with its object of another life
+abbrev Stays : Doors → Doors → Entry → Type 0
+Stays old new entry = seen_entry new entry ≡ seen_entry old entry
+
+all_stay : (old new : Doors) (id : ℕ) (what : Option Door) (entries : List Entry) → Updates old new id what → AllByRecursion (IsOther id) entries → AllByRecursion (Stays old new) entries
+all_stay old new id what [] updates others = tt
+all_stay old new id what (entry ∷ entries) updates others = (entry_stays old new id what entry updates others.0, all_stay old new id what entries updates others.1)
+
+stay_seen : (old new : Doors) (entries : List Entry) → AllByRecursion (Stays old new) entries → seen new entries ≡ seen old entries
+stay_seen old new [] stay = refl
+stay_seen old new (entry ∷ entries) stay =
+    ap (λ (o : OpenObject). o ∷ seen new entries) stay.0 ∙ ap (λ (os : List OpenObject). seen_entry old entry ∷ os) (stay_seen old new entries stay.1)
+
+module _ (old new : Doors) (name : List ℕ) (entry next : Entry) (target : Target) (leads : seen_entry new next ≡ record (seen_entry old entry) { target = target }) where
+  led_step : (b : Bool) (first : Entry) (entries : List Entry) (i rest : ℕ) → cond (not b) (1 + rest) 0 ≡ i → i < length (first ∷ entries) → entry ≡ slice_index_or (first ∷ entries) i entry
+      → AllByRecursion (Stays old new) (remove (first ∷ entries) i)
+      → ((j : ℕ) → rest ≡ j → j < length entries → entry ≡ slice_index_or entries j entry → AllByRecursion (Stays old new) (remove entries j) → seen new (slice_set entries j next) ≡ with_target name target (seen old entries))
+      → seen new (slice_set (first ∷ entries) i next) ≡ cond b (record (seen_entry old first) { target = target } ∷ seen old entries) (seen_entry old first ∷ with_target name target (seen old entries))
+  led_step true first entries zero rest is lt at stay then =
+      ap (λ (o : OpenObject). o ∷ seen new entries) (leads ∙ ap (λ (e : Entry). record (seen_entry old e) { target = target }) at) ∙ ap (λ (os : List OpenObject). record (seen_entry old first) { target = target } ∷ os) (stay_seen old new entries stay)
+  led_step true first entries (suc i) rest is lt at stay then = absurd (omega arith)
+  led_step false first entries zero rest is lt at stay then = absurd (omega arith)
+  led_step false first entries (suc i) rest is lt at stay then =
+      ap (λ (o : OpenObject). o ∷ seen new (slice_set entries i next)) stay.0 ∙ ap (λ (os : List OpenObject). seen_entry old first ∷ os) (then i (omega arith) (omega arith) at stay.1)
+
+  led_at : (entries : List Entry) (i : ℕ) → place name entries ≡ i → i < length entries → entry ≡ slice_index_or entries i entry → AllByRecursion (Stays old new) (remove entries i)
+      → seen new (slice_set entries i next) ≡ with_target name target (seen old entries)
+  led_at [] i is lt at stay = absurd (omega arith)
+  led_at (first ∷ entries) i is lt at stay =
+      led_step (IsNamed name first) first entries i (place name entries) is lt at stay (λ j there below here more. led_at entries j there below here more)
+
+-- the first object of a name leads by another door
+pub seen-led : (old new : Doors) (name : List ℕ) (entries : List Entry) (i : ℕ) (entry next : Entry) (door : Door) (target : Target) → AreHeld old entries → position (IsNamed name) entries ≡ Some i → entry ≡ slice_index_or entries i entry
+    → Updates old new entry.object.door (Some door) → seen_entry new next ≡ record (seen_entry old entry) { target = target } → seen new (slice_set entries i next) ≡ with_target name target (seen old entries)
+seen-led old new name entries i entry next door target held at is updates leads =
+    let first = placed name entries i at in
+    led_at old new name entry next target leads entries i first.0 first.1 is
+    (all_stay old new entry.object.door (Some door) (remove entries i) updates (others_remove entries i entry held.apart first.1 is))
+
+pub are_held-led : (old new : Doors) (entries : List Entry) (i : ℕ) (entry next : Entry) (door : Door) → AreHeld old entries → i < length entries → entry ≡ slice_index_or entries i entry
+    → Updates old new entry.object.door (Some door) → next.object.door ≡ entry.object.door → IsHeld new next.kind next.object → AreHeld new (slice_set entries i next)
+are_held-led old new entries i entry next door held lt is updates same new_held = record {
+  held = all_others (HeldBy new) entries i next
+      (held_stays old new entry.object.door (Some door) (remove entries i) updates (others_remove entries i entry held.apart lt is) (all_remove (HeldBy old) entries i held.held)) new_held;
+  apart = apart_put entries i entry next lt is same held.apart;
+  only = λ id others.
+      let other : IsOther id next = put_there (IsOther id) entries i next lt others in
+      updates.others id (λ door. other (same ∙ sym door)) ∙ held.only id (all_back (IsOther id) entries i entry next lt is others (λ n door. n (same ∙ door)));
+}
+
+-- the entry of another life is held by its new door
+pub held_led : (old new : Doors) (entry : Entry) (door : Door) (life : ℕ) → IsHeld old entry.kind entry.object → Updates old new entry.object.door (Some door) → IsHeld new entry.kind (of_life entry life).object
+held_led old new entry door life held updates = record {
+  door = ap (λ (d : Option Door). is_some d) updates.changed;
+  sub = held.sub;
+  of = record { tag = held.of.tag; name = held.of.name };
+}
+
+-- and leads there, if it is reconnectable
+pub led_entry : (old new : Doors) (entry : Entry) (door : Door) (life : ℕ) → entry.kind ≡ ObjectKind.Reconnectable → IsHeld old entry.kind entry.object → Updates old new entry.object.door (Some door)
+    → seen_entry new (of_life entry life) ≡ record (seen_entry old entry) { target = reconnected door life }
+led_entry old new entry door life kind held updates =
+    let tag : entry.object.tag ≡ 0 = subst (λ (k : ObjectKind). IsTagOf (form_of k) entry.object.tag) kind held.of.tag in
+    ap (λ (d : Option Door). let o : OpenObject = record { name = entry.name; target = target_at entry.kind (of_life entry life).object (unwrap_or d no_door); word = entry.object.name } in o) updates.changed
+    ∙ ap (λ (k : ObjectKind). let o : OpenObject = record { name = entry.name; target = target_at k (of_life entry life).object door; word = entry.object.name } in o) kind
+    ∙ ap (λ (n : ℕ). let o : OpenObject = record { name = entry.name; target = record (reconnected door life) { tag = n }; word = entry.object.name } in o) tag

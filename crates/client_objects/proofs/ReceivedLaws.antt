@@ -30,7 +30,7 @@ use Rattle.client_objects.specs.declared.kind.ObjectKind.TheVariants.{Singleton,
 use Rattle.client_objects.specs.declared.target.Target.{Target}
 use Rattle.client_objects.specs.Kinds.{id_of, kind_of, form_of, file_of, is_built, form_or_bare, form_at}
 use Rattle.client_objects.specs.Objects.{OpenObject, IsOnStack, with_object}
-use Rattle.client_objects.specs.Stored.{target_of, leads, unread, ends_with, target_by, object_of_kind, object_by, received, stored_object, bound_object, name_for}
+use Rattle.client_objects.specs.Stored.{target_of, leads, unread, ends_with, target_by, object_of_kind, object_by, received, received_word, word_by, word_of_kind, word_behind, stored_object, bound_object, name_for}
 use Rattle.client_objects.specs.Laws.{IsViewed, MayKeep, tag_for, bound_target, BoundIsReceived, StartsBound, LeadsOntoStack, ReceivedLeads}
 use Rattle.client_objects.proofs.KindLaws.{id_fits, kind_of-id, id_of-kind}
 use Rattle.client_objects.proofs.OpenLaws.{on_stack-with_object}
@@ -195,6 +195,19 @@ received-target mount bytes doors target start end old new made from is got =
     let kind : target.kind ≡ read.kind = ap (λ (t : Target). t.kind) read.same in
     ap (λ (k : ObjectKind). target_of k got.reads.fields) kind ∙ ap (target_of read.kind) (sym (fields_same read.fields got.reads.fields fields)) ∙ sym read.same
 
+-- and its word is that of the fields that were read of it
+pub received-word : (mount : Mount) (bytes : List ℕ) (doors : List Door) (target : Target) (start end : Reading) (old new : Doors) (made : Object) → start ≡ unread bytes doors → received mount (Some (object bytes doors)) ≡ Some target
+    → (got : UnmarshalsAny is_built form_at old new start end made) → got.reads.fields.name ≡ received_word (Some (object bytes doors))
+received-word mount bytes doors target start end old new made from is got =
+    let read = is_read mount bytes doors target is in
+    let id : number_at_is (Ok read.id) (Ok made.sub) = sym read.id_is ∙ ap (number_at 2) (sym from) ∙ got.id in
+    let form : form_of read.kind ≡ form_at made.sub = sym (ap form_or_bare read.known) ∙ ap form_at (ok_same read.id made.sub id) in
+    let fields : fields_are (Ok read.fields) (Ok got.reads.fields) =
+    sym read.read ∙ ap (fields_behind (form_of read.kind)) (sym from) ∙ ap (λ (f : Form). fields_behind f start) form ∙ got.reads.read in
+    let word : received_word (Some (object bytes doors)) ≡ read.fields.name =
+    ap (word_behind bytes doors) read.id_is ∙ ap (word_of_kind bytes doors) read.known ∙ ap word_by read.read in
+    ap (λ (f : Fields). f.name) (sym (fields_same read.fields got.reads.fields fields)) ∙ sym word
+
 onto_stack : (mount : Mount) (kind : ObjectKind) (fields : Fields) (target : Target) → leads mount kind fields ≡ true → target ≡ target_of kind fields → LeadsOntoStack mount target
 onto_stack mount kind fields target is same =
     let files : ℕ = length mount.files in
@@ -224,16 +237,16 @@ received-leads_to_view mount bytes doors target start end old new made from is g
     ap (λ (d : Door). is_view_in mount.nodes d.node) (sym which) ∙ ap (λ (t : Target). is_view_in mount.nodes t.view) (sym same) ∙ there.view
 
 -- what is received is on the stack, under any name
-pub on_stack-received : (mount : Mount) (kept : Option Kept) (target : Target) (name : List ℕ) → received mount kept ≡ Some target → IsOnStack mount (record { name = name; target = target })
-on_stack-received mount kept target name is =
+pub on_stack-received : (mount : Mount) (kept : Option Kept) (target : Target) (name word : List ℕ) → received mount kept ≡ Some target → IsOnStack mount (record { name = name; target = target; word = word })
+on_stack-received mount kept target name word is =
     let there = received_leads mount kept target is in
     record { view = there.view; file = there.file; chosen = there.chosen }
 
 -- all lead onto the stack, with one more that was received and is of any life
-pub on_stack-opened : (mount : Mount) (objects : List OpenObject) (kept : Option Kept) (target : Target) (name : List ℕ) (life : ℕ) → AllByRecursion (IsOnStack mount) objects → received mount kept ≡ Some target → AllByRecursion (IsOnStack mount) (with_object objects name (record target { life = life }))
-on_stack-opened mount objects kept target name life all is =
+pub on_stack-opened : (mount : Mount) (objects : List OpenObject) (kept : Option Kept) (target : Target) (name word : List ℕ) (life : ℕ) → AllByRecursion (IsOnStack mount) objects → received mount kept ≡ Some target → AllByRecursion (IsOnStack mount) (with_object objects name (record target { life = life }) word)
+on_stack-opened mount objects kept target name word life all is =
     let there = received_leads mount kept target is in
-    on_stack-with_object mount objects name (record target { life = life }) all there.view there.file there.chosen
+    on_stack-with_object mount objects name word (record target { life = life }) all there.view there.file there.chosen
 
 length-object_bytes : (id : ℕ) (form : Form) (tag : ℕ) (name : List ℕ) → length (object_bytes id form 0 tag name) ≡ object_len form name
 length-object_bytes id form tag name =

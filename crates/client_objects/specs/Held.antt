@@ -39,7 +39,7 @@ abbrev pub target_in : Doors → ObjectKind → Object → Target
 target_in domain kind object = target_at kind object (unwrap_or (door_of domain object) no_door)
 
 abbrev pub seen_entry : Doors → Entry → OpenObject
-seen_entry domain entry = record { name = entry.name; target = target_in domain entry.kind entry.object }
+seen_entry domain entry = record { name = entry.name; target = target_in domain entry.kind entry.object; word = entry.object.name }
 
 -- the open objects that these entries are
 abbrev pub seen : Doors → List Entry → List OpenObject

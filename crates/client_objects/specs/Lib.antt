@@ -7,3 +7,4 @@ pub mod Held
 pub mod Laws
 pub mod Views
 pub mod Begun
+pub mod Reconnected

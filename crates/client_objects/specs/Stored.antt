@@ -49,6 +49,24 @@ received mount (Some (object bytes doors)) = object_by mount bytes doors (number
 received mount (Some context) = None
 received mount None = None
 
+-- the word that such an object keeps beside its door
+abbrev pub word_by : Result Fields ℕ → List ℕ
+word_by (Ok fields) = fields.name
+word_by (Err at) = []
+
+abbrev pub word_of_kind : List ℕ → List Door → Option ObjectKind → List ℕ
+word_of_kind bytes doors (Some kind) = word_by (fields_behind (form_of kind) (unread bytes doors))
+word_of_kind bytes doors None = []
+
+abbrev pub word_behind : List ℕ → List Door → Result ℕ Short → List ℕ
+word_behind bytes doors (Ok id) = word_of_kind bytes doors (kind_of id)
+word_behind bytes doors (Err short) = []
+
+abbrev pub received_word : Option Kept → List ℕ
+received_word (Some (object bytes doors)) = word_behind bytes doors (number_at 2 (unread bytes doors))
+received_word (Some context) = []
+received_word None = []
+
 -- what the names keep for an object of a subcontract
 abbrev pub stored_object : ObjectKind → Door → ℕ → List ℕ → Kept
 stored_object kind door tag name = object (object_bytes (id_of kind) (form_of kind) 0 tag name) (door ∷ [])

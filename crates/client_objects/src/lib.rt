@@ -23,6 +23,7 @@ pub use begun::{start_is_of_stack, start_names};
 pub use kind::ObjectKind;
 pub use laws::{bound_is_received, found_leads, received_leads};
 pub use objects::Objects;
+pub use reading::received_target;
 pub use state::ClientState;
 pub use stored::bound_object;
 pub use target::{Found, Target};

@@ -5,8 +5,10 @@ ghost use Rattle.std.specs.List.{AllByRecursion};
 ghost use Rattle.std.specs.Option.{option_map};
 ghost use Rattle.client_objects.specs.declared.target.Target.{Target};
 ghost use Rattle.name_context.specs.Names.{kept_object};
-ghost use Rattle.client_objects.specs.Objects.{OpenObject, IsOnStack, object_of, with_object, without};
-ghost use Rattle.client_objects.specs.Stored.{received};
+ghost use Rattle.client_objects.specs.Objects.{OpenObject, IsOnStack, object_of, with_object, with_target, without, word_of};
+ghost use Rattle.text_words.specs.Words.{path_of};
+ghost use Rattle.client_objects.specs.Reconnected.{IsReconnectable, reconnected};
+ghost use Rattle.client_objects.specs.Stored.{received, received_word};
 ghost use Rattle.client_objects.specs.Found.{found_on, IsChosen};
 ghost use Rattle.client_objects.specs.Received.{RefusesReceived};
 
@@ -14,12 +16,13 @@ use crate::entry::{Entry, copy_of, found_of, give_up, place_of};
 use crate::reading::{received_target, take_in};
 use crate::target::Found;
 use crate::why::NotReceived;
-use domain_doors::Domain;
-use marshal_buf::Buf;
-use seen_values::Text;
+use domain_doors::{Domain, NoDoor};
+use marshal_buf::{Buf, Door};
+use seen_values::{Path, Text};
 use stack_accept::Mounted;
 use std::alloc::{AllocError, Global};
 use std::marker::Model;
+use text_words::read_path;
 
 /// The open objects of a client, in the order in which they were opened. Contracts see them as that list.
 #[derive(Debug, Drop)]
@@ -79,7 +82,7 @@ impl Objects {
         requires { machine < length mount.now.machines }
         ensures read { IfOk result (λ found. received mount.now (Some (kept_object stored.now)) ≡ Some found.target) }
         ensures node { IfOk result (λ found. found ≡ found_on mount.now machine found.target) }
-        ensures opened { IfOk result (λ found. self.new ≡ with_object self.old name found.target) }
+        ensures opened { IfOk result (λ found. self.new ≡ with_object self.old name found.target (received_word (Some (kept_object stored.now)))) }
         ensures why { IfErr result (RefusesReceived (received mount.now (Some (kept_object stored.now)))) }
         ensures err { OnErr result (self.new ≡ self.old) }
     {
@@ -95,9 +98,36 @@ impl Objects {
         Ok(Found { target, node })
     }
 
+    /// The path that the reconnectable object of a name was bound under. An error is that memory ran out.
+    pub fn path(&self, alloc: Global, name: &Text) -> Result<Option<Path>, AllocError>
+        requires { IsSome (object_of name.now self.now) }
+        ensures { IfOk result (λ path. path ≡ path_of (word_of name.now self.now)) }
+    {
+        let Some(place) = place_of(&self.entries, name) else {
+            unreachable!();
+        };
+        read_path(alloc, self.entries[place].object.name.as_str().as_bytes())
+    }
+
+    /// Lets the reconnectable object of a name lead to another view and file, of this life. Its identifier stays, and it takes no
+    /// memory.
+    pub fn reroute(&mut self, name: &Text, door: Door, life: u32)
+        requires { IsReconnectable (object_of name.now self.old) }
+        ensures { self.new ≡ with_target name.now (reconnected door life) self.old }
+    {
+        let Some(place) = place_of(&self.entries, name) else {
+            unreachable!();
+        };
+        let object = &mut self.entries[place].object;
+        match self.domain.exchange(object.door, door) {
+            Ok(_had) => object.life = life,
+            Err(NoDoor { .. }) => unreachable!(),
+        }
+    }
+
     /// Sets the life of the last object. If there is no object, nothing changes.
     pub fn set_life(&mut self, life: u32)
-        ensures last { (objects : List OpenObject) (name : List ℕ) (target : Target) → self.old ≡ with_object objects name target → self.new ≡ with_object objects name (record target { life = life }) }
+        ensures last { (objects : List OpenObject) (name word : List ℕ) (target : Target) → self.old ≡ with_object objects name target word → self.new ≡ with_object objects name (record target { life = life }) word }
         ensures none { self.old ≡ [] → self.new ≡ [] }
     {
         let Some(last) = self.entries.last_mut() else {
@@ -108,7 +138,7 @@ impl Objects {
 
     /// Gives the last object up: its door leaves the domain. If there is no object, nothing changes.
     pub fn give_up_last(&mut self)
-        ensures last { (objects : List OpenObject) (name : List ℕ) (target : Target) → self.old ≡ with_object objects name target → self.new ≡ objects }
+        ensures last { (objects : List OpenObject) (name word : List ℕ) (target : Target) → self.old ≡ with_object objects name target word → self.new ≡ objects }
         ensures none { self.old ≡ [] → self.new ≡ [] }
     {
         if let Some(
@@ -127,7 +157,7 @@ impl Objects {
     /// they were.
     pub fn copy(&mut self, name: &Text, other: Text) -> Result<(), AllocError>
         requires { IsSome (object_of name.now self.old) }
-        ensures ok { OnOk result ((target : Target) → object_of name.now self.old ≡ Some target → self.new ≡ with_object self.old other target) }
+        ensures ok { OnOk result ((target : Target) → object_of name.now self.old ≡ Some target → self.new ≡ with_object self.old other target (word_of name.now self.old)) }
         ensures err { OnErr result (self.new ≡ self.old) }
     {
         let Some(place) = place_of(&self.entries, name) else {

@@ -19,7 +19,7 @@ use std::alloc::{AllocError, Global};
 use sub_core::{AnyErr, Fields, Object, read_fields, unmarshal_any};
 
 /// Where the object that the names keep leads, if the program can receive it. It takes no memory.
-pub(crate) fn received_target(mount: &Mounted, stored: &Buf) -> Option<Target>
+pub fn received_target(mount: &Mounted, stored: &Buf) -> Option<Target>
     ensures { result ≡ received mount.now (Some (kept_object stored.now)) }
 {
     let mut from = stored.reader();

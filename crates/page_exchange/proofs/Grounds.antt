@@ -136,8 +136,8 @@ module _ (ops : Ops) (own : Table) (page : ℕ) (what : Asked) (first : List ℕ
     pub ground_same : (pages pages' new : Option (List (List ℕ))) → pages ≡ pages' → new ≡ pages_given page (bytes_up q) pages → IsForFirstCopy own a → new ≡ pages'
     ground_same pages pages' new e is h = is ∙ ap (λ (u : Option (List ℕ)). pages_given page u pages) (q_up ∙ gives_nothing own what page may (ground_lacks h).nothing) ∙ e
 
-    pub ground_answered : (pages : Option (List (List ℕ))) (own' : Table) → length bytes ≡ (file_of own).page_size → IsOfGround pages own what page bytes → Takes own own' a → IsAnswered pages (record { ops = ops; first = first; second = second }) own own' what page
-    ground_answered pages own' long of c = record {
+    pub ground_answered : (pages : Option (List (List ℕ))) (own' : Table) (packet packet' : List ℕ) → length bytes ≡ (file_of own).page_size → IsOfGround pages own what page bytes → Takes own own' a → IsAnswered pages (record { ops = ops; first = first; second = second; first_packet = packet; second_packet = packet' }) own own' what page
+    ground_answered pages own' packet packet' long of c = record {
       bytes = bytes;
       read = of;
       frames = record { asks = asked; answers = answered };

@@ -1,4 +1,5 @@
 pub mod Owns
+pub mod PacketLaws
 pub mod Frames
 pub mod Rooms
 pub mod Exchanges
@@ -9,6 +10,7 @@ pub mod Telling
 pub mod Using
 pub mod Pairs
 pub mod Singles
+pub mod Ending
 pub mod Sending
 pub mod Going
 pub mod Taking

@@ -7,3 +7,4 @@ pub mod Moved
 pub mod Steps
 pub mod Listed
 pub mod Tables
+pub mod Ends

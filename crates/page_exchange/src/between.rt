@@ -10,11 +10,12 @@ ghost use Rattle.coherency_layer.specs.Node.{OnPages, about_asked, about_called}
 ghost use Rattle.vmm_cache.specs.Uses.{uses_called};
 ghost use Rattle.page_exchange.specs.Table.{file_of, side, uses_asked, uses_of, MayAskAbout, MayObeyAbout, IsLeft};
 ghost use Rattle.page_exchange.specs.Exchange.{IsPair, IsOwnChange, IsAboveChange, IsLack, Knows, LacksCopy, letters_asked, may_be_full};
-ghost use Rattle.page_exchange.specs.Wire.{WentOver};
+ghost use Rattle.page_exchange.specs.Wire.{CarriedOver, WentOver};
 
-use crate::steps::{ask, call, hear, obey, sent, serve};
+use crate::packing::{pack, sent};
+use crate::steps::{ask, call, hear, obey, serve};
 use crate::table::Table;
-use crate::wire::Wire;
+use crate::wire::{Ends, Wire};
 use coherency_layer::{Asked, Called, Node, NodeErr};
 use std::alloc::AllocError;
 
@@ -26,6 +27,7 @@ impl Wire {
         &mut self,
         own: &mut Table,
         above: &mut Node,
+        ends: Ends,
         node: u32,
         what: Asked,
         page: u32,
@@ -38,15 +40,19 @@ impl Wire {
         ensures above { OnOk result (IsAboveChange above.old above.new node (about_asked what page) (asked_right what)
             (asked_up (side own.old page) what)) }
         ensures went { WentOver self.new (file_of own.old) (letters_asked own.old above.old node page what) }
+        ensures carried { CarriedOver self.new ends.node ends.parent }
         ensures ops { self.new.ops ≡ self.old.ops }
         ensures lack { Knows above.old own.old node page → IfErr result (IsLack own.old page) }
         ensures own_left { OnErr result (IsLeft own.old own.new) }
         ensures above_left { OnErr result (layers.IsLeft above.old above.new) }
     {
+        let (below, parent) = (ends.node, ends.parent);
         ask(own, &self.ops, what, page, &mut self.first);
-        let question = sent(&self.ops, &self.first);
+        pack(below, parent, &self.first, &mut self.first_packet);
+        let question = sent(&self.ops, below, parent, &self.first, &self.first_packet);
         serve(above, &self.ops, node, &question, &mut self.second);
-        let answer = sent(&self.ops, &self.second);
+        pack(parent, below, &self.second, &mut self.second_packet);
+        let answer = sent(&self.ops, parent, below, &self.second, &self.second_packet);
         own.accept(&answer)?;
         above.finish(Some(node), &question);
         Ok(())
@@ -58,6 +64,7 @@ impl Wire {
         &mut self,
         own: &mut Table,
         above: &mut Node,
+        ends: Ends,
         node: u32,
         what: Asked,
         page: u32,
@@ -71,12 +78,13 @@ impl Wire {
         ensures above { OnOk result (IsAboveChange above.old above.new node (about_asked what page) (asked_right what)
             (asked_up (side own.old page) what)) }
         ensures went { WentOver self.new (file_of own.old) (asked_by (side own.old page) (layers.side above.old page).copy page what) }
+        ensures carried { CarriedOver self.new ends.node ends.parent }
         ensures ops { self.new.ops ≡ self.old.ops }
         ensures memory { OnErr result (LacksCopy own.old page) }
         ensures own_left { OnErr result (IsLeft own.old own.new) }
         ensures above_left { OnErr result (layers.IsLeft above.old above.new) }
     {
-        match self.ask_above(own, above, node, what, page) {
+        match self.ask_above(own, above, ends, node, what, page) {
             Ok(()) => Ok(()),
             Err(NodeErr::Memory) => Err(AllocError),
             Err(NodeErr::NotAllowed { .. }) => unreachable!(),
@@ -88,6 +96,7 @@ impl Wire {
         &mut self,
         own: &mut Table,
         above: &mut Node,
+        ends: Ends,
         node: u32,
         what: Called,
         page: u32,
@@ -99,12 +108,16 @@ impl Wire {
         ensures above { IsAboveChange above.old above.new node (about_called what page) (called_right what)
             (called_up (side own.old page) what) }
         ensures went { WentOver self.new (file_of own.old) (called_of (side own.old page) page what) }
+        ensures carried { CarriedOver self.new ends.parent ends.node }
         ensures ops { self.new.ops ≡ self.old.ops }
     {
+        let (below, parent) = (ends.node, ends.parent);
         call(above, &self.ops, node, what, page, &mut self.first);
-        let order = sent(&self.ops, &self.first);
+        pack(parent, below, &self.first, &mut self.first_packet);
+        let order = sent(&self.ops, parent, below, &self.first, &self.first_packet);
         obey(own, &self.ops, &order, &mut self.second);
-        let reply = sent(&self.ops, &self.second);
+        pack(below, parent, &self.second, &mut self.second_packet);
+        let reply = sent(&self.ops, below, parent, &self.second, &self.second_packet);
         match hear(above, node, &reply) {
             Ok(()) => {}
             Err(_) => unreachable!(),

@@ -12,11 +12,12 @@ ghost use Rattle.vmm_cache.specs.Uses.{uses_called};
 ghost use Rattle.page_exchange.specs.Table.{file_of, side, uses_of, MayAskAbout, MayObeyAbout, IsLeft};
 ghost use Rattle.page_exchange.specs.Exchange.{IsOwnChange};
 ghost use Rattle.page_exchange.specs.Ground.{IsUnder, pages_given, IsOneCall, IsCalmCall, IsOfGround, IsAnswered, IsWhy, UnlessFault};
-ghost use Rattle.page_exchange.specs.Wire.{WentOver};
+ghost use Rattle.page_exchange.specs.Wire.{CarriedOver, WentOver};
 
-use crate::steps::{answer_of_ground, ask, obey, order_of_ground, sent};
+use crate::packing::{pack, sent};
+use crate::steps::{answer_of_ground, ask, obey, order_of_ground};
 use crate::table::Table;
-use crate::wire::Wire;
+use crate::wire::{Ends, Wire};
 use coherency_layer::{Asked, Called};
 use page_ground::{Ground, StoreFault};
 use pager_channel::Frame;
@@ -108,6 +109,7 @@ impl Wire {
         &mut self,
         own: &mut Table,
         ground: &mut G,
+        ends: Ends,
         what: Asked,
         page: u32,
         scratch: &mut [u8],
@@ -116,6 +118,7 @@ impl Wire {
         requires may { MayAskAbout own.old what page }
         requires scratch { length scratch.old ≡ (file_of own.old).page_size }
         ensures own { OnOk result (IsAnswered (G.seen ground.old).pages self.new own.old own.new what page) }
+        ensures carried { OnOk result (CarriedOver self.new ends.node ends.parent) }
         ensures ground { OnOk result ((G.seen ground.new).pages ≡ pages_given page (asked_up (side own.old page) what) (G.seen ground.old).pages) }
         ensures why { IfErr result (IsWhy (G.seen ground.old) (G.seen ground.new) own.old page) }
         ensures own_left { OnErr result (IsLeft own.old own.new) }
@@ -127,8 +130,10 @@ impl Wire {
         ensures idle { (IsForPage what → (side own.old page).right ≢ Right.Nothing) → asked_up (side own.old page) what ≡ None →
             G.seen ground.new ≡ G.seen ground.old }
     {
+        let Ends { node, parent } = ends;
         ask(own, &self.ops, what, page, &mut self.first);
-        let question = sent(&self.ops, &self.first);
+        pack(node, parent, &self.first, &mut self.first_packet);
+        let question = sent(&self.ops, node, parent, &self.first, &self.first_packet);
         read_for(ground, own, what, page, scratch)?;
         answer_of_ground(
             own.file(),
@@ -139,7 +144,8 @@ impl Wire {
             scratch,
             &mut self.second,
         );
-        let answer = sent(&self.ops, &self.second);
+        pack(parent, node, &self.second, &mut self.second_packet);
+        let answer = sent(&self.ops, parent, node, &self.second, &self.second_packet);
         write_for(ground, &question, page)?;
         own.take(&answer)?;
         Ok(())
@@ -151,6 +157,7 @@ impl Wire {
         &mut self,
         own: &mut Table,
         ground: &mut G,
+        ends: Ends,
         what: Called,
         page: u32,
     ) -> Result<(), StoreFault>
@@ -160,6 +167,7 @@ impl Wire {
         ensures own { OnOk result (IsOwnChange own.old own.new (about_called what page) (called_right what) None (uses_called what page (uses_of own.old))) }
         ensures ground { OnOk result ((G.seen ground.new).pages ≡ pages_given page (called_up (side own.old page) what) (G.seen ground.old).pages) }
         ensures went { OnOk result (WentOver self.new (file_of own.old) (called_of (side own.old page) page what)) }
+        ensures carried { OnOk result (CarriedOver self.new ends.parent ends.node) }
         ensures ops { self.new.ops ≡ self.old.ops }
         ensures fault { IfErr result (IsFault (G.seen ground.old) (G.seen ground.new)) }
         ensures own_left { OnErr result (IsLeft own.old own.new) }
@@ -168,10 +176,13 @@ impl Wire {
         ensures calm { OnOk result (IsCalmCall (G.seen ground.old) (G.seen ground.new)) }
         ensures idle { called_up (side own.old page) what ≡ None → G.seen ground.new ≡ G.seen ground.old }
     {
+        let Ends { node, parent } = ends;
         order_of_ground(own.file(), &self.ops, what, page, &mut self.first);
-        let order = sent(&self.ops, &self.first);
+        pack(parent, node, &self.first, &mut self.first_packet);
+        let order = sent(&self.ops, parent, node, &self.first, &self.first_packet);
         obey(own, &self.ops, &order, &mut self.second);
-        let reply = sent(&self.ops, &self.second);
+        pack(node, parent, &self.second, &mut self.second_packet);
+        let reply = sent(&self.ops, node, parent, &self.second, &self.second_packet);
         write_for(ground, &reply, page)?;
         own.finish(&order);
         Ok(())

@@ -1,11 +1,14 @@
 //! A message about a page and its answer: between a node and its parent, and between a node and the ground. A node is a
-//! layer, or a leaf, on which nothing stands. The tables of all nodes of a file are moved by these messages alone.
+//! layer, or a leaf, on which nothing stands. The tables of all nodes of a file are moved by these messages alone. Frames
+//! between two machines go as packets.
 #![tactic(auto)]
 
 mod accessing;
 mod between;
+mod ends;
 mod ground;
 mod law;
+mod packing;
 mod pair;
 mod starting;
 mod steps;
@@ -19,4 +22,4 @@ pub use law::{
 };
 pub use table::Table;
 pub use tables::Tables;
-pub use wire::Wire;
+pub use wire::{Ends, Wire};

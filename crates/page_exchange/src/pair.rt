@@ -13,10 +13,10 @@ ghost use Rattle.page_exchange.specs.Exchange.{may_be_full};
 ghost use Rattle.page_exchange.specs.Moved.{AreExchangedAt};
 ghost use Rattle.page_exchange.specs.Steps.{step_asked, step_called};
 ghost use Rattle.page_exchange.specs.Listed.{AreSameTables, AreTablesOf, AreTablesWith, FramesAllow, LacksRoom, StayTables, UsesFollow, held_in, sides_in, uses_in};
-ghost use Rattle.page_exchange.specs.Wire.{WentOver};
+ghost use Rattle.page_exchange.specs.Wire.{CarriedOver, WentOver};
 
 use crate::table::Table;
-use crate::wire::Wire;
+use crate::wire::{Ends, Wire};
 use coherency_layer::{Asked, Called};
 use std::alloc::AllocError;
 use tower_core::Tree;
@@ -27,6 +27,7 @@ pub(crate) fn ask_in(
     wire: &mut Wire,
     nodes: &mut [Table],
     tree: &Tree,
+    ends: Ends,
     node: u32,
     what: Asked,
     page: u32,
@@ -44,6 +45,7 @@ pub(crate) fn ask_in(
         (asked_up (sides_in nodes.old page node) what) (sides_in nodes.old) (sides_in nodes.new)) }
     ensures went { (file : PagedFile) → AreTablesOf tree.now file nodes.old → WentOver wire.new file
         (asked_by (sides_in nodes.old page node) (sides_in nodes.old page (parent tree.now node)).copy page what) }
+    ensures carried { CarriedOver wire.new ends.node ends.parent }
     ensures ops { wire.new.ops ≡ wire.old.ops }
     ensures memory { OnErr result (LacksRoom (sides_in nodes.old page node)) }
     ensures follows { OnOk result (UsesFollow tree.now page (step_asked what node) (uses_in nodes.old) (uses_in nodes.new)) }
@@ -55,7 +57,7 @@ pub(crate) fn ask_in(
     let (low, high) = nodes.split_at_mut(node as usize);
     let own = &mut high[0];
     match &mut low[above as usize] {
-        Table::Layer { node: upper } => wire.ask_knowing(own, upper, node, what, page),
+        Table::Layer { node: upper } => wire.ask_knowing(own, upper, ends, node, what, page),
         Table::Leaf { .. } => unreachable!(),
     }
 }
@@ -65,6 +67,7 @@ pub(crate) fn call_in(
     wire: &mut Wire,
     nodes: &mut [Table],
     tree: &Tree,
+    ends: Ends,
     node: u32,
     what: Called,
     page: u32,
@@ -78,6 +81,7 @@ pub(crate) fn call_in(
     ensures moved { AreExchangedAt tree.now node page (called_right what) None
         (called_up (sides_in nodes.old page node) what) (sides_in nodes.old) (sides_in nodes.new) }
     ensures went { (file : PagedFile) → AreTablesOf tree.now file nodes.old → WentOver wire.new file (called_of (sides_in nodes.old page node) page what) }
+    ensures carried { CarriedOver wire.new ends.parent ends.node }
     ensures ops { wire.new.ops ≡ wire.old.ops }
     ensures follows { UsesFollow tree.now page (step_called what node) (uses_in nodes.old) (uses_in nodes.new) }
     ensures tables { StayTables tree.now nodes.old nodes.new }
@@ -87,7 +91,7 @@ pub(crate) fn call_in(
     let (low, high) = nodes.split_at_mut(node as usize);
     let own = &mut high[0];
     match &mut low[above as usize] {
-        Table::Layer { node: upper } => wire.call_below(own, upper, node, what, page),
+        Table::Layer { node: upper } => wire.call_below(own, upper, ends, node, what, page),
         Table::Leaf { .. } => unreachable!(),
     }
 }

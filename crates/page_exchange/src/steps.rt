@@ -1,7 +1,6 @@
 //! The steps of an exchange. None of them takes memory for a frame.
 
 ghost use Rattle.std.specs.Prelude.{◌≡◌, ◌<◌, ℕ, Some, None, OnOk, OnErr, length};
-ghost use Rattle.pager_channel.specs.Seen.{FrameSeen};
 ghost use Rattle.page_messages.specs.declared.kinds.Asked.{Asked as AQuestion};
 ghost use Rattle.page_messages.specs.declared.kinds.Called.{Called as AnOrder};
 ghost use Rattle.page_messages.specs.declared.paged.About.{About as AnAbout};
@@ -18,21 +17,10 @@ use crate::table::Table;
 use coherency_layer::{Asked, Called, Node, NodeErr, PagedFile};
 use marshal_buf::Buf;
 use page_messages::Letter;
-use pager_channel::{Frame, Ops, read_frame};
+use pager_channel::{Frame, Ops};
 use std::alloc::AllocError;
 use tower_core::Right;
 use vmm_cache::Leaf;
-
-/// The frame that was written, read from its bytes.
-pub(crate) fn sent<'a>(ops: &Ops, buf: &'a Buf) -> Frame<'a>
-    requires { (f : FrameSeen) × AreSent ops.now buf.now.bytes f }
-    ensures { (f : FrameSeen) → AreSent ops.now buf.now.bytes f → result ≡ f }
-{
-    match read_frame(ops, buf.as_slice()) {
-        Ok(frame) => frame,
-        Err(_) => unreachable!(),
-    }
-}
 
 /// A node asks its pager.
 pub(crate) fn ask(table: &Table, ops: &Ops, what: Asked, page: u32, buf: &mut Buf)

@@ -4,12 +4,13 @@ ghost use Rattle.std.specs.Prelude.{◌≡◌, vec_len};
 ghost use Rattle.std.proofs.Props.{props};
 ghost use Rattle.page_messages.specs.Paged.{IsPagedFile};
 ghost use Rattle.page_exchange.specs.Listed.{AreTablesOf};
+ghost use Rattle.tower_core.specs.TreeShape.{nodes as nodes_in};
 
 use crate::ground::GroundErr;
 use crate::pair::{ask_in, call_in};
 use crate::starting::fresh_nodes;
 use crate::table::Table;
-use crate::wire::Wire;
+use crate::wire::{Ends, Wire};
 use coherency_layer::{Asked, Called, Node, PagedFile};
 use page_ground::{Ground, StoreFault};
 use pager_channel::Ops;
@@ -17,17 +18,19 @@ use std::alloc::{AllocError, Global};
 use tower_core::{Right, Tree};
 use vmm_cache::Leaf;
 
-/// The tables of a file's nodes, by the nodes' numbers, over the tree; and the room for the frames between them. The
-/// first is the ground's: it is empty, and nobody reads it.
+/// The tables of a file's nodes, by the nodes' numbers, over the tree; the machines of the nodes; and the room for the frames
+/// between them. The first is the ground's: its table is empty, and nobody reads it.
 #[derive(Drop)]
 pub struct Tables {
     pub(crate) tree: Tree,
     pub(crate) file: PagedFile,
+    pub(crate) machines: Vec<u32>,
     pub(crate) nodes: Vec<Table>,
     pub(crate) wire: Wire,
     pub(crate) scratch: Vec<u8>,
     ghost paged: { IsPagedFile file },
     ghost scratched: { vec_len scratch ≡ file.page_size },
+    ghost placed: { vec_len machines ≡ nodes_in tree },
     ghost tables: { AreTablesOf tree file nodes.items } by { Prim.hlevel props },
 }
 
@@ -35,7 +38,7 @@ impl Tables {
     ghost use Rattle.std.specs.Prelude.{◌≡◌, ◌≢◌, ◌+◌, ◌<◌, ◌≤◌, ℕ, [], IfErr, IfOk, List, OnErr, OnOk, Option, drop, length, replicate, take, true};
     ghost use Rattle.hist_plain.specs.Plain.{overwritten};
     ghost use Rattle.page_ground.specs.Seen.{IsFault};
-    ghost use Rattle.tower_core.specs.TreeShape.{IsTree, IsUpper, frames_of, parent};
+    ghost use Rattle.tower_core.specs.TreeShape.{IsTree, IsUpper, frames_of, nodes as nodes_in, parent};
     ghost use Rattle.tower_core.specs.declared.step.Step.TheVariants.{Writes};
     ghost use Rattle.layer_laws.specs.Tables.{AreBare};
     ghost use Rattle.page_exchange.specs.declared.ground.GroundErr.{GroundErr as AnErr};
@@ -54,15 +57,24 @@ impl Tables {
     ghost use Rattle.page_messages.specs.Written.{called_of};
     ghost use Rattle.page_exchange.specs.Moved.{AreAskedAt};
     ghost use Rattle.page_exchange.specs.Wire.{WentOver};
-    ghost use Rattle.page_exchange.specs.Tables.{tree_of, paged_of, sides, uses, wire_of, AreLeft, Follow, IsCause, IsSameFile, IsUnderFile, MayAskFrames};
+    ghost use Rattle.page_exchange.specs.Tables.{tree_of, paged_of, sides, uses, machine_of, machines_of, wire_of, AreLeft, CarriesDown, CarriesUp, Follow, IsCause, IsSameFile, IsUnderFile, MayAskFrames};
 
-    /// The tables of the nodes of a tree for a file, of which nobody has anything. An error is want of memory.
-    pub fn new(alloc: Global, tree: Tree, file: PagedFile, ops: Ops) -> Result<Tables, AllocError>
+    /// The tables of the nodes of a tree, which are on these machines, for a file, of which nobody has anything. An error is
+    /// want of memory.
+    pub fn new(
+        alloc: Global,
+        tree: Tree,
+        file: PagedFile,
+        machines: Vec<u32>,
+        ops: Ops,
+    ) -> Result<Tables, AllocError>
         requires paged { IsPagedFile file }
         requires frames { (node : ℕ) → frames_of tree node ≤ 1024 }
+        requires machines { length machines.items ≡ nodes_in tree }
         ensures tree { IfOk result (λ t. tree_of t ≡ tree) }
         ensures file { IfOk result (λ t. paged_of t ≡ file) }
-        ensures wire { IfOk result (λ t. wire_of t ≡ record { ops = ops; first = []; second = [] }) }
+        ensures machines { IfOk result (λ t. machines_of t ≡ machines.items) }
+        ensures wire { IfOk result (λ t. wire_of t ≡ record { ops = ops; first = []; second = []; first_packet = []; second_packet = [] }) }
         ensures bare { IfOk result (λ t. AreBare (sides t)) }
         ensures unused { IfOk result (λ t. (node : ℕ) → uses t node ≡ []) }
     {
@@ -72,6 +84,7 @@ impl Tables {
         Ok(Tables {
             tree,
             file,
+            machines,
             nodes,
             wire,
             scratch,
@@ -103,6 +116,34 @@ impl Tables {
         ensures second { result.1.now ≡ (wire_of self.now).second }
     {
         self.wire.frames()
+    }
+
+    /// Lends the packets of these two frames, which are empty if they went on one machine.
+    pub fn packets(&self) -> (&[u8], &[u8])
+        ensures first { result.0.now ≡ (wire_of self.now).first_packet }
+        ensures second { result.1.now ≡ (wire_of self.now).second_packet }
+    {
+        self.wire.packets()
+    }
+
+    /// The number of a node's machine; node 0 is the ground.
+    pub fn machine(&self, node: u32) -> u32
+        requires { node < nodes_in (tree_of self.now) }
+        ensures { result ≡ machine_of self.now node }
+    {
+        self.machines[node as usize]
+    }
+
+    /// The machines of a node and of its parent.
+    pub(crate) fn ends(&self, node: u32) -> Ends
+        requires { IsUpper (tree_of self.now) node }
+        ensures node { result.node ≡ machine_of self.now node }
+        ensures parent { result.parent ≡ machine_of self.now (parent (tree_of self.now) node) }
+    {
+        Ends {
+            node: self.machine(node),
+            parent: self.machine(self.tree.parent(node)),
+        }
     }
 
     /// A node's own table.
@@ -177,6 +218,7 @@ impl Tables {
         ensures sent { OnOk result (IsSent (tree_of self.old) (G.seen ground.old).pages page (step_asked what node) (sides self.old) (sides self.new)) }
         ensures follows { OnOk result (Follow page (step_asked what node) self.old self.new) }
         ensures went { OnOk result (AreAskedAt (tree_of self.old) (wire_of self.new) (paged_of self.old) node page what (sides self.old) (sides self.new)) }
+        ensures carried { OnOk result (CarriesUp self.old (wire_of self.new) node) }
         ensures ground { OnOk result ((G.seen ground.new).pages ≡
             pages_given page (given_up (tree_of self.old) (step_asked what node) (sides self.old page)) (G.seen ground.old).pages) }
         ensures cause { IfErr result (IsCause (G.seen ground.old) (G.seen ground.new) (sides self.old page node)) }
@@ -187,9 +229,10 @@ impl Tables {
         ensures same { IsSameFile self.old self.new }
         ensures idle { (NeedsGround (tree_of self.old) (step_asked what node) (sides self.old page) → ⊥) → G.seen ground.new ≡ G.seen ground.old }
     {
+        let ends = self.ends(node);
         let own = &mut self.nodes[node as usize];
         self.wire
-            .ask_ground(own, ground, what, page, &mut self.scratch)
+            .ask_ground(own, ground, ends, what, page, &mut self.scratch)
     }
 
     /// A node whose parent is a node asks. Whatever the ground tells, this is the step.
@@ -204,16 +247,19 @@ impl Tables {
         ensures sent { (told : Option (List (List ℕ))) → OnOk result (IsSent (tree_of self.old) told page (step_asked what node) (sides self.old) (sides self.new)) }
         ensures follows { OnOk result (Follow page (step_asked what node) self.old self.new) }
         ensures went { OnOk result (AreAskedAt (tree_of self.old) (wire_of self.new) (paged_of self.old) node page what (sides self.old) (sides self.new)) }
+        ensures carried { OnOk result (CarriesUp self.old (wire_of self.new) node) }
         ensures ground { given_up (tree_of self.old) (step_asked what node) (sides self.old page) ≡ None }
         ensures memory { IfErr result (λ e. e ≡ AnErr.Memory) }
         ensures cause { OnErr result (LacksRoom (sides self.old page node)) }
         ensures left { OnErr result (AreLeft self.old self.new) }
         ensures same { IsSameFile self.old self.new }
     {
+        let ends = self.ends(node);
         match ask_in(
             &mut self.wire,
             &mut self.nodes,
             &self.tree,
+            ends,
             node,
             what,
             page,
@@ -245,6 +291,7 @@ impl Tables {
         ensures sent { OnOk result (IsSent (tree_of self.old) (G.seen ground.old).pages page (step_asked what node) (sides self.old) (sides self.new)) }
         ensures follows { OnOk result (Follow page (step_asked what node) self.old self.new) }
         ensures went { OnOk result (AreAskedAt (tree_of self.old) (wire_of self.new) (paged_of self.old) node page what (sides self.old) (sides self.new)) }
+        ensures carried { OnOk result (CarriesUp self.old (wire_of self.new) node) }
         ensures ground { OnOk result ((G.seen ground.new).pages ≡
             pages_given page (given_up (tree_of self.old) (step_asked what node) (sides self.old page)) (G.seen ground.old).pages) }
         ensures cause { IfErr result (IsCause (G.seen ground.old) (G.seen ground.new) (sides self.old page node)) }
@@ -279,6 +326,7 @@ impl Tables {
         ensures sent { OnOk result (IsSent (tree_of self.old) (G.seen ground.old).pages page (step_called what node) (sides self.old) (sides self.new)) }
         ensures follows { OnOk result (Follow page (step_called what node) self.old self.new) }
         ensures went { OnOk result (WentOver (wire_of self.new) (paged_of self.old) (called_of (sides self.old page node) page what)) }
+        ensures carried { OnOk result (CarriesDown self.old (wire_of self.new) node) }
         ensures ground { OnOk result ((G.seen ground.new).pages ≡
             pages_given page (given_up (tree_of self.old) (step_called what node) (sides self.old page)) (G.seen ground.old).pages) }
         ensures fault { IfErr result (IsFault (G.seen ground.old) (G.seen ground.new)) }
@@ -289,8 +337,9 @@ impl Tables {
         ensures same { IsSameFile self.old self.new }
         ensures idle { (NeedsGround (tree_of self.old) (step_called what node) (sides self.old page) → ⊥) → G.seen ground.new ≡ G.seen ground.old }
     {
+        let ends = self.ends(node);
         let own = &mut self.nodes[node as usize];
-        self.wire.order_by_ground(own, ground, what, page)
+        self.wire.order_by_ground(own, ground, ends, what, page)
     }
 
     /// A node orders another whose parent it is. Whatever the ground tells, this is the step.
@@ -303,13 +352,16 @@ impl Tables {
         ensures sent { (told : Option (List (List ℕ))) → IsSent (tree_of self.old) told page (step_called what node) (sides self.old) (sides self.new) }
         ensures follows { Follow page (step_called what node) self.old self.new }
         ensures went { WentOver (wire_of self.new) (paged_of self.old) (called_of (sides self.old page node) page what) }
+        ensures carried { CarriesDown self.old (wire_of self.new) node }
         ensures ground { given_up (tree_of self.old) (step_called what node) (sides self.old page) ≡ None }
         ensures same { IsSameFile self.old self.new }
     {
+        let ends = self.ends(node);
         call_in(
             &mut self.wire,
             &mut self.nodes,
             &self.tree,
+            ends,
             node,
             what,
             page,
@@ -335,6 +387,7 @@ impl Tables {
         ensures sent { OnOk result (IsSent (tree_of self.old) (G.seen ground.old).pages page (step_called what node) (sides self.old) (sides self.new)) }
         ensures follows { OnOk result (Follow page (step_called what node) self.old self.new) }
         ensures went { OnOk result (WentOver (wire_of self.new) (paged_of self.old) (called_of (sides self.old page node) page what)) }
+        ensures carried { OnOk result (CarriesDown self.old (wire_of self.new) node) }
         ensures ground { OnOk result ((G.seen ground.new).pages ≡
             pages_given page (given_up (tree_of self.old) (step_called what node) (sides self.old page)) (G.seen ground.old).pages) }
         ensures fault { IfErr result (IsFault (G.seen ground.old) (G.seen ground.new)) }

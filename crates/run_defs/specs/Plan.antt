@@ -1,5 +1,5 @@
 -- What a line of a script does: the calls that it makes, one after another, and its answer.
-use Rattle.std.specs.Prelude.{◌≡◌, ℕ, List, [], ◌∷◌, length, Bool, true, false, if◌then◌else◌, slice_index_or, Option, Some, None, Result, Ok, Err}
+use Rattle.std.specs.Prelude.{◌≡◌, ℕ, zero, suc, List, [], ◌∷◌, length, unwrap_or, Bool, true, false, if◌then◌else◌, slice_index_or, Option, Some, None, Result, Ok, Err}
 use Rattle.std.specs.Option.{option_map}
 use Rattle.hist_plain.specs.declared.event.Op.{Op}
 use Rattle.hist_plain.specs.declared.event.Op.TheVariants as ops
@@ -13,7 +13,7 @@ use Rattle.hist_plain.specs.Event.{fits_page}
 use Rattle.hist_plain.specs.Plain.{Told}
 use Rattle.script_text.specs.declared.script.Call.{Call}
 use Rattle.script_text.specs.declared.script.ClientLine.{ClientLine}
-use Rattle.script_text.specs.declared.script.Call.TheVariants.{Context, Bind, Unbind, List as ListNames, Open, Copy, Drop, Read, Write, Clear, Sync, Clean, Map, Unmap, Load, Store}
+use Rattle.script_text.specs.declared.script.Call.TheVariants.{Context, Bind, Unbind, List as ListNames, Open, Copy, Drop, Read, Write, Clear, Sync, Clean, Map, Unmap, Load, Store, Revoke, Release}
 use Rattle.script_text.specs.declared.script.Sub.{Sub}
 use Rattle.script_text.specs.declared.script.Sub.TheVariants.{Singleton, Cluster, Caching, Reconnectable}
 use Rattle.script_text.specs.declared.script.Reply.{Reply}
@@ -28,12 +28,13 @@ use Rattle.name_context.specs.Names.{Kept, Name, kept_at, kept_object}
 use Rattle.name_context.specs.Listed.{listed}
 use Rattle.client_objects.specs.declared.state.ClientState.{ClientState}
 use Rattle.client_objects.specs.declared.target.Target.{Target}
-use Rattle.client_objects.specs.Objects.{OpenObject, object_of, with_object, without}
-use Rattle.text_words.specs.Words.{path_word}
+use Rattle.client_objects.specs.Objects.{OpenObject, object_of, with_object, with_target, without, word_of}
+use Rattle.text_words.specs.Words.{path_of, path_word}
 use Rattle.client_objects.specs.declared.kind.ObjectKind.{ObjectKind}
 use Rattle.client_objects.specs.declared.kind.ObjectKind.TheVariants as kinds
-use Rattle.client_objects.specs.Stored.{bound_object, received}
-use Rattle.client_objects.specs.Found.{node_of}
+use Rattle.client_objects.specs.Stored.{bound_object, received, received_word}
+use Rattle.client_objects.specs.Found.{door_to, node_of}
+use Rattle.client_objects.specs.Reconnected.{reconnected}
 use Rattle.memory_object.specs.declared.binding.CacheRights.{CacheRights}
 use Rattle.memory_object.specs.Managers.{rights_of}
 use Rattle.vmm_space.specs.declared.regions.Region.{Region}
@@ -43,13 +44,15 @@ use Rattle.vmm_space.specs.declared.why.SpaceErr.TheVariants as spaces
 use Rattle.vmm_space.specs.declared.why.TranslateErr.{TranslateErr}
 use Rattle.vmm_space.specs.declared.why.TranslateErr.TheVariants as places
 use Rattle.vmm_space.specs.Spaces.{SpaceShape, blank_of, with_region, without_region, has_region, refusal, translation}
-use Rattle.run_defs.specs.Stack.{pages_of, view_of, file_named}
+use Rattle.run_defs.specs.Stack.{pages_of, view_of, layer_of, file_named}
 use Rattle.run_defs.specs.Log.{Item, NameItem, entered, noted}
 
 -- what a line may ask of a file
 pub data Ask : Type 0 where
   access : (node life : ℕ) → (op : Op) → Ask
   sync : (node : ℕ) → (keep : Keep) → Ask
+  revoke : (node : ℕ) → Ask
+  release : (node : ℕ) → Ask
 
 pub record Request : Type 0 where
   pub file : ℕ
@@ -153,44 +156,91 @@ abbrev pub plan_named : ClientState → Option Target → (Target → Plan) → 
 plan_named state None go_on = ends replies.NoObject state
 plan_named state (Some target) go_on = go_on target
 
--- an access of an open object; one whose range is not within one page of the file makes no call
-abbrev pub plan_access : Mount → ClientState → Op → Target → Plan
-plan_access mount state op target =
-    if fits_page mount.page_size (pages_of mount target.file) op
-    then plan_call state (asking target.file (access (node_at mount state target) target.life op))
-    else ends replies.NotOnePage state
-
-abbrev pub plan_sync : Mount → ClientState → Keep → Target → Plan
-plan_sync mount state keep target = plan_call state (asking target.file (sync (node_at mount state target) keep))
-
--- another name for an open object
-abbrev pub plan_copy : ClientState → List ℕ → Option Target → Target → Plan
-plan_copy state other (Some taken) target = ends replies.ObjectExists state
-plan_copy state other None target = ends replies.Done (holding state (with_object state.objects other target))
-
-abbrev pub plan_drop : ClientState → List ℕ → Target → Plan
-plan_drop state name target = ends replies.Done (holding state (without name state.objects))
-
 -- the life that an Open was answered
 abbrev pub life_in : Answer → ℕ
 life_in (answers.Life life) = life
 life_in answer = 0
+
+-- a life that is over
+abbrev pub is_revoked : Answer → Bool
+is_revoked (answers.Revoked life) = true
+is_revoked answer = false
+
+-- one try of an access of an open object, and what comes behind it; one whose range is not within one page of the file makes no call
+abbrev pub plan_try : Mount → Op → (ClientState → Told → Plan) → ClientState → Target → Plan
+plan_try mount op go_on state target =
+    if fits_page mount.page_size (pages_of mount target.file) op
+    then calls (asking target.file (access (node_at mount state target) target.life op)) state (go_on state)
+    else ends replies.NotOnePage state
+
+-- the state in which the object of a name leads elsewhere
+abbrev pub rerouting : ClientState → List ℕ → Target → ClientState
+rerouting state name target = holding state (with_target name target state.objects)
+
+-- where a reconnectable object leads from now on: by the door of what stands at its path, in the life that the view was opened in
+abbrev pub led_to : Target → Told → Target
+led_to found told = reconnected (door_to found) (life_in told.answer)
+
+-- the view that stands at the path is opened for the file; if that is answered the object leads there, and the access is tried again
+abbrev pub plan_reopened : Mount → List ℕ → Op → (ClientState → Told → Plan) → ClientState → Option Target → Plan
+plan_reopened mount name op go_on state None = ends replies.BadObject state
+plan_reopened mount name op go_on state (Some found) =
+    calls (asking found.file (access found.view 0 ops.Open)) state
+    (λ told. plan_try mount op go_on (rerouting state name (led_to found told)) (led_to found told))
+
+-- THE OBJECT FINDS ITS FILE AGAIN, so many times at most: behind an access that is answered with a life that is over, its path is resolved, what stands there
+-- is opened, and the access is tried in the new life
+abbrev pub plan_after : Mount → ℕ → List ℕ → List (List ℕ) → Op → ClientState → Told → Plan
+plan_after mount zero name path op state told = ends (reply_of told) state
+plan_after mount (suc left) name path op state told =
+    if is_revoked told.answer
+    then plan_names state (asking_names names_calls.Resolve (Some path))
+    (λ names. plan_reopened mount name op (plan_after mount left name path op) state (received mount (kept_at names path)))
+    else ends (reply_of told) state
+
+-- how often an object finds its file again within one line: a reconnectable one makes three tries
+abbrev pub further_tries : ObjectKind → ℕ
+further_tries kinds.Singleton = 0
+further_tries kinds.Cluster = 0
+further_tries kinds.Caching = 0
+further_tries kinds.Reconnectable = 2
+
+-- an access of an open object of this name and this word
+abbrev pub plan_access : Mount → ClientState → List ℕ → List ℕ → Op → Target → Plan
+plan_access mount state name word op target = plan_try mount op (plan_after mount (further_tries target.kind) name (unwrap_or (path_of word) []) op) state target
+
+abbrev pub plan_sync : Mount → ClientState → Keep → Target → Plan
+plan_sync mount state keep target = plan_call state (asking target.file (sync (node_at mount state target) keep))
+
+-- the channels of a layer of the stack end for a file of it: each right of the layer and of those above it is taken first
+abbrev pub plan_end : ClientState → (ℕ → Ask) → Option ℕ → Option ℕ → Plan
+plan_end state ask (Some node) (Some file) = plan_call state (asking file (ask node))
+plan_end state ask (Some node) None = unknown
+plan_end state ask None file = unknown
+
+-- another name for an open object
+abbrev pub plan_copy : ClientState → List ℕ → List ℕ → Option Target → Target → Plan
+plan_copy state word other (Some taken) target = ends replies.ObjectExists state
+plan_copy state word other None target = ends replies.Done (holding state (with_object state.objects other target word))
+
+abbrev pub plan_drop : ClientState → List ℕ → Target → Plan
+plan_drop state name target = ends replies.Done (holding state (without name state.objects))
 
 -- an object whose Open was told this
 abbrev pub opened : Target → Told → Target
 opened target told = record target { life = life_in told.answer }
 
 -- an Open of what a path leads to; the object is kept where it is answered
-abbrev pub plan_found : Mount → ClientState → List ℕ → Option Target → Plan
-plan_found mount state name None = ends replies.BadObject state
-plan_found mount state name (Some target) =
-    calls (asking target.file (access (node_at mount state target) 0 ops.Open)) state (λ told. ends (reply_of told) (holding state (with_object state.objects name (opened target told))))
+abbrev pub plan_found : Mount → ClientState → List ℕ → List ℕ → Option Target → Plan
+plan_found mount state name word None = ends replies.BadObject state
+plan_found mount state name word (Some target) =
+    calls (asking target.file (access (node_at mount state target) 0 ops.Open)) state (λ told. ends (reply_of told) (holding state (with_object state.objects name (opened target told) word)))
 
 -- a path is resolved, and what stands there is opened, if it is an object that the stack has
 abbrev pub plan_open : Mount → ClientState → List ℕ → List (List ℕ) → Option Target → Plan
 plan_open mount state name path (Some taken) = ends replies.ObjectExists state
 plan_open mount state name path None =
-    plan_names state (asking_names names_calls.Resolve (Some path)) (λ names. plan_found mount state name (received mount (kept_at names path)))
+    plan_names state (asking_names names_calls.Resolve (Some path)) (λ names. plan_found mount state name (received_word (kept_at names path)) (received mount (kept_at names path)))
 
 -- why a region is not mapped, as an answer to a line
 abbrev pub unmappable : SpaceErr → Reply
@@ -262,36 +312,33 @@ plan_load state address len = plan_place state (translation state.regions addres
 abbrev pub plan_store : ClientState → ℕ → List ℕ → Plan
 plan_store state address bytes = plan_place state (translation state.regions address (length bytes) true) (storing bytes)
 
--- the subcontract that a line names, if a line may bind objects of it: reconnectable objects come later
-abbrev pub kind_named : Sub → Option ObjectKind
-kind_named Singleton = Some kinds.Singleton
-kind_named Cluster = Some kinds.Cluster
-kind_named Caching = Some kinds.Caching
-kind_named Reconnectable = None
-
-abbrev pub plan_bind_as : ClientState → List (List ℕ) → Option ObjectKind → Option ℕ → Option ℕ → Plan
-plan_bind_as state path (Some kind) view file = plan_bind state path kind view file
-plan_bind_as state path None view file = unknown
+-- the subcontract that a line names
+abbrev pub kind_named : Sub → ObjectKind
+kind_named Singleton = kinds.Singleton
+kind_named Cluster = kinds.Cluster
+kind_named Caching = kinds.Caching
+kind_named Reconnectable = kinds.Reconnectable
 
 -- what a call does, in this state of its client
 abbrev pub plan : Mount → ClientState → Call → Plan
 plan mount state (Context path) = plan_done state (asking_names names_calls.Context (Some path))
-plan mount state (Bind path sub view file) = plan_bind_as state path (kind_named sub) (view_of mount view) (file_named mount file)
+plan mount state (Bind path sub view file) = plan_bind state path (kind_named sub) (view_of mount view) (file_named mount file)
 plan mount state (Unbind path) = plan_done state (asking_names names_calls.Unbind (Some path))
 plan mount state (ListNames path) = plan_list state path
 plan mount state (Open name path) = plan_open mount state name path (object_of name state.objects)
-plan mount state (Copy name other) = plan_named state (object_of name state.objects) (plan_copy state other (object_of other state.objects))
+plan mount state (Copy name other) = plan_named state (object_of name state.objects) (plan_copy state (word_of name state.objects) other (object_of other state.objects))
 plan mount state (Drop name) = plan_named state (object_of name state.objects) (plan_drop state name)
-plan mount state (Read name page off len) = plan_named state (object_of name state.objects) (plan_access mount state (ops.Read page off len))
-plan mount state (Write name page off bytes) = plan_named state (object_of name state.objects) (plan_access mount state (ops.Write page off bytes))
-plan mount state (Clear name page) = plan_named state (object_of name state.objects) (plan_access mount state (ops.Clear page))
+plan mount state (Read name page off len) = plan_named state (object_of name state.objects) (plan_access mount state name (word_of name state.objects) (ops.Read page off len))
+plan mount state (Write name page off bytes) = plan_named state (object_of name state.objects) (plan_access mount state name (word_of name state.objects) (ops.Write page off bytes))
+plan mount state (Clear name page) = plan_named state (object_of name state.objects) (plan_access mount state name (word_of name state.objects) (ops.Clear page))
 plan mount state (Sync name) = plan_named state (object_of name state.objects) (plan_sync mount state keeps.Write)
 plan mount state (Clean name) = plan_named state (object_of name state.objects) (plan_sync mount state keeps.Read)
 plan mount state (Map region name address pages write) = plan_named state (object_of name state.objects) (plan_map mount state region address pages write)
 plan mount state (Unmap region) = plan_unmap state region
 plan mount state (Load address len) = plan_load state address len
 plan mount state (Store address bytes) = plan_store state address bytes
-plan mount state call = unknown
+plan mount state (Revoke layer file) = plan_end state revoke (layer_of mount layer) (file_named mount file)
+plan mount state (Release layer file) = plan_end state release (layer_of mount layer) (file_named mount file)
 
 -- what a caller did: at a file, or with the names
 pub data Made : Type 0 where
@@ -302,6 +349,8 @@ pub data Made : Type 0 where
 abbrev pub Asks : ℕ → Ask → Event → Type 0
 Asks caller (access node life op) (events.Access by number at of wanted) = (by ≡ caller) × (at ≡ node) × (of ≡ life) × (wanted ≡ op)
 Asks caller (sync node keep) (events.Synced by number at from kept) = (by ≡ caller) × (at ≡ node) × (kept ≡ keep)
+Asks caller (revoke node) (events.DestroyCache by number at) = (by ≡ caller) × (at ≡ node)
+Asks caller (release node) (events.DonePager by number at) = (by ≡ caller) × (at ≡ node)
 Asks caller ask event = ⊥
 
 -- a call that did nothing at its file ended the line with this answer

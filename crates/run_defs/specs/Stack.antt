@@ -1,5 +1,6 @@
 -- A mounted stack as a run sees it.
-use Rattle.std.specs.Prelude.{ℕ, List, [], ◌&&◌, map, slice_get, slice_index_or, position, Option, Some, None}
+use Rattle.std.specs.Prelude.{ℕ, ◌+◌, List, [], ◌&&◌, drop, map, slice_get, slice_index_or, position, Option, Some, None}
+use Rattle.std.specs.Option.{option_map}
 use Rattle.std.specs.Str.{bytes_eq}
 use Rattle.hist_plain.specs.File.{Shape}
 use Rattle.stack_accept.specs.declared.entries.FileEntry.{FileEntry}
@@ -38,6 +39,10 @@ pages_of mount file = pages_in (slice_get mount.files file) where
 -- the node of the view of a name
 abbrev pub view_of : Mount → List ℕ → Option ℕ
 view_of mount name = position (λ node. is_view node.kind && bytes_eq node.name name) mount.nodes
+
+-- the node of the layer of a name: a node other than the ground, which is the first
+abbrev pub layer_of : Mount → List ℕ → Option ℕ
+layer_of mount name = option_map (λ place. place + 1) (position (λ node. bytes_eq node.name name) (drop 1 mount.nodes))
 
 -- the number of the file of a name
 abbrev pub file_named : Mount → List ℕ → Option ℕ

@@ -5,5 +5,5 @@
 mod names;
 mod store;
 
-pub use names::{disk_name, file_name, file_named, pages_of, view_of};
+pub use names::{disk_name, file_name, file_named, layer_of, pages_of, view_of};
 pub use store::StoreKey;

@@ -4,7 +4,7 @@ ghost use Rattle.std.specs.Prelude.{◌≡◌, ◌<◌, ◌&&◌, IfSome, length
 ghost use Rattle.std.specs.Str.{bytes_eq};
 ghost use Rattle.stack_accept.specs.Mount.{is_view};
 ghost use Rattle.tower_core.specs.TreeShape.{IsUpper};
-ghost use Rattle.run_defs.specs.Stack.{disk_name, file_name, pages_of, view_of, file_named};
+ghost use Rattle.run_defs.specs.Stack.{disk_name, file_name, layer_of, pages_of, view_of, file_named};
 
 use seen_values::Text;
 use stack_accept::{FileEntry, Mounted, NodeEntry};
@@ -64,6 +64,27 @@ pub fn view_of(mount: &Mounted, name: &Text) -> Option<u32>
 {
     match place_of_view(mount.nodes(), name) {
         Some(node) => Some(node as u32),
+        None => None,
+    }
+}
+
+/// Where the layer of a name stands among the nodes above the ground.
+fn place_of_layer(layers: &[NodeEntry], name: &Text) -> Option<usize>
+    ensures place { result ≡ position (λ node. bytes_eq node.name name.now) layers.now }
+    ensures within { IfSome result (λ place. place < length layers.now) }
+{
+    layers
+        .iter()
+        .position(|node| node.name.as_str() == name.as_str())
+}
+
+/// The node of the layer of a name, if there is one: a coherency layer, a distributed layer or a manager, and not the ground.
+pub fn layer_of(mount: &Mounted, name: &Text) -> Option<u32>
+    ensures node { result ≡ layer_of mount.now name.now }
+    ensures upper { IfSome result (IsUpper mount.now.tree) }
+{
+    match place_of_layer(&mount.nodes()[1..], name) {
+        Some(place) => Some(place as u32 + 1),
         None => None,
     }
 }

@@ -29,14 +29,14 @@ use Rattle.stack_engine.specs.Start as engines
 use Rattle.spr_volume.specs.Needed.{AreNeeded}
 use Rattle.spr_volume.specs.Reads.{StandsByFirst}
 use Rattle.spr_volume.proofs.Kept.{kept_file}
-use Rattle.spr_volume.proofs.Reading.{needed_finds}
+use Rattle.spr_volume.proofs.Reading.{reads_find, taken_before}
 use Rattle.spr_volume.specs.Later.{AreAnswered, AreLater, IsLater, IsNoteOf, IsOnDisk, KeepsFirst, TurnsFirst}
 use Rattle.run_defs.specs.Stack.{pages_of}
 use Rattle.file_stores.specs.Opening.{shape_of_file}
 use Rattle.file_stores.proofs.Lists.{some-is}
 use Rattle.run_files.specs.Held.{paged}
 use Rattle.run_files.specs.Play.{IsWhole}
-use Rattle.run_files.specs.Begun.{AnswersAs, BeganAs, Begun, HasPagesOf, Holds, HoldsAll, IsAll, IsAlong, IsFrom, IsSized, Opening, StandFor, begun_as, file_then, pages_in, synced_from}
+use Rattle.run_files.specs.Begun.{AnswersAs, BeganAs, Begun, HasAgain, HasPagesOf, Holds, HoldsAll, IsAll, IsAlong, IsFrom, IsSized, Opening, StandFor, begun_as, file_then, pages_in, synced_from}
 use Rattle.run_files.specs.Leaves.{IsKept}
 use Rattle.run_files.specs.Run.{IsOfDisks, IsOfFile}
 use Rattle.run_files.proofs.AnswerLaws.{answers-but-bytes}
@@ -118,12 +118,12 @@ module _ (mount : Mount) (file : ℕ) (before after : Seen) (e0 e1 : EngineSeen)
       (subst (λ (t : TreeShape). AreNeeded t (file_in e0).pages [] run.later.more) run.opens.tree_is
       (subst (λ (l : List Logged). AreNeeded (tree_in e0) (file_in e0).pages (trail_of l) run.later.more) run.opens.no_log run.later.needed)))
 
-  -- each file that has the pages which the log kept answers as the log does
-  kept-answers : StandsByFirst mount.tree → (opening : Opening) → IsSized (begun_as mount file opening) → HasPagesOf (begun_as mount file opening) (log_in e1) → AnswersAs (begun_as mount file opening) (log_in e1)
-  kept-answers first opening long keeps =
+  -- each file that has the pages which the log kept, and those that were read again, answers as the log does
+  kept-answers : (opening : Opening) → IsSized (begun_as mount file opening) → HasPagesOf (begun_as mount file opening) (log_in e1) → HasAgain (begun_as mount file opening) (log_in e1) → AnswersAs (begun_as mount file opening) (log_in e1)
+  kept-answers opening long keeps again =
       let shows : ShowsWhatItRead mount.tree mount.page_size (pages_of mount file) (log_in e1) (sides_in e1) = at-mount (λ t f. ShowsWhatItRead t f.page_size f.pages (log_in e1) (sides_in e1)) run.sound.shows in
-      (shows opening.bytes long (needed_finds mount.tree mount.page_size (pages_of mount file) opening.bytes (log_in e1) (at-mount (λ t f. IsTree t) run.sound.true_to.tree) first long
-      (at-mount (λ t f. IsRun t f.pages start (events_in e1)) run.sound.true_to.run) (at-mount (λ t f. AllByRecursion (FitsFile f.page_size f.pages) (events_in e1)) run.sound.true_to.fits) needed-is keeps)).1
+      (shows opening.bytes long (reads_find mount.tree mount.page_size (pages_of mount file) opening.bytes (log_in e1) (at-mount (λ t f. IsTree t) run.sound.true_to.tree) long
+      (at-mount (λ t f. IsRun t f.pages start (events_in e1)) run.sound.true_to.run) (at-mount (λ t f. AllByRecursion (FitsFile f.page_size f.pages) (events_in e1)) run.sound.true_to.fits) keeps again)).1
 
   -- its log is the file's
   pub of-file : StandsByFirst mount.tree → (disks : ℕ) → disks ≡ length mount.disks → ((disk : ℕ) → Contains (live_in before.disks) disk → disk < disks) → IsOfFile mount file (log_in e1)
@@ -134,7 +134,8 @@ module _ (mount : Mount) (file : ℕ) (before after : Seen) (e0 e1 : EngineSeen)
     notes = subst (λ n. AllByRecursion (IsOfDisks n) (log_in e1)) same (notes-of (log_in e1) disks-later.notes);
     answers = λ opening. answers-but-bytes (begun_as mount file opening) (log_in e1) (at-mount (λ t f. IsRun t f.pages start (events_in e1)) run.sound.true_to.run) answered-is;
     kept_file = let found = kept_file mount.page_size (pages_of mount file) (log_in e1) (at-mount (λ t f. KeepsWholePages f.page_size f.pages (log_in e1)) run.sound.keeps) in (record { bytes = found.0 }, found.1, found.2);
-    kept_answers = kept-answers first;
+    kept_answers = kept-answers;
+    taken_before = taken_before mount.tree (pages_of mount file) (log_in e1) (at-mount (λ t f. IsTree t) run.sound.true_to.tree) first (at-mount (λ t f. IsRun t f.pages start (events_in e1)) run.sound.true_to.run);
     needed = needed-is;
   }
     where

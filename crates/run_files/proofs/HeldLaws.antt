@@ -5,9 +5,9 @@ use Rattle.std.proofs.lemmas.List.{length-map, map-append}
 use Rattle.stack_accept.specs.declared.entries.Kind.{Kind}
 use Rattle.stack_accept.specs.declared.entries.Kind.TheVariants as kinds
 use Rattle.stack_accept.specs.declared.entries.NodeEntry.{NodeEntry}
-use Rattle.stack_accept.specs.Mount.{Mount}
+use Rattle.stack_accept.specs.Mount.{Mount, via}
 use Rattle.stack_accept.specs.Sound.{IsLayerKind, IsMount}
-use Rattle.tower_core.specs.TreeShape.{TreeShape, frames_of}
+use Rattle.tower_core.specs.TreeShape.{TreeShape, frames_of, nodes}
 use Rattle.page_messages.specs.declared.paged.PagedFile.{PagedFile}
 use Rattle.page_messages.specs.Paged.{IsPagedFile}
 use Rattle.disk_format.specs.Shape.{IsShape}
@@ -15,7 +15,7 @@ use Rattle.disk_format.proofs.ShapeLaws.{page-sized}
 use Rattle.file_stores.specs.Keys.{image_shape}
 use Rattle.tower_log.specs.declared.logged.Logged.{Logged}
 use Rattle.tower_log.specs.Trail.{TrailSeen}
-use Rattle.stack_engine.specs.Engine.{log_in}
+use Rattle.stack_engine.specs.Engine.{log_in, machines_in}
 use Rattle.stack_engine.specs.Start as engines
 use Rattle.stack_engine.specs.Tower.{TowerSeen}
 use Rattle.spr_volume.specs.Passes.{logs}
@@ -26,12 +26,12 @@ use Rattle.file_stores.specs.Under.{IsSound as IsSoundUnder, Under, seen_under}
 use Rattle.file_stores.specs.Opening.{IsOpened}
 use Rattle.mirror_layer.specs.declared.came.Notice.{Notice}
 use Rattle.file_stores.specs.Notices.{AreAtClose}
-use Rattle.run_files.specs.Held.{paged, BeganOn, Opens, OpensEach, AreMade, made_none, made_more, OpensSome, IsUnheld, IsShut, AreShut, AreEnded, ended_none, ended_more}
+use Rattle.run_files.specs.Held.{machines_by_node, paged, BeganOn, Opens, OpensEach, AreMade, made_none, made_more, OpensSome, IsUnheld, IsShut, AreShut, AreEnded, ended_none, ended_more}
 
 -- a tower over what lies under a file
 pub opens-of : (mount : Mount) (f : FileSeen) (made : List (Option Notice)) (u : Under) (t : TowerSeen) → length made ≡ length f.stores → IsOpened mount f made u → IsSoundUnder u → engines.Opens mount.tree (paged mount f.file) (seen_under u) t.engine → t.turns ≡ []
-    → BeganOn mount f.file u t → (opens : Opens mount f t) × (made ≡ opens.made)
-opens-of mount f made u t each over sound opens free began = (record { under = u; made = made; each = each; over = over; under_sound = sound; opens = opens; free = free; began = began }, refl)
+    → machines_in t.engine ≡ machines_by_node mount → BeganOn mount f.file u t → (opens : Opens mount f t) × (made ≡ opens.made)
+opens-of mount f made u t each over sound opens free machines began = (record { under = u; made = made; each = each; over = over; under_sound = sound; opens = opens; free = free; machines = machines; began = began }, refl)
 
 pub opens-more : (mount : Mount) (ss : List FileSeen) (ts : List TowerSeen) (s : FileSeen) (t : TowerSeen) → OpensEach mount ss ts → Opens mount s t → OpensEach mount (ss ++ s ∷ []) (ts ++ t ∷ [])
 opens-more mount [] [] s t h last = (last, tt)
@@ -174,6 +174,14 @@ frames-few (n ∷ nodes) (suc node) few = frames-few nodes node (λ k d lt. few 
 pub few-frames : (mount : Mount) (node : ℕ) → IsMount mount → frames_of mount.tree node ≤ 1024
 few-frames mount node sound =
     subst (λ (t : TreeShape). frames_of t node ≤ 1024) (sym sound.served) (frames-few mount.nodes node (λ k d lt. node-frames mount k d sound lt))
+
+-- each node has a machine
+pub machines-many : (mount : Mount) (tree : TreeShape) (machines : List ℕ) → IsMount mount → tree ≡ mount.tree → machines ≡ machines_by_node mount → length machines ≡ nodes tree
+machines-many mount tree machines sound is are =
+    ap length are
+    ∙ length-map mount.nodes (λ (node : NodeEntry). node.machine)
+    ∙ sym (length-map mount.nodes (λ (node : NodeEntry). via mount.nodes node.below node.machine))
+    ∙ ap nodes (sym sound.served ∙ sym is)
 
 -- a file of the stack, as its messages name it
 pub paged-of : (mount : Mount) (file : ℕ) (paged_file : PagedFile) → IsMount mount → file < length mount.files → IsShape (image_shape mount (record { file = file; disk = 0 })) → paged_file ≡ paged mount file → IsPagedFile paged_file

@@ -18,6 +18,7 @@ use Rattle.layer_laws.specs.PlacesShown.{page_shown}
 use Rattle.tower_shows.specs.Began.{ArePagesOf}
 use Rattle.tower_shows.specs.Since.{AreSince}
 use Rattle.stack_engine.specs.Opened.{AreAnswers, KeepsPagesOf, last_from}
+use Rattle.spr_volume.specs.Reads.{FindsAgain}
 
 -- what a file began with: its bytes
 pub record Opening : Type 0 where
@@ -67,6 +68,10 @@ AnswersButBytes b log = (place : ℕ) (entry : Entry) → slice_get (entries_of 
 -- each page that the log kept, as its first grant found it, is the file's
 abbrev pub HasPagesOf : Begun → List Logged → Type 0
 HasPagesOf b log = KeepsPagesOf b.page_size b.opening.bytes log
+
+-- each page that was read again, having been granted before, is the file's there
+abbrev pub HasAgain : Begun → List Logged → Type 0
+HasAgain b log = FindsAgain b.tree b.page_size b.opening.bytes log
 
 -- THE FILE OF A LOG: it has its length, the log is legal over it, and each answer is the plain file's at its place
 pub record IsAlong (b : Begun) (log : List Logged) : Type 0 where

@@ -1,11 +1,11 @@
 -- The files of a run over the stores that were taken: opened, and closed.
-use Rattle.std.specs.Prelude.{◌≡◌, ◌⊎◌, ℕ, suc, ◌*◌, ◌<◌, List, [], ◌∷◌, ◌++◌, length, Option, Some}
+use Rattle.std.specs.Prelude.{◌≡◌, ◌⊎◌, ℕ, suc, ◌*◌, ◌<◌, List, [], ◌∷◌, ◌++◌, length, map, Option, Some}
 use Rattle.stack_accept.specs.Mount.{Mount}
 use Rattle.spr_io.specs.Berth.{BaySeen}
 use Rattle.run_defs.specs.declared.store.StoreKey.{StoreKey}
 use Rattle.run_defs.specs.Stack.{pages_of}
 use Rattle.page_messages.specs.declared.paged.PagedFile.{PagedFile}
-use Rattle.stack_engine.specs.Engine.{IsSound}
+use Rattle.stack_engine.specs.Engine.{IsSound, machines_in}
 use Rattle.run_files.specs.Begun.{BeganAs, IsSized, Opening, begun_as}
 use Rattle.stack_engine.specs.Opened.{IsOf}
 use Rattle.stack_engine.specs.Start as engines
@@ -44,12 +44,17 @@ pub record AreSameFiles (olds news : List FileSeen) : Type 0 where
 abbrev pub paged : Mount → ℕ → PagedFile
 paged mount file = record { number = file; page_size = mount.page_size; pages = pages_of mount file }
 
+-- the number of each node's machine, that of the ground first
+abbrev pub machines_by_node : Mount → List ℕ
+machines_by_node mount = map (λ node. node.machine) mount.nodes
+
 -- the tower is of the file that these pages began, if what lies under it tells its pages
 abbrev pub BeganOn : Mount → ℕ → Under → TowerSeen → Type 0
 BeganOn mount file under t = (opening : Opening) (told : List (List ℕ)) → (seen_under under).pages ≡ Some told
     → IsSized (begun_as mount file opening) → BeganAs (begun_as mount file opening) told → IsOf opening.bytes t.engine
 
--- a tower without events, in which nobody has a turn, over the image of a file that was opened over its stores
+-- a tower without events, in which nobody has a turn, over the image of a file that was opened over its stores. Its nodes are on the machines of
+-- the stack
 pub record Opens (mount : Mount) (f : FileSeen) (t : TowerSeen) : Type 0 where
   pub under : Under
   -- what the opening made of each disk in mirrors
@@ -59,6 +64,7 @@ pub record Opens (mount : Mount) (f : FileSeen) (t : TowerSeen) : Type 0 where
   pub under_sound : IsSoundUnder under
   pub opens : engines.Opens mount.tree (paged mount f.file) (seen_under under) t.engine
   pub free : t.turns ≡ []
+  pub machines : machines_in t.engine ≡ machines_by_node mount
   pub began : BeganOn mount f.file under t
 
 -- a tower was opened over the stores of each file, in order

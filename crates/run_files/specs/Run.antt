@@ -14,6 +14,7 @@ use Rattle.tower_log.specs.declared.logged.Logged.{Logged}
 use Rattle.tower_log.specs.declared.logged.Logged.TheVariants.{Entered, Noted}
 use Rattle.tower_log.specs.Log.{place_of, trail_of}
 use Rattle.spr_volume.specs.Needed.{AreNeeded}
+use Rattle.spr_volume.specs.Reads.{AreTakenBefore}
 use Rattle.run_defs.specs.declared.store.StoreKey.{StoreKey}
 use Rattle.run_defs.specs.Stack.{pages_of}
 use Rattle.client_objects.specs.Views.{names_at_start}
@@ -28,7 +29,7 @@ use Rattle.file_stores.specs.Keys.{stores_of}
 use Rattle.file_stores.specs.State.{Returned}
 use Rattle.file_stores.specs.Files.{FileSeen, StandsAt, stores_in}
 use Rattle.file_stores.specs.Notices.{all_notices}
-use Rattle.run_files.specs.Begun.{AnswersAs, AnswersButBytes, HasPagesOf, IsSized, Opening, begun_as}
+use Rattle.run_files.specs.Begun.{AnswersAs, AnswersButBytes, HasAgain, HasPagesOf, IsSized, Opening, begun_as}
 use Rattle.run_files.specs.Held.{AreFiles, AreSameFiles, Closes, IsUnheld}
 use Rattle.run_files.specs.Leaves.{LeavesFile}
 use Rattle.file_stores.specs.declared.stop.Stop.{Stop}
@@ -56,10 +57,13 @@ pub record IsOfFile (mount : Mount) (file : ℕ) (log : List Logged) : Type 0 wh
   pub notes : AllByRecursion (IsOfDisks (length mount.disks)) log
   -- whatever the file began with, each answer is the plain file's at its place, but for the bytes of a read
   pub answers : (opening : Opening) → AnswersButBytes (begun_as mount file opening) log
-  -- over each file that has the pages which the log kept, the bytes are the plain file's too; and there is such a file
+  -- over each file that has the pages which the log kept, and there those that were read again, the bytes are the plain file's too; and there is a file
+  -- that has the pages which the log kept
   pub kept_file : (opening : Opening) × IsSized (begun_as mount file opening) × HasPagesOf (begun_as mount file opening) log
-  pub kept_answers : (opening : Opening) → IsSized (begun_as mount file opening) → HasPagesOf (begun_as mount file opening) log → AnswersAs (begun_as mount file opening) log
-  -- no page message is needless: each comes next, where it stands, for an access or for a sync
+  pub kept_answers : (opening : Opening) → IsSized (begun_as mount file opening) → HasPagesOf (begun_as mount file opening) log → HasAgain (begun_as mount file opening) log → AnswersAs (begun_as mount file opening) log
+  -- a page is read again only if the layer on the ground had to give it back or to forget it, so that its channels could end
+  pub taken_before : AreTakenBefore mount.tree log
+  -- no page message is needless: each comes next, where it stands, for an access, for a sync or for the end of a layer's channels
   pub needed : AreNeeded mount.tree (pages_of mount file) [] log
 
 -- the files' logs, one for each; one whose closing sync is done ends with it

@@ -2,7 +2,7 @@
 
 ghost use Rattle.std.specs.Prelude.{◌≡◌, ◌+◌, ◌++◌, ◌<◌, ◌≤◌, ◌^◌, [], Some, IfOk, IfErr, OnOk, length, map, vec_capacity};
 ghost use Rattle.stack_accept.specs.Sound.{IsMount};
-ghost use Rattle.stack_engine.specs.Engine.{log_in};
+ghost use Rattle.stack_engine.specs.Engine.{log_in, machines_in};
 ghost use Rattle.stack_engine.specs.Start as engines;
 ghost use Rattle.spr_volume.specs.Passes.{logs};
 ghost use Rattle.run_defs.specs.Stack.{pages_of};
@@ -12,9 +12,9 @@ ghost use Rattle.file_stores.specs.Held.{IsRoom};
 ghost use Rattle.file_stores.specs.Files.{ArePairs, IsFile, Lasts};
 ghost use Rattle.file_stores.specs.Under.{IsSound as IsSoundUnder, seen_under};
 ghost use Rattle.file_stores.specs.Notices.{AreAtClose};
-ghost use Rattle.run_files.specs.Held.{paged, BeganOn, Opens, OpensEach, AreMade, OpensSome, IsUnheld, IsShut, AreShut, AreEnded};
+ghost use Rattle.run_files.specs.Held.{machines_by_node, paged, BeganOn, Opens, OpensEach, AreMade, OpensSome, IsUnheld, IsShut, AreShut, AreEnded};
 
-use crate::layers::copy_tree;
+use crate::layers::{copy_tree, machines_of};
 use file_stores::{
     FileGround, FileStores, Stop, Unopened, close_file, end_notices, open_file, shape_of,
 };
@@ -57,6 +57,7 @@ fn open_tower<S: Store>(
     ensures sound { IsSoundUnder ground }
     ensures opened { IfOk result (λ t. engines.Opens mount.now.tree (paged mount.now file) (seen_under ground) t.engine) }
     ensures free { IfOk result (λ t. t.turns ≡ []) }
+    ensures machines { IfOk result (λ t. machines_in t.engine ≡ machines_by_node mount.now) }
     ensures began { IfOk result (BeganOn mount.now file ground) }
     ensures back { IfErr result (λ g. g ≡ ground) }
 {
@@ -66,7 +67,10 @@ fn open_tower<S: Store>(
     let Ok(tree) = copy_tree(alloc, mount.tree()) else {
         return Err(ground);
     };
-    Tower::open(alloc, tree, paged, ground, *ops)
+    let Ok(machines) = machines_of(alloc, mount) else {
+        return Err(ground);
+    };
+    Tower::open(alloc, tree, paged, machines, ground, *ops)
 }
 
 /// Opens a file over its stores, and tells what that made of its disks. A refusal hands the stores back.

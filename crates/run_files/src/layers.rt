@@ -1,7 +1,9 @@
 //! The layers of a stack, once more for each file.
 
 ghost use Rattle.std.specs.Prelude.{◌≡◌, IfOk};
+ghost use Rattle.run_files.specs.Held.{machines_by_node};
 
+use stack_accept::Mounted;
 use std::alloc::{AllocError, Global};
 use tower_core::Tree;
 
@@ -36,4 +38,16 @@ pub(crate) fn copy_tree(alloc: Global, tree: &Tree) -> Result<Tree, AllocError>
     let parents = parents_of(alloc, tree)?;
     let frames = frames_of(alloc, tree)?;
     Tree::new(alloc, &parents, &frames)
+}
+
+/// The number of each node's machine, that of the ground first.
+pub(crate) fn machines_of(alloc: Global, mount: &Mounted) -> Result<Vec<u32>, AllocError>
+    ensures { IfOk result (λ machines. machines.items ≡ machines_by_node mount.now) }
+{
+    let nodes = mount.nodes();
+    let mut machines = Vec::new(alloc);
+    for node in nodes {
+        machines.push(node.machine)?;
+    }
+    Ok(machines)
 }

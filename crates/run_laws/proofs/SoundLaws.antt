@@ -1,5 +1,5 @@
 -- A run in which nothing failed ends well, or memory ran out.
-use Rattle.std.proofs.Common.{◌≡◌, ◌⊎◌, ⊎_elim, inl, inr, ℕ, suc, ◌-◌, ◌^◌, ◌<◌, ◌≤◌, ◌==◌, Bool, true, false, cond, List, [], ◌∷◌, ◌++◌, length, Option, Some, None, refl, sym, ap, subst, ◌∙◌, arith}
+use Rattle.std.proofs.Common.{◌≡◌, ◌⊎◌, ⊎_elim, inl, inr, ℕ, zero, suc, ◌-◌, ◌^◌, ◌<◌, ◌≤◌, ◌==◌, Bool, true, false, cond, List, [], ◌∷◌, ◌++◌, length, Option, Some, None, refl, sym, ap, subst, ◌∙◌, arith}
 use Rattle.std.specs.Prelude.{◌||◌, slice_get, filter, Err, Ok, Result, IfSome, take, unwrap_or}
 use Rattle.std.proofs.lemmas.Bool.{eq-eqb}
 use Rattle.std.specs.List.{AllByRecursion, list_any, list_all}
@@ -23,6 +23,7 @@ use Rattle.script_text.specs.declared.script.Call.{Call}
 use Rattle.script_text.specs.declared.script.Call.TheVariants as lines
 use Rattle.script_text.specs.declared.script.CallLine.{CallLine}
 use Rattle.script_text.specs.declared.script.ClientLine.{ClientLine}
+use Rattle.text_words.specs.Words.{path_of}
 use Rattle.script_text.specs.declared.script.Reply.{Reply}
 use Rattle.script_text.specs.declared.script.Reply.TheVariants as replies
 use Rattle.stack_accept.specs.declared.entries.FileEntry.{FileEntry}
@@ -41,8 +42,8 @@ use Rattle.name_context.specs.Names.{Name, kept_at}
 use Rattle.name_context.specs.Listed.{listed}
 use Rattle.client_objects.specs.declared.state.ClientState.{ClientState}
 use Rattle.client_objects.specs.declared.target.Target.{Target}
-use Rattle.client_objects.specs.Objects.{object_of}
-use Rattle.client_objects.specs.Stored.{received}
+use Rattle.client_objects.specs.Objects.{object_of, word_of}
+use Rattle.client_objects.specs.Stored.{received, received_word}
 use Rattle.memory_object.specs.declared.binding.CacheRights.{CacheRights}
 use Rattle.vmm_space.specs.declared.regions.Region.{Region}
 use Rattle.vmm_space.specs.declared.regions.Place.{Place}
@@ -54,8 +55,8 @@ use Rattle.vmm_space.specs.Spaces.{has_region, refusal, translation, without_reg
 use Rattle.run_defs.specs.declared.store.StoreKey.{StoreKey}
 use Rattle.run_defs.specs.Log.{Histories, IsFull, Item, by_caller, entered, items, items_from, log_at, noted, who}
 use Rattle.client_objects.specs.declared.kind.ObjectKind.{ObjectKind}
-use Rattle.run_defs.specs.Plan.{Asks, Goes, Made, NamesAsk, NamesTold, Plan, Refuses, Request, access, asking, asking_names, at_file, binding, calls, asks_names, ends, loading, mapping, node_at, plan, plan_access, plan_bind_as, plan_bound, plan_call, plan_copy, plan_done, plan_drop, plan_found, plan_map, plan_named, plan_names, plan_open, plan_place, plan_sync, refused_as, region_of, reply_of, rights_at, start_state, storing, kind_named, sync, told_names, unknown, unless_refused, unless_unmappable, with_names}
-use Rattle.run_defs.specs.Stack.{file_named, pages_of, view_of}
+use Rattle.run_defs.specs.Plan.{Ask, Asks, Goes, Made, NamesAsk, NamesTold, Plan, Refuses, Request, access, asking, asking_names, asks_names, at_file, binding, calls, ends, further_tries, is_revoked, kind_named, led_to, loading, mapping, node_at, plan, plan_access, plan_after, plan_bind, plan_bound, plan_call, plan_copy, plan_done, plan_drop, plan_end, plan_found, plan_map, plan_named, plan_names, plan_open, plan_place, plan_reopened, plan_sync, plan_try, refused_as, region_of, release, reply_of, rerouting, revoke, rights_at, start_state, storing, sync, told_names, unknown, unless_refused, unless_unmappable, with_names}
+use Rattle.run_defs.specs.Stack.{file_named, pages_of, view_of, layer_of}
 use Rattle.run_defs.specs.Fits.{Acts, AllGoOn, ClientsFit, Closes, Did, Does, InOrder, Line, Phased, last_cut, lines_of, made_on, no_client, plan_closing}
 use Rattle.run_defs.proofs.Logs.{items-more}
 use Rattle.run_defs.proofs.Parts.{full_later}
@@ -244,11 +245,10 @@ names-calm state ask go_on calm = λ told. unless-calm state ask.path told.refus
 done-calm : (state : ClientState) (ask : NamesAsk) → EndsCalm (plan_done state ask)
 done-calm state ask = names-calm state ask (λ names. ends replies.Done state) (λ names. refl)
 
-bind-calm : (state : ClientState) (path : List (List ℕ)) (kind : Option ObjectKind) (view file : Option ℕ) → EndsCalm (plan_bind_as state path kind view file)
-bind-calm state path (Some kind) (Some node) (Some file) = done-calm state (binding path kind node file)
-bind-calm state path (Some kind) (Some node) None = tt
-bind-calm state path (Some kind) None file = tt
-bind-calm state path None view file = tt
+bind-calm : (state : ClientState) (path : List (List ℕ)) (kind : ObjectKind) (view file : Option ℕ) → EndsCalm (plan_bind state path kind view file)
+bind-calm state path kind (Some node) (Some file) = done-calm state (binding path kind node file)
+bind-calm state path kind (Some node) None = tt
+bind-calm state path kind None file = tt
 
 named-calm : (state : ClientState) (target : Option Target) (go_on : Target → Plan) → ((found : Target) → EndsCalm (go_on found)) → EndsCalm (plan_named state target go_on)
 named-calm state None go_on calm = refl
@@ -258,22 +258,42 @@ if-calm : (b : Bool) (p q : Plan) → EndsCalm p → EndsCalm q → EndsCalm (co
 if-calm true p q one other = one
 if-calm false p q one other = other
 
-access-calm : (mount : Mount) (state : ClientState) (op : Op) (target : Target) → EndsCalm (plan_access mount state op target)
-access-calm mount state op target =
-    if-calm (fits_page mount.page_size (pages_of mount target.file) op) (plan_call state (asking target.file (access (node_at mount state target) target.life op))) (ends replies.NotOnePage state) told-calm refl
+abbrev GoesCalm : (ClientState → Told → Plan) → Type 0
+GoesCalm go_on = (state : ClientState) (told : Told) → EndsCalm (go_on state told)
 
-copy-calm : (state : ClientState) (other : List ℕ) (taken : Option Target) (target : Target) → EndsCalm (plan_copy state other taken target)
-copy-calm state other (Some taken) target = refl
-copy-calm state other None target = refl
+try-calm : (mount : Mount) (op : Op) (go_on : ClientState → Told → Plan) (state : ClientState) (target : Target) → GoesCalm go_on → EndsCalm (plan_try mount op go_on state target)
+try-calm mount op go_on state target calm =
+    if-calm (fits_page mount.page_size (pages_of mount target.file) op) (calls (asking target.file (access (node_at mount state target) target.life op)) state (go_on state)) (ends replies.NotOnePage state) (calm state) refl
 
-found-calm : (mount : Mount) (state : ClientState) (name : List ℕ) (target : Option Target) → EndsCalm (plan_found mount state name target)
-found-calm mount state name None = refl
-found-calm mount state name (Some target) = told-calm
+reopened-calm : (mount : Mount) (name : List ℕ) (op : Op) (go_on : ClientState → Told → Plan) (state : ClientState) (found : Option Target) → GoesCalm go_on → EndsCalm (plan_reopened mount name op go_on state found)
+reopened-calm mount name op go_on state None calm = refl
+reopened-calm mount name op go_on state (Some found) calm = λ told. try-calm mount op go_on (rerouting state name (led_to found told)) (led_to found told) calm
+
+after-calm : (mount : Mount) (left : ℕ) (name : List ℕ) (path : List (List ℕ)) (op : Op) → GoesCalm (plan_after mount left name path op)
+after-calm mount zero name path op state told = told-calm told
+after-calm mount (suc left) name path op state told =
+    if-calm (is_revoked told.answer)
+    (plan_names state (asking_names names_calls.Resolve (Some path)) (λ names. plan_reopened mount name op (plan_after mount left name path op) state (received mount (kept_at names path))))
+    (ends (reply_of told) state)
+    (names-calm state (asking_names names_calls.Resolve (Some path)) (λ names. plan_reopened mount name op (plan_after mount left name path op) state (received mount (kept_at names path)))
+    (λ names. reopened-calm mount name op (plan_after mount left name path op) state (received mount (kept_at names path)) (after-calm mount left name path op)))
+    (told-calm told)
+
+access-calm : (mount : Mount) (state : ClientState) (name word : List ℕ) (op : Op) (target : Target) → EndsCalm (plan_access mount state name word op target)
+access-calm mount state name word op target = try-calm mount op (plan_after mount (further_tries target.kind) name (unwrap_or (path_of word) []) op) state target (after-calm mount (further_tries target.kind) name (unwrap_or (path_of word) []) op)
+
+copy-calm : (state : ClientState) (word other : List ℕ) (taken : Option Target) (target : Target) → EndsCalm (plan_copy state word other taken target)
+copy-calm state word other (Some taken) target = refl
+copy-calm state word other None target = refl
+
+found-calm : (mount : Mount) (state : ClientState) (name word : List ℕ) (target : Option Target) → EndsCalm (plan_found mount state name word target)
+found-calm mount state name word None = refl
+found-calm mount state name word (Some target) = told-calm
 
 open-calm : (mount : Mount) (state : ClientState) (name : List ℕ) (path : List (List ℕ)) (taken : Option Target) → EndsCalm (plan_open mount state name path taken)
 open-calm mount state name path (Some taken) = refl
 open-calm mount state name path None =
-    names-calm state (asking_names names_calls.Resolve (Some path)) (λ names. plan_found mount state name (received mount (kept_at names path))) (λ names. found-calm mount state name (received mount (kept_at names path)))
+    names-calm state (asking_names names_calls.Resolve (Some path)) (λ names. plan_found mount state name (received_word (kept_at names path)) (received mount (kept_at names path))) (λ names. found-calm mount state name (received_word (kept_at names path)) (received mount (kept_at names path)))
 
 bound-calm : (state : ClientState) (rights : Option CacheRights) (region : CacheRights → Region) → EndsCalm (plan_bound state rights region)
 bound-calm state None region = refl
@@ -293,6 +313,11 @@ place-calm state (Err (places.Unmapped address)) request = refl
 place-calm state (Err places.CrossesPage) request = refl
 place-calm state (Err places.NotWritable) request = refl
 
+end-calm : (state : ClientState) (ask : ℕ → Ask) (node file : Option ℕ) → EndsCalm (plan_end state ask node file)
+end-calm state ask (Some node) (Some file) = told-calm
+end-calm state ask (Some node) None = tt
+end-calm state ask None file = tt
+
 plan-calm : (mount : Mount) (state : ClientState) (call : Call) → EndsCalm (plan mount state call)
 plan-calm mount state (lines.Context path) = done-calm state (asking_names names_calls.Context (Some path))
 plan-calm mount state (lines.Bind path sub view file) = bind-calm state path (kind_named sub) (view_of mount view) (file_named mount file)
@@ -300,11 +325,11 @@ plan-calm mount state (lines.Unbind path) = done-calm state (asking_names names_
 plan-calm mount state (lines.List path) = names-calm state (asking_names names_calls.List path) (λ names. ends (replies.Names (listed names path)) state) (λ names. refl)
 plan-calm mount state (lines.Open name path) = open-calm mount state name path (object_of name state.objects)
 plan-calm mount state (lines.Copy name other) =
-    named-calm state (object_of name state.objects) (plan_copy state other (object_of other state.objects)) (copy-calm state other (object_of other state.objects))
+    named-calm state (object_of name state.objects) (plan_copy state (word_of name state.objects) other (object_of other state.objects)) (copy-calm state (word_of name state.objects) other (object_of other state.objects))
 plan-calm mount state (lines.Drop name) = named-calm state (object_of name state.objects) (plan_drop state name) (λ target. refl)
-plan-calm mount state (lines.Read name page off len) = named-calm state (object_of name state.objects) (plan_access mount state (ops.Read page off len)) (access-calm mount state (ops.Read page off len))
-plan-calm mount state (lines.Write name page off bytes) = named-calm state (object_of name state.objects) (plan_access mount state (ops.Write page off bytes)) (access-calm mount state (ops.Write page off bytes))
-plan-calm mount state (lines.Clear name page) = named-calm state (object_of name state.objects) (plan_access mount state (ops.Clear page)) (access-calm mount state (ops.Clear page))
+plan-calm mount state (lines.Read name page off len) = named-calm state (object_of name state.objects) (plan_access mount state name (word_of name state.objects) (ops.Read page off len)) (access-calm mount state name (word_of name state.objects) (ops.Read page off len))
+plan-calm mount state (lines.Write name page off bytes) = named-calm state (object_of name state.objects) (plan_access mount state name (word_of name state.objects) (ops.Write page off bytes)) (access-calm mount state name (word_of name state.objects) (ops.Write page off bytes))
+plan-calm mount state (lines.Clear name page) = named-calm state (object_of name state.objects) (plan_access mount state name (word_of name state.objects) (ops.Clear page)) (access-calm mount state name (word_of name state.objects) (ops.Clear page))
 plan-calm mount state (lines.Sync name) = named-calm state (object_of name state.objects) (plan_sync mount state keeps.Write) (λ target. told-calm)
 plan-calm mount state (lines.Clean name) = named-calm state (object_of name state.objects) (plan_sync mount state keeps.Read) (λ target. told-calm)
 plan-calm mount state (lines.Map region name address pages write) =
@@ -316,7 +341,8 @@ plan-calm mount state (lines.Unmap region) =
     if-calm (has_region region state.regions) (ends replies.Done (mapping state (without_region region state.regions))) (ends replies.NoRegion state) refl refl
 plan-calm mount state (lines.Load address len) = place-calm state (translation state.regions address len false) (loading len)
 plan-calm mount state (lines.Store address bytes) = place-calm state (translation state.regions address (length bytes) true) (storing bytes)
-plan-calm mount state _ = tt
+plan-calm mount state (lines.Revoke layer file) = end-calm state revoke (layer_of mount layer) (file_named mount file)
+plan-calm mount state (lines.Release layer file) = end-calm state release (layer_of mount layer) (file_named mount file)
 
 -- WHAT WAS SAID
 abbrev SaidCalm : List Said → Type 0

@@ -1,4 +1,3 @@
-pub mod Later
 pub mod Known
 pub mod Stacks
 pub mod Interfaces

@@ -1,9 +1,7 @@
 -- Why a command ends before a store is taken, and what it writes then.
 use Rattle.std.specs.Prelude.{◌≡◌, ℕ, List, [], ◌∷◌, ◌++◌, codes, Some, None, Err}
-use Rattle.std.specs.Option.{option_map}
 use Rattle.std.specs.Fmt.{decimal}
 use Rattle.text_words.specs.Lines.{line_of}
-use Rattle.script_text.specs.declared.script.CallLine.{CallLine}
 use Rattle.script_text.specs.declared.script.Script.{Script}
 use Rattle.script_text.specs.Grammar.{IsScript, spelling}
 use Rattle.script_text.specs.Reading.{script_at}
@@ -27,9 +25,8 @@ use Rattle.run_texts.specs.declared.texts.TheConstants.{TEXT_LIMIT}
 use Rattle.run_texts.specs.declared.refusal.TextNames.{TextNames}
 use Rattle.run_texts.specs.declared.refusal.Refusal.{Refusal}
 use Rattle.run_texts.specs.declared.refusal.Refusal.TheVariants as refusals
-use Rattle.run_texts.specs.Later.{later_line, later_call}
 use Rattle.run_texts.specs.Known.{unknown_line}
-use Rattle.run_texts.specs.Stacks.{IsText, SpellsStack, IsStackOf, IsRunnable}
+use Rattle.run_texts.specs.Stacks.{IsText, SpellsStack, IsMounted}
 use Rattle.run_texts.specs.Interfaces.{HasInterfaces, IsInterfacesCause, IsOpsCause}
 
 -- the names of the texts of a command; one that it does not have is empty
@@ -61,23 +58,17 @@ pub record Spells (text : List ℕ) (script : Script) : Type 0 where
   pub is_script : IsScript script
   pub spelled : text ≡ spelling script
 
--- the line of the first call that the program does not make
-abbrev pub ScriptLater : Script → ℕ → Type 0
-ScriptLater script line = option_map {T = CallLine} (λ l. l.line) (later_call script.phases) ≡ Some line
-
--- why a script is refused over a stack: its first bad line and the first reason on it; or its first call that the program does
--- not make; or, where it makes them all, the first line that names what the stack does not have
+-- why a script is refused over a stack: its first bad line and the first reason on it; or, where no line is bad, the first line
+-- that names what the stack does not have
 abbrev pub RefusesScript : Mount → List ℕ → Refusal → Type 0
 RefusesScript mount text (refusals.Script line why) = script_at text ≡ Err (record { line = line; why = why })
-RefusesScript mount text (refusals.ScriptLater line) = (script : Script) × Spells text script × ScriptLater script line
-RefusesScript mount text (refusals.ScriptUnknown line) = (script : Script) × Spells text script × (later_call script.phases ≡ None) × (unknown_line mount script ≡ Some line)
+RefusesScript mount text (refusals.ScriptUnknown line) = (script : Script) × Spells text script × (unknown_line mount script ≡ Some line)
 RefusesScript mount text refusals.Memory = Unit {0}
 RefusesScript mount text refusal = ⊥
 
--- a script that a text spells, of calls that the program makes, which names what the stack has
+-- a script that a text spells, which names what the stack has
 pub record Scripts (mount : Mount) (text : List ℕ) (script : Script) : Type 0 where
   pub spells : Spells text script
-  pub none_later : later_call script.phases ≡ None
   pub known : unknown_line mount script ≡ None
 
 -- the text of the name spells such a script
@@ -86,11 +77,10 @@ pub record HasScript (shelf : ShelfSeen) (name : List ℕ) (mount : Mount) (scri
   pub text_is : IsText shelf TEXT_LIMIT name text
   pub scripts : Scripts mount text script
 
--- the texts of these names are interfaces with operations of these numbers, a stack that mounts so and that a run builds, and
--- this script
+-- the texts of these names are interfaces with operations of these numbers, a stack that mounts so, and this script
 pub record IsPrepared (shelf : ShelfSeen) (names : Names) (mount : Mount) (script : Script) (ops : Ops) : Type 0 where
   pub interfaces : HasInterfaces shelf names.idl ops
-  pub stack_is : IsRunnable shelf names.stack mount
+  pub stack_is : IsMounted shelf names.stack mount
   pub script_is : HasScript shelf names.script mount script
 
 -- A refusal of a stack has its cause: a fault of the shelf, or its text. Without such a fault the shelf had none.
@@ -99,28 +89,18 @@ IsStackCause before after stack refusals.StackShelf = Rose before.faults after.f
 IsStackCause before after stack refusals.Memory = after.faults ≡ before.faults
 IsStackCause before after stack refusal = (after.faults ≡ before.faults) × ((text : List ℕ) × IsText before TEXT_LIMIT stack text × RefusesStack text refusal)
 
--- the text of the name spells an accepted stack, and this is its first line that asks for a layer that a run does not build yet
-abbrev pub AsksLater : ShelfSeen → List ℕ → ℕ → Type 0
-AsksLater shelf name line = (stack : StackText) × IsStackOf shelf name stack × (later_line stack.lines ≡ Some line)
-
--- A stack that is not run has its cause: that, or a layer that a run does not build yet.
-abbrev pub IsRunnableCause : ShelfSeen → ShelfSeen → List ℕ → Refusal → Type 0
-IsRunnableCause before after stack (refusals.StackLater line) = (after.faults ≡ before.faults) × AsksLater before stack line
-IsRunnableCause before after stack refusal = IsStackCause before after stack refusal
-
--- the stack of the name can be run, and it refuses this script
+-- the stack of the name is mounted, and it refuses this script
 abbrev pub RefusesOver : ShelfSeen → List ℕ → List ℕ → Refusal → Type 0
 RefusesOver shelf stack name refusal =
-    (mount : Mount) × IsRunnable shelf stack mount × ((text : List ℕ) × IsText shelf TEXT_LIMIT name text × RefusesScript mount text refusal)
+    (mount : Mount) × IsMounted shelf stack mount × ((text : List ℕ) × IsText shelf TEXT_LIMIT name text × RefusesScript mount text refusal)
 
--- Behind interfaces a run's refusal has its cause: a stack that is not run; or, behind a stack that can be run, a script that
--- cannot, or a fault of the shelf.
+-- Behind interfaces a run's refusal has its cause: a stack that is refused; or, behind one that is mounted, a script that is refused,
+-- or a fault of the shelf.
 abbrev pub IsRunCause : ShelfSeen → ShelfSeen → List ℕ → List ℕ → Refusal → Type 0
 IsRunCause before after stack name (refusals.Script line why) = (after.faults ≡ before.faults) × RefusesOver before stack name (refusals.Script line why)
-IsRunCause before after stack name (refusals.ScriptLater line) = (after.faults ≡ before.faults) × RefusesOver before stack name (refusals.ScriptLater line)
 IsRunCause before after stack name (refusals.ScriptUnknown line) = (after.faults ≡ before.faults) × RefusesOver before stack name (refusals.ScriptUnknown line)
-IsRunCause before after stack name refusals.ScriptShelf = ((mount : Mount) × IsRunnable before stack mount) × Rose before.faults after.faults
-IsRunCause before after stack name refusal = IsRunnableCause before after stack refusal
+IsRunCause before after stack name refusals.ScriptShelf = ((mount : Mount) × IsMounted before stack mount) × Rose before.faults after.faults
+IsRunCause before after stack name refusal = IsStackCause before after stack refusal
 
 -- A run's refusal has its cause: interfaces that are refused, or behind interfaces with each operation a stack or a script.
 abbrev pub IsCause : ShelfSeen → ShelfSeen → Names → Refusal → Type 0
@@ -131,15 +111,15 @@ IsCause before after names refusals.IdlShelf = Rose before.faults after.faults
 IsCause before after names refusals.Memory = after.faults ≡ before.faults
 IsCause before after names refusal = ((ops : Ops) × HasInterfaces before names.idl ops) × IsRunCause before after names.stack names.script refusal
 
--- the stack of the name can be run, and this is the number of its file of a name
+-- the stack of the name is mounted, and this is the number of its file of a name
 pub record HasFile (shelf : ShelfSeen) (stack name : List ℕ) (mount : Mount) (file : ℕ) : Type 0 where
-  pub stack_is : IsRunnable shelf stack mount
+  pub stack_is : IsMounted shelf stack mount
   pub file_is : file_named mount name ≡ Some file
 
--- A file's refusal has its cause: a stack that is not run, or one that has no file of the name.
+-- A file's refusal has its cause: a stack that is refused, or one that has no file of the name.
 abbrev pub IsFileCause : ShelfSeen → ShelfSeen → List ℕ → List ℕ → Refusal → Type 0
-IsFileCause before after stack name refusals.FileUnknown = (after.faults ≡ before.faults) × ((mount : Mount) × IsRunnable before stack mount × (file_named mount name ≡ None))
-IsFileCause before after stack name refusal = IsRunnableCause before after stack refusal
+IsFileCause before after stack name refusals.FileUnknown = (after.faults ≡ before.faults) × ((mount : Mount) × IsMounted before stack mount × (file_named mount name ≡ None))
+IsFileCause before after stack name refusal = IsStackCause before after stack refusal
 
 -- the first line or place of a text that is refused, and why
 abbrev pub line_text : List ℕ → ℕ → List ℕ → List ℕ
@@ -160,9 +140,7 @@ refusal_text names (refusals.IdlUnfit place why) = line_text (codes "idl") place
 refusal_text names (refusals.IdlMissing which) = missing_text (full_name which)
 refusal_text names (refusals.Stack line why) = line_text (codes "stack") line (word_of why)
 refusal_text names (refusals.Unfit line rule) = line_text (codes "stack") line (codes "A" ++ decimal rule)
-refusal_text names (refusals.StackLater line) = line_text (codes "stack") line (codes "later")
 refusal_text names (refusals.Script line why) = line_text (codes "script") line (why_word why)
-refusal_text names (refusals.ScriptLater line) = line_text (codes "script") line (codes "later")
 refusal_text names (refusals.ScriptUnknown line) = line_text (codes "script") line (codes "unknown")
 refusal_text names refusals.FileUnknown = line_of (codes "file" ∷ codes "unknown" ∷ [])
 refusal_text names refusals.IdlShelf = shelf_text names.idl

@@ -1,5 +1,5 @@
 -- The stack of a text, what it mounts, and the lines of its tree.
-use Rattle.std.specs.Prelude.{◌≡◌, ℕ, ◌≤◌, List, length, Some, None, IfSome}
+use Rattle.std.specs.Prelude.{◌≡◌, ℕ, ◌≤◌, List, length, Some, IfSome}
 use Rattle.stack_text.specs.declared.stack.StackText.{StackText}
 use Rattle.stack_text.specs.Grammar.{IsStack, spelling}
 use Rattle.stack_accept.specs.Rules.{IsAccepted}
@@ -7,7 +7,6 @@ use Rattle.stack_accept.specs.Mount.{Mount, mounted}
 use Rattle.stack_accept.specs.Check.{check_text}
 use Rattle.spr_io.specs.Texts.{ShelfSeen}
 use Rattle.run_texts.specs.declared.texts.TheConstants.{TEXT_LIMIT}
-use Rattle.run_texts.specs.Later.{later_line}
 
 -- the text of a name, where it is told; it has at most so many bytes
 pub record IsText (shelf : ShelfSeen) (limit : ℕ) (name text : List ℕ) : Type 0 where
@@ -38,13 +37,6 @@ pub record IsStackOf (shelf : ShelfSeen) (name : List ℕ) (stack : StackText) :
 pub record IsMounted (shelf : ShelfSeen) (name : List ℕ) (mount : Mount) : Type 0 where
   pub stack : StackText
   pub stack_is : IsStackOf shelf name stack
-  pub mount_is : mount ≡ mounted stack.lines
-
--- so it is, and a run builds each of its layers
-pub record IsRunnable (shelf : ShelfSeen) (name : List ℕ) (mount : Mount) : Type 0 where
-  pub stack : StackText
-  pub stack_is : IsStackOf shelf name stack
-  pub none_later : later_line stack.lines ≡ None
   pub mount_is : mount ≡ mounted stack.lines
 
 -- these are the lines of the tree that the stack of the name makes

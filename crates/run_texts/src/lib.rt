@@ -4,7 +4,6 @@
 
 mod interfaces;
 mod known;
-mod later;
 mod operation_names;
 mod ops;
 mod refusal;
@@ -13,8 +12,7 @@ mod texts;
 
 pub use interfaces::{IDL_LIMIT, read_tables};
 pub use known::unknown_line;
-pub use later::{later_call, later_line};
 pub use operation_names::operation_name;
 pub use ops::ops_of;
 pub use refusal::{Refusal, TextNames, refuse};
-pub use texts::{TEXT_LIMIT, read_run, read_runnable, read_stack};
+pub use texts::{TEXT_LIMIT, read_run, read_stack};

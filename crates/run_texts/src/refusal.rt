@@ -51,22 +51,12 @@ pub enum Refusal {
         /// The number of the lowest rule that it breaks.
         rule: u8,
     },
-    /// A line of the stack asks for a layer that a run does not build yet.
-    StackLater {
-        /// The number of the line, from 1.
-        line: u32,
-    },
     /// A line of the script does not parse.
     Script {
         /// The number of the line, from 1.
         line: u32,
         /// The first reason on it.
         why: ScriptWhy,
-    },
-    /// A line of the script is a call that the program does not make.
-    ScriptLater {
-        /// The number of the line, from 1.
-        line: u32,
     },
     /// A line of the script names a machine, a view, a layer or a file that the stack does not have.
     ScriptUnknown {
@@ -157,11 +147,9 @@ pub fn refuse<K: Sink>(sink: &mut K, names: &TextNames<'_>, refusal: Refusal) ->
             let rule = buffer.format(rule).as_bytes();
             refuse_line(sink, b"stack", line, b"A", rule)
         }
-        Refusal::StackLater { line } => refuse_line(sink, b"stack", line, b"", b"later"),
         Refusal::Script { line, why } => {
             refuse_line(sink, b"script", line, b"", why.word().as_bytes())
         }
-        Refusal::ScriptLater { line } => refuse_line(sink, b"script", line, b"", b"later"),
         Refusal::ScriptUnknown { line } => refuse_line(sink, b"script", line, b"", b"unknown"),
         Refusal::FileUnknown => finish(sink, &[b"file unknown\n"], Status::Refused),
         Refusal::IdlShelf => refuse_shelf(sink, names.idl),

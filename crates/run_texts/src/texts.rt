@@ -2,16 +2,14 @@
 
 ghost use Rattle.std.specs.Prelude.{◌≡◌, ◌⊎◌, ◌≤◌, IfOk, IfErr, OnOk, None};
 ghost use Rattle.spr_io.specs.Causes.{Rose};
-ghost use Rattle.stack_accept.specs.Mount.{Mount, mounted};
+ghost use Rattle.stack_accept.specs.Mount.{Mount};
 ghost use Rattle.script_text.specs.Grammar.{IsScript};
 ghost use Rattle.run_texts.specs.Known.{unknown_line};
-ghost use Rattle.run_texts.specs.Later.{later_line, later_call};
-ghost use Rattle.run_texts.specs.Stacks.{IsText, SameTexts, IsStackOf, IsMounted, IsRunnable};
-ghost use Rattle.run_texts.specs.Refusal.{Spells, Scripts, RefusesScript, HasScript, IsPrepared, IsStackCause, IsRunnableCause, IsRunCause, IsCause};
+ghost use Rattle.run_texts.specs.Stacks.{IsText, SameTexts, IsMounted};
+ghost use Rattle.run_texts.specs.Refusal.{Spells, Scripts, RefusesScript, HasScript, IsPrepared, IsStackCause, IsRunCause, IsCause};
 
 use crate::interfaces::read_interfaces;
 use crate::known::unknown_line;
-use crate::later::{later_call, later_line};
 use crate::refusal::Refusal;
 use crate::stacks::accept_text;
 use pager_channel::Ops;
@@ -19,7 +17,6 @@ use script_text::{Script, ScriptWhy, parse_script};
 use seen_values::Text;
 use spr_io::{Shelf, ShelfErr};
 use stack_accept::Mounted;
-use stack_text::StackText;
 use std::alloc::Global;
 
 /// The most bytes that the text of a stack or of a script may have.
@@ -64,15 +61,12 @@ fn parse(alloc: Global, text: &[u8]) -> Result<Script, Refusal>
     }
 }
 
-/// The script of a text, of calls that the program makes, which names what the stack has.
+/// The script of a text, which names what the stack has.
 fn accept_script(alloc: Global, mount: &Mounted, text: &[u8]) -> Result<Script, Refusal>
     ensures ok { IfOk result (Scripts mount.now text.now) }
     ensures err { IfErr result (RefusesScript mount.now text.now) }
 {
     let script = parse(alloc, text)?;
-    if let Some(line) = later_call(script.phases.as_slice()) {
-        return Err(Refusal::ScriptLater { line });
-    }
     match unknown_line(mount, &script) {
         None => Ok(script),
         Some(line) => Err(Refusal::ScriptUnknown { line }),
@@ -80,49 +74,16 @@ fn accept_script(alloc: Global, mount: &Mounted, text: &[u8]) -> Result<Script, 
 }
 
 /// Reads the stack of a name, which keeps every rule, and mounts it.
-fn read_accepted<H: Shelf>(
-    alloc: Global,
-    shelf: &mut H,
-    name: &Text,
-) -> Result<(StackText, Mounted), Refusal>
-    ensures stack { IfOk result (λ found. IsStackOf (H.told shelf.old) name.now found.0) }
-    ensures value { IfOk result (λ found. found.1 ≡ mounted found.0.lines) }
+pub fn read_stack<H: Shelf>(alloc: Global, shelf: &mut H, name: &Text) -> Result<Mounted, Refusal>
+    ensures mounted { IfOk result (IsMounted (H.told shelf.old) name.now) }
     ensures err { IfErr result (IsStackCause (H.told shelf.old) (H.told shelf.new) name.now) }
     ensures same { SameTexts (H.told shelf.old) (H.told shelf.new) }
     ensures calm { OnOk result ((H.told shelf.new).faults ≡ (H.told shelf.old).faults) }
     ensures later { (H.told shelf.old).faults ≤ (H.told shelf.new).faults }
 {
     let text = read_text(alloc, shelf, name, TEXT_LIMIT, Refusal::StackShelf)?;
-    accept_text(alloc, &text)
-}
-
-/// Reads the stack of a name, which may have layers that a run does not build yet, and mounts it.
-pub fn read_stack<H: Shelf>(alloc: Global, shelf: &mut H, name: &Text) -> Result<Mounted, Refusal>
-    ensures mounted { IfOk result (IsMounted (H.told shelf.old) name.now) }
-    ensures err { IfErr result (IsStackCause (H.told shelf.old) (H.told shelf.new) name.now) }
-    ensures calm { OnOk result ((H.told shelf.new).faults ≡ (H.told shelf.old).faults) }
-{
-    let (_stack, mount) = read_accepted(alloc, shelf, name)?;
+    let (_stack, mount) = accept_text(alloc, &text)?;
     Ok(mount)
-}
-
-/// Reads the stack of a name, each of whose layers a run builds, and mounts it.
-pub fn read_runnable<H: Shelf>(
-    alloc: Global,
-    shelf: &mut H,
-    name: &Text,
-) -> Result<Mounted, Refusal>
-    ensures mounted { IfOk result (IsRunnable (H.told shelf.old) name.now) }
-    ensures err { IfErr result (IsRunnableCause (H.told shelf.old) (H.told shelf.new) name.now) }
-    ensures same { SameTexts (H.told shelf.old) (H.told shelf.new) }
-    ensures calm { OnOk result ((H.told shelf.new).faults ≡ (H.told shelf.old).faults) }
-    ensures later { (H.told shelf.old).faults ≤ (H.told shelf.new).faults }
-{
-    let (stack, mount) = read_accepted(alloc, shelf, name)?;
-    match later_line(&stack) {
-        None => Ok(mount),
-        Some(line) => Err(Refusal::StackLater { line }),
-    }
 }
 
 /// Reads the stack and the script of these names.
@@ -132,12 +93,12 @@ fn read_stack_and_script<H: Shelf>(
     stack: &Text,
     name: &Text,
 ) -> Result<(Mounted, Script), Refusal>
-    ensures mounted { IfOk result (λ found. IsRunnable (H.told shelf.old) stack.now found.0) }
+    ensures mounted { IfOk result (λ found. IsMounted (H.told shelf.old) stack.now found.0) }
     ensures script { IfOk result (λ found. HasScript (H.told shelf.old) name.now found.0 found.1) }
     ensures err { IfErr result (IsRunCause (H.told shelf.old) (H.told shelf.new) stack.now name.now) }
     ensures calm { OnOk result ((H.told shelf.new).faults ≡ (H.told shelf.old).faults) }
 {
-    let mount = read_runnable(alloc, shelf, stack)?;
+    let mount = read_stack(alloc, shelf, stack)?;
     let text = read_text(alloc, shelf, name, TEXT_LIMIT, Refusal::ScriptShelf)?;
     let script = accept_script(alloc, &mount, &text)?;
     Ok((mount, script))
@@ -153,7 +114,7 @@ pub fn read_run<H: Shelf>(
     name: &Text,
 ) -> Result<(Mounted, Script, Ops), Refusal>
     ensures ok { IfOk result (λ found. IsPrepared (H.told shelf.old) (record { idl = idl.now; stack = stack.now; script = name.now }) found.0 found.1 found.2) }
-    ensures script { IfOk result (λ found. IsScript found.1 × (later_call found.1.phases ≡ None) × (unknown_line found.0 found.1 ≡ None)) }
+    ensures script { IfOk result (λ found. IsScript found.1 × (unknown_line found.0 found.1 ≡ None)) }
     ensures err { IfErr result (IsCause (H.told shelf.old) (H.told shelf.new) (record { idl = idl.now; stack = stack.now; script = name.now })) }
     ensures calm { OnOk result ((H.told shelf.new).faults ≡ (H.told shelf.old).faults) }
 {

@@ -24,7 +24,7 @@ use Rattle.stack_accept.specs.Mount.{Mount}
 use Rattle.client_objects.specs.declared.state.ClientState.{ClientState}
 use Rattle.run_defs.specs.Log.{Histories, Item, entered, noted, items, items_from, by_caller, name_items, names_by, log_at, IsFull}
 use Rattle.name_context.specs.History.{NamesSeen}
-use Rattle.run_defs.specs.Plan.{Plan, ends, calls, Request, Ask, access, sync, Asks, Made, at_file, Goes}
+use Rattle.run_defs.specs.Plan.{Plan, ends, calls, Request, Ask, access, release, revoke, sync, Asks, Made, at_file, Goes}
 use Rattle.run_defs.specs.Fits.{made_on, made_with_names, SyncsFrom, SyncsInOrder, GoesOn, Did, Gone}
 use Rattle.run_defs.proofs.Logs.{by_caller-more}
 use Rattle.run_defs.proofs.Parts.{goes_on_same, goes_on_then, names_go_on_same, did_nothing, gone_call, gone_fault, gone_refused}
@@ -110,15 +110,21 @@ called_by mount m c request old new out r is low high called last syncs =
 asks_event : (c least : ℕ) (ask : Ask) (trail : List Event) (event : Event) → IsAsked c least ask trail event → Asks c ask event
 asks_event c least (access node life op) trail event is = subst (Asks c (access node life op)) (sym is) (refl, refl, refl, refl)
 asks_event c least (sync node keep) trail event is = subst (Asks c (sync node keep)) (sym is.is) (refl, refl, refl)
+asks_event c least (revoke node) trail event is = subst (Asks c (revoke node)) (sym is) (refl, refl)
+asks_event c least (release node) trail event is = subst (Asks c (release node)) (sym is) (refl, refl)
 
 event_by : (c least : ℕ) (ask : Ask) (trail : List Event) (event : Event) → IsAsked c least ask trail event → caller_of event ≡ Some c
 event_by c least (access node life op) trail event is = ap caller_of is
 event_by c least (sync node keep) trail event is = ap caller_of is.is
+event_by c least (revoke node) trail event is = ap caller_of is
+event_by c least (release node) trail event is = ap caller_of is
 
 -- a sync that is asked is from no place before this one
 event_from : (c least : ℕ) (ask : Ask) (trail : List Event) (event : Event) → IsAsked c least ask trail event → SyncsFrom least event
 event_from c least (access node life op) trail event is = subst (SyncsFrom least) (sym is) tt
 event_from c least (sync node keep) trail event is = subst (SyncsFrom least) (sym is.is) is.least_is
+event_from c least (revoke node) trail event is = subst (SyncsFrom least) (sym is) tt
+event_from c least (release node) trail event is = subst (SyncsFrom least) (sym is) tt
 
 entered_item : (c place : ℕ) (entry : LogEntry) (last : List Logged) → last ≡ Entered entry ∷ [] → caller_of entry.event ≡ Some c
     → by_caller c (items_from place last) ≡ entered (record { place = place; event = entry.event; told = told_by entry }) ∷ []
@@ -163,6 +169,23 @@ line_end mount c p request state go_on old new out a said left is low high calle
     gone_call c p request state go_on (histories mount old) h h e (told_of entry a.answer) [] said left is did
     (asks_event c least request.ask (trail_of b) entry.event asked) (tells entry a.answer answered.answer_is) (did_nothing c h h refl)
     (subst (λ (q : Plan). Goes (IsFull h) c q [] said left) (sym end) (refl, refl))
+
+-- a call that was answered, and what the line does then
+pub line_then : (mount : Mount) (c : ℕ) (p : Plan) (request : Request) (state : ClientState) (go_on : Told → Plan) (old mid new : Knows) (out : List ℕ) (a : Answered) (said : Reply) (left : ClientState)
+    → p ≡ calls request state go_on → old.first ≤ c → c < old.end → (called : CallDone c request old mid out (Ok a)) → Gone c (go_on (told_of called.here.ends.0 a.answer)) (histories mount mid) (histories mount new) said left
+    → Gone c p (histories mount old) (histories mount new) said left
+line_then mount c p request state go_on old mid new out a said left is low high called rest =
+    let entry : LogEntry = called.here.ends.0 in
+    let asked = called.here.ends.2 in
+    let b : List Logged = called.here.before in
+    let least : ℕ = place_of (log_at (histories mount old) request.file) in
+    let e : Entry = record { place = place_of b; event = entry.event; told = told_by entry } in
+    let did : Did c (histories mount old) (histories mount mid) (at_file request.file (entered e) ∷ []) =
+    called_by mount c c request old mid out (Ok a) (entered e ∷ []) low high called
+    (entered_item c (place_of b) entry called.here.last called.here.ends.1 (event_by c least request.ask (trail_of b) entry.event asked))
+    (event_from c least request.ask (trail_of b) entry.event asked, tt) in
+    gone_call c p request state go_on (histories mount old) (histories mount mid) (histories mount new) e (told_of entry a.answer) rest.made said left is did
+    (asks_event c least request.ask (trail_of b) entry.event asked) (tells entry a.answer called.here.ends.3.answer_is) rest.did rest.goes
 
 -- a call that was refused ends the line
 pub line_err : (mount : Mount) (c : ℕ) (p : Plan) (request : Request) (state : ClientState) (go_on : Told → Plan) (old new : Knows) (out : List ℕ) (err : StepErr)

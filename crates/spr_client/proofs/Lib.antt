@@ -1,6 +1,7 @@
 pub mod CallLaws
 pub mod NamesLaws
 pub mod LineLaws
+pub mod ReconnectLaws
 pub mod LinesLaws
 pub mod Frames
 pub mod Lists

@@ -1,5 +1,5 @@
 -- How a line is done.
-use Rattle.std.proofs.Common.{◌≡◌, ◌≢◌, ℕ, ◌<◌, ◌≤◌, List, [], ◌∷◌, length, false, Option, Some, None, IsSome, Ok, Err, refl, sym, ap, subst, ◌∙◌, arith, inl, inr}
+use Rattle.std.proofs.Common.{◌≡◌, ◌≢◌, ℕ, ◌<◌, ◌≤◌, List, [], ◌∷◌, length, true, false, unwrap_or, Option, Some, None, IsSome, Ok, Err, refl, sym, ap, subst, ◌∙◌, arith, inl, inr}
 use Rattle.std.specs.Prelude.{◌⊎◌}
 use Rattle.std.specs.List.{AllZip}
 use Rattle.std.proofs.lemmas.Slice.Zip.{AllZip-map}
@@ -18,19 +18,22 @@ use Rattle.name_context.specs.declared.entry.NameCall.TheVariants as calls_of
 use Rattle.name_context.specs.declared.entry.NameErr.{NameErr}
 use Rattle.name_context.specs.declared.entry.NameErr.TheVariants as errs
 use Rattle.name_context.specs.Names.{Name, kept_at}
+use Rattle.text_words.specs.Words.{path_of}
+use Rattle.client_objects.specs.declared.kind.ObjectKind.{ObjectKind}
+use Rattle.client_objects.specs.declared.kind.ObjectKind.TheVariants.{Singleton, Cluster, Caching, Reconnectable}
 use Rattle.client_objects.specs.declared.state.ClientState.{ClientState}
 use Rattle.client_objects.specs.declared.target.Target.{Target}
 use Rattle.client_objects.specs.Objects.{with_object}
-use Rattle.client_objects.specs.Stored.{received}
+use Rattle.client_objects.specs.Stored.{received, received_word}
 use Rattle.run_defs.specs.Stack.{pages_of}
-use Rattle.run_defs.specs.Plan.{Plan, ends, calls, Request, NamesAsk, told_names, unless_refused, refused_as, plan_call, plan_named, plan_names, plan_access, plan_open, plan_found, access, asking, asking_names, holding, node_at, opened, reply_of}
+use Rattle.run_defs.specs.Plan.{Plan, ends, calls, Request, NamesAsk, told_names, unless_refused, refused_as, plan_call, plan_named, plan_names, plan_access, plan_after, plan_open, plan_found, plan_try, further_tries, access, asking, asking_names, holding, node_at, opened, reply_of}
 use Rattle.run_defs.specs.Fits.{Gone}
 use Rattle.run_defs.proofs.Parts.{did_nothing, did_then, went_of, went_lacks, gone_as, gone_none, gone_named, gone_unnamed, gone_refused}
 use Rattle.spr_volume.specs.declared.answered.Answered.{Answered}
 use Rattle.spr_volume.specs.Passes.{VolumeSeen, Knows, as_known}
 use Rattle.spr_client.specs.Calls.{CallDone, MayCall, NamesDone, histories, refusal_of}
 use Rattle.spr_client.specs.Lines.{LineDone, OthersIdle, PlanDone}
-use Rattle.spr_client.proofs.CallLaws.{line_end, line_err, called_other, told_of, told_bytes}
+use Rattle.spr_client.proofs.CallLaws.{line_end, line_err, line_then, called_other, told_of, told_bytes}
 use Rattle.spr_client.proofs.NamesLaws.{entered, unnamed, memory_or, some_same}
 
 -- nobody did anything
@@ -101,10 +104,10 @@ done-answered mount v caller kept request state old new out a said may called is
     called (λ t answer bytes. ap (λ (r : Reply). ends r state) (sym (is t answer bytes))))
 
 -- a call on the names that was refused ends the line
-pub names-refused : (mount : Mount) (v : VolumeSeen) (caller : ℕ) (kept : ClientState) (p : Plan) (ask : NamesAsk) (go_on : List Name → Plan) (stored : Option Held) (Tells : List Name → Type 0) (old new : Knows) (err : NameErr) (said : Reply)
-    → MayCall mount v old caller → p ≡ plan_names kept ask go_on → NamesDone v caller ask stored Tells old new (Some err) → said ≡ refused_as ask.path err → LineDone mount caller kept p old new said kept
-names-refused mount v caller kept p ask go_on stored Tells old new err said may is done same =
-    line_of mount caller kept p old new said kept (by_memory (memory_or err))
+pub plan-names-refused : (mount : Mount) (v : VolumeSeen) (caller : ℕ) (kept : ClientState) (p : Plan) (ask : NamesAsk) (go_on : List Name → Plan) (stored : Option Held) (Tells : List Name → Type 0) (old new : Knows) (err : NameErr) (said : Reply)
+    → MayCall mount v old caller → p ≡ plan_names kept ask go_on → NamesDone v caller ask stored Tells old new (Some err) → said ≡ refused_as ask.path err → PlanDone mount caller p old new said kept
+plan-names-refused mount v caller kept p ask go_on stored Tells old new err said may is done same =
+    by_memory (memory_or err)
   where
     by_memory : (err ≢ errs.Memory) ⊎ (err ≡ errs.Memory) → PlanDone mount caller p old new said kept
     by_memory (inl n) =
@@ -128,27 +131,66 @@ names-refused mount v caller kept p ask go_on stored Tells old new err said may 
           others = λ other ne low high. unnamed mount v caller ask stored Tells old new may.stack.names lacked other low high;
         }
 
+pub names-refused : (mount : Mount) (v : VolumeSeen) (caller : ℕ) (kept : ClientState) (p : Plan) (ask : NamesAsk) (go_on : List Name → Plan) (stored : Option Held) (Tells : List Name → Type 0) (old new : Knows) (err : NameErr) (said : Reply)
+    → MayCall mount v old caller → p ≡ plan_names kept ask go_on → NamesDone v caller ask stored Tells old new (Some err) → said ≡ refused_as ask.path err → LineDone mount caller kept p old new said kept
+names-refused mount v caller kept p ask go_on stored Tells old new err said may is done same =
+    line_of mount caller kept p old new said kept (plan-names-refused mount v caller kept p ask go_on stored Tells old new err said may is done same)
+
+-- memory lacked for a call on the names
+pub plan-names-lacks : (mount : Mount) (caller : ℕ) (kept : ClientState) (p : Plan) (ask : NamesAsk) (go_on : List Name → Plan) (pass : Knows) → p ≡ plan_names kept ask go_on → PlanDone mount caller p pass pass replies.Memory kept
+plan-names-lacks mount caller kept p ask go_on pass is = record {
+  pass = refl;
+  gone = gone_unnamed caller p ask kept (λ t. unless_refused kept ask.path t.refused (go_on t.names)) (histories mount pass) (histories mount pass) is (did_nothing caller (histories mount pass) (histories mount pass) refl);
+  others = idle-same mount caller pass;
+}
+
 pass_then : (a b c : Knows) → b ≡ as_known a b → c ≡ as_known b c → c ≡ as_known a c
 pass_then a b c f g = g ∙ ap (λ (p : Knows). as_known p c) f
 
 -- a call on the names that was not refused, and what the line does then
-pub names-then : (mount : Mount) (v : VolumeSeen) (caller : ℕ) (kept : ClientState) (p : Plan) (ask : NamesAsk) (go_on : List Name → Plan) (stored : Option Held) (Tells : List Name → Type 0) (old mid new : Knows) (said : Reply) (left : ClientState)
+pub plan-names-then : (mount : Mount) (v : VolumeSeen) (caller : ℕ) (kept : ClientState) (p : Plan) (ask : NamesAsk) (go_on : List Name → Plan) (stored : Option Held) (Tells : List Name → Type 0) (old mid new : Knows) (said : Reply) (left : ClientState)
     → MayCall mount v old caller → p ≡ plan_names kept ask go_on → NamesDone v caller ask stored Tells old mid None
-    → ((names : List Name) → Tells names → PlanDone mount caller (go_on names) mid new said left) → LineDone mount caller kept p old new said left
-names-then mount v caller kept p ask go_on stored Tells old mid new said left may is done onward =
+    → ((names : List Name) → Tells names → PlanDone mount caller (go_on names) mid new said left) → PlanDone mount caller p old new said left
+plan-names-then mount v caller kept p ask go_on stored Tells old mid new said left may is done onward =
     let made = entered mount v caller ask stored Tells old mid None may.stack.names done (λ e. absurd cc) in
     let names = made.item.names in
     let rest = onward names made.tells in
     let go : unless_refused kept ask.path made.item.entry.refused (go_on names) ≡ go_on names = ap (λ (r : Option NameErr). unless_refused kept ask.path r (go_on names)) made.refused_is in
     let first_is : mid.first ≡ old.first = ap (λ (k : Knows). k.first) done.1.pass in
     let end_is : mid.end ≡ old.end = ap (λ (k : Knows). k.end) done.1.pass in
-    line_of mount caller kept p old new said left (record {
+    record {
       pass = pass_then old mid new done.1.pass rest.pass;
       gone = gone_named caller p ask kept (λ t. unless_refused kept ask.path t.refused (go_on t.names)) (histories mount old) (histories mount mid) (histories mount new) made.item said left is
           (made.own may.first may.last) made.asks (gone_as caller (go_on names) (unless_refused kept ask.path made.item.entry.refused (go_on names)) (histories mount mid) (histories mount new) said left go rest.gone);
       others = λ other ne low high. did_then other (histories mount old) (histories mount mid) (histories mount new) [] [] (made.others other ne low high)
           (rest.others other ne (subst (λ (n : ℕ). n ≤ other) (sym first_is) low) (subst (λ (n : ℕ). other < n) (sym end_is) high));
-    })
+    }
+
+pub names-then : (mount : Mount) (v : VolumeSeen) (caller : ℕ) (kept : ClientState) (p : Plan) (ask : NamesAsk) (go_on : List Name → Plan) (stored : Option Held) (Tells : List Name → Type 0) (old mid new : Knows) (said : Reply) (left : ClientState)
+    → MayCall mount v old caller → p ≡ plan_names kept ask go_on → NamesDone v caller ask stored Tells old mid None
+    → ((names : List Name) → Tells names → PlanDone mount caller (go_on names) mid new said left) → LineDone mount caller kept p old new said left
+names-then mount v caller kept p ask go_on stored Tells old mid new said left may is done onward =
+    line_of mount caller kept p old new said left (plan-names-then mount v caller kept p ask go_on stored Tells old mid new said left may is done onward)
+
+-- a call at a file that was answered, and what the plan does then
+pub plan-then : (mount : Mount) (v : VolumeSeen) (caller : ℕ) (p : Plan) (request : Request) (state : ClientState) (go_on : Told → Plan) (old mid new : Knows) (out : List ℕ) (a : Answered) (said : Reply) (left : ClientState)
+    → MayCall mount v old caller → p ≡ calls request state go_on → (called : CallDone caller request old mid out (Ok a))
+    → ((t : Told) → t.answer ≡ a.answer → PlanDone mount caller (go_on t) mid new said left) → PlanDone mount caller p old new said left
+plan-then mount v caller p request state go_on old mid new out a said left may is called onward =
+    let rest = onward (told_of called.here.ends.0 a.answer) refl in
+    let first_is : mid.first ≡ old.first = ap (λ (k : Knows). k.first) called.pass in
+    let end_is : mid.end ≡ old.end = ap (λ (k : Knows). k.end) called.pass in
+    record {
+      pass = pass_then old mid new called.pass rest.pass;
+      gone = line_then mount caller p request state go_on old mid new out a said left is may.first may.last called rest.gone;
+      others = λ other ne low high. did_then other (histories mount old) (histories mount mid) (histories mount new) [] []
+          (called_other mount caller other request old mid out (Ok a) ne low high called)
+          (rest.others other ne (subst (λ (n : ℕ). n ≤ other) (sym first_is) low) (subst (λ (n : ℕ). other < n) (sym end_is) high));
+    }
+
+-- whoever might call may still call behind another call
+pub may-still : (mount : Mount) (v : VolumeSeen) (old new : Knows) (caller : ℕ) → MayCall mount v old caller → new ≡ as_known old new → MayCall mount v new caller
+may-still mount v old new caller may is = subst (λ (p : Knows). MayCall mount v p caller) (sym is) (record { stack = may.stack; of = may.of; first = may.first; last = may.last })
 
 -- a call on the names that was not refused ended the line
 pub names-end : (mount : Mount) (v : VolumeSeen) (caller : ℕ) (kept : ClientState) (p : Plan) (ask : NamesAsk) (go_on : List Name → Plan) (stored : Option Held) (Tells : List Name → Type 0) (old new : Knows) (said : Reply)
@@ -166,14 +208,32 @@ pub named-some : (state : ClientState) (o : Option Target) (object : Target) (go
 named-some state o object go_on some = ap (λ (x : Option Target). plan_named state x go_on) some
 
 -- an access that does not fit makes no call
-pub access-unfit : (mount : Mount) (state : ClientState) (op : Op) (object : Target) → fits_page mount.page_size (pages_of mount object.file) op ≡ false → plan_access mount state op object ≡ ends replies.NotOnePage state
-access-unfit mount state op object unfit = rw unfit refl
+pub access-unfit : (mount : Mount) (state : ClientState) (name word : List ℕ) (op : Op) (object : Target) → fits_page mount.page_size (pages_of mount object.file) op ≡ false → plan_access mount state name word op object ≡ ends replies.NotOnePage state
+access-unfit mount state name word op object unfit = rw unfit refl
+
+-- an access of an object that is not reconnectable makes one call
+few_tries : (kind : ObjectKind) → kind ≢ Reconnectable → further_tries kind ≡ 0
+few_tries Singleton other = refl
+few_tries Cluster other = refl
+few_tries Caching other = refl
+few_tries Reconnectable other = absurd (other refl)
+
+pub access-once : (mount : Mount) (state : ClientState) (name word : List ℕ) (op : Op) (object : Target) → object.kind ≢ Reconnectable → fits_page mount.page_size (pages_of mount object.file) op ≡ true
+    → plan_access mount state name word op object ≡ plan_call state (asking object.file (access (node_at mount state object) object.life op))
+access-once mount state name word op object other fit =
+    ap (λ (n : ℕ). plan_try mount op (plan_after mount n name (unwrap_or (path_of word) []) op) state object) (few_tries object.kind other) ∙ (rw fit refl)
+
+pub access-again : (mount : Mount) (state : ClientState) (name word : List ℕ) (path : List (List ℕ)) (op : Op) (object : Target) → object.kind ≡ Reconnectable → Some path ≡ path_of word
+    → plan_access mount state name word op object ≡ plan_try mount op (plan_after mount 2 name path op) state object
+access-again mount state name word path op object kind is =
+    ap (λ (k : ObjectKind). plan_try mount op (plan_after mount (further_tries k) name (unwrap_or (path_of word) []) op) state object) kind
+    ∙ ap (λ (o : Option (List (List ℕ))). plan_try mount op (plan_after mount 2 name (unwrap_or o []) op) state object) (sym is)
 
 pub open-exists : (mount : Mount) (state : ClientState) (name : List ℕ) (path : List (List ℕ)) (o : Option Target) (object : Target) → o ≡ Some object → plan_open mount state name path o ≡ ends replies.ObjectExists state
 open-exists mount state name path o object some = ap (λ (x : Option Target). plan_open mount state name path x) some
 
 pub open-new : (mount : Mount) (state : ClientState) (name : List ℕ) (path : List (List ℕ)) (o : Option Target) → o ≡ None
-    → plan_open mount state name path o ≡ plan_names state (asking_names calls_of.Resolve (Some path)) (λ names. plan_found mount state name (received mount (kept_at names path)))
+    → plan_open mount state name path o ≡ plan_names state (asking_names calls_of.Resolve (Some path)) (λ names. plan_found mount state name (received_word (kept_at names path)) (received mount (kept_at names path)))
 open-new mount state name path o none = ap (λ (x : Option Target). plan_open mount state name path x) none
 
 -- the same line, with the plan written otherwise
@@ -194,7 +254,7 @@ pub clone-is : (xs ys : List ℕ) → AllZip (λ x y. y ≡ x) xs ys → ys ≡ 
 clone-is xs ys each = AllZip-map (λ n. n) xs ys each ∙ map-id xs
 
 -- what is received makes no call where memory lacks
-pub found-lacks : (mount : Mount) (caller : ℕ) (state : ClientState) (name : List ℕ) (found : Option Target) (pass : Knows) → IsSome found → PlanDone mount caller (plan_found mount state name found) pass pass replies.Memory state
-found-lacks mount caller state name None pass some = absurd cc
-found-lacks mount caller state name (Some target) pass some =
-    plan-lacks mount caller (plan_found mount state name (Some target)) (asking target.file (access (node_at mount state target) 0 ops.Open)) state (λ told. ends (reply_of told) (holding state (with_object state.objects name (opened target told)))) pass refl
+pub found-lacks : (mount : Mount) (caller : ℕ) (state : ClientState) (name word : List ℕ) (found : Option Target) (pass : Knows) → IsSome found → PlanDone mount caller (plan_found mount state name word found) pass pass replies.Memory state
+found-lacks mount caller state name word None pass some = absurd cc
+found-lacks mount caller state name word (Some target) pass some =
+    plan-lacks mount caller (plan_found mount state name word (Some target)) (asking target.file (access (node_at mount state target) 0 ops.Open)) state (λ told. ends (reply_of told) (holding state (with_object state.objects name (opened target told) word))) pass refl

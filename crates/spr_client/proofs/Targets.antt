@@ -18,7 +18,7 @@ use Rattle.run_defs.specs.Plan.{holding}
 use Rattle.spr_client.specs.Lines.{IsOnMachine, IsTarget}
 
 -- what leads to a view and a file of the stack is found there
-target_is : (mount : Mount) (machine : ℕ) (target : Target) (name : List ℕ) → IsMount mount → IsOnStack mount (record { name = name; target = target }) → IsTarget mount (found_on mount machine target)
+target_is : (mount : Mount) (machine : ℕ) (target : Target) (name : List ℕ) → IsMount mount → IsOnStack mount (record { name = name; target = target; word = [] }) → IsTarget mount (found_on mount machine target)
 target_is mount machine target name sound on =
     let leads = found_leads mount machine target sound on.view in
     record { chosen = on.chosen; file = on.file; view = on.view; above = leads.above; node = leads.inside }
@@ -61,24 +61,24 @@ on_machine-holding : (mount : Mount) (state : ClientState) (new : List OpenObjec
 on_machine-holding mount state new on all = record { machine = on.machine; objects = all; regions = on.regions }
 
 -- a client with one more object of the stack
-pub on_machine-with : (mount : Mount) (state : ClientState) (name : List ℕ) (target : Target) (kept : Option Kept) (life : ℕ) → IsOnMachine mount state → received mount kept ≡ Some target
-    → IsOnMachine mount (holding state (with_object state.objects name (record target { life = life })))
-on_machine-with mount state name target kept life on is =
+pub on_machine-with : (mount : Mount) (state : ClientState) (name word : List ℕ) (target : Target) (kept : Option Kept) (life : ℕ) → IsOnMachine mount state → received mount kept ≡ Some target
+    → IsOnMachine mount (holding state (with_object state.objects name (record target { life = life }) word))
+on_machine-with mount state name word target kept life on is =
     let leads = received_leads mount kept target is in
-    on_machine-holding mount state (with_object state.objects name (record target { life = life })) on
-    (on_stack-with_object mount state.objects name (record target { life = life }) on.objects leads.view leads.file leads.chosen)
+    on_machine-holding mount state (with_object state.objects name (record target { life = life }) word) on
+    (on_stack-with_object mount state.objects name word (record target { life = life }) on.objects leads.view leads.file leads.chosen)
 
-pub on_machine-copy : (mount : Mount) (state : ClientState) (new : List OpenObject) (name other : List ℕ) (target : Target) → IsOnMachine mount state → object_of name state.objects ≡ Some target
-    → new ≡ with_object state.objects other target → IsOnMachine mount (holding state new)
-on_machine-copy mount state new name other target on found is =
+pub on_machine-copy : (mount : Mount) (state : ClientState) (new : List OpenObject) (name other word : List ℕ) (target : Target) → IsOnMachine mount state → object_of name state.objects ≡ Some target
+    → new ≡ with_object state.objects other target word → IsOnMachine mount (holding state new)
+on_machine-copy mount state new name other word target on found is =
     let leads = on_stack-object_of mount state.objects name target on.objects found in
     on_machine-holding mount state new on
-    (subst (λ (os : List OpenObject). AllByRecursion (IsOnStack mount) os) (sym is) (on_stack-with_object mount state.objects other target on.objects leads.view leads.file leads.chosen))
+    (subst (λ (os : List OpenObject). AllByRecursion (IsOnStack mount) os) (sym is) (on_stack-with_object mount state.objects other word target on.objects leads.view leads.file leads.chosen))
 
 -- a client whose last object was kept, of some life, or given up
-pub on_machine-either : (mount : Mount) (left state : ClientState) (name : List ℕ) (target : Target) (kept : Option Kept) → IsOnMachine mount state
-    → received mount kept ≡ Some target → (left ≡ state) ⊎ ((life : ℕ) × (left ≡ holding state (with_object state.objects name (record target { life = life })))) → IsOnMachine mount left
-on_machine-either mount left state name target kept on is either =
+pub on_machine-either : (mount : Mount) (left state : ClientState) (name word : List ℕ) (target : Target) (kept : Option Kept) → IsOnMachine mount state
+    → received mount kept ≡ Some target → (left ≡ state) ⊎ ((life : ℕ) × (left ≡ holding state (with_object state.objects name (record target { life = life }) word))) → IsOnMachine mount left
+on_machine-either mount left state name word target kept on is either =
     ⊎_elim
     (λ gone. subst (λ (s : ClientState). IsOnMachine mount s) (sym gone) on)
-    (λ held. subst (λ (s : ClientState). IsOnMachine mount s) (sym held.1) (on_machine-with mount state name target kept held.0 on is)) either
+    (λ held. subst (λ (s : ClientState). IsOnMachine mount s) (sym held.1) (on_machine-with mount state name word target kept held.0 on is)) either

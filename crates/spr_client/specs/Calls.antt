@@ -14,13 +14,14 @@ use Rattle.name_context.specs.declared.entry.NameErr.{NameErr}
 use Rattle.name_context.specs.Names.{Name, kept_object}
 use Rattle.client_objects.specs.Views.{names_at_start}
 use Rattle.run_defs.specs.Log.{Histories}
-use Rattle.run_defs.specs.Plan.{Ask, NamesAsk, Request, access, sync}
+use Rattle.run_defs.specs.Plan.{Ask, NamesAsk, Request, access, release, revoke, sync}
+use Rattle.stack_engine.specs.declared.ends.End.{End}
 use Rattle.stack_engine.specs.declared.refusal.StepErr.{StepErr}
 use Rattle.stack_engine.specs.declared.refusal.StepErr.TheVariants.{StoreFault, TrailFull, Memory}
 use Rattle.stack_engine.specs.Engine.{file_in, tree_in}
 use Rattle.stack_engine.specs.Tower.{TowerSeen}
 use Rattle.spr_volume.specs.declared.answered.Answered.{Answered}
-use Rattle.spr_volume.specs.Calls.{CalledAt, CalledNames, IsAccess, IsSync}
+use Rattle.spr_volume.specs.Calls.{CalledAt, CalledNames, IsAccess, IsEnd, IsSync}
 use Rattle.spr_volume.specs.Passes.{VolumeSeen, IsOf, Knows, known}
 
 -- what no call changes of a tower: its layers, and its file
@@ -62,6 +63,13 @@ pub record MayCall (mount : Mount) (v : VolumeSeen) (p : Knows) (caller : ℕ) :
 abbrev pub IsAsked : ℕ → ℕ → Ask → List Event → Event → Type 0
 IsAsked caller least (access node life op) = IsAccess caller node life op
 IsAsked caller least (sync node keep) = IsSync caller node keep least
+IsAsked caller least (revoke node) = IsEnd caller node End.Destroy
+IsAsked caller least (release node) = IsEnd caller node End.Done
+
+-- what a line asks that ends a layer's channels
+abbrev pub ask_of : End → ℕ → Ask
+ask_of End.Destroy node = revoke node
+ask_of End.Done node = release node
 
 -- a call at one of the files
 abbrev pub CallDone : ℕ → Request → Knows → Knows → List ℕ → Result Answered StepErr → Type 0

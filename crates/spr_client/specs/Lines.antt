@@ -1,12 +1,13 @@
 -- What a client's lines did.
-use Rattle.std.specs.Prelude.{◌≡◌, ◌≢◌, ℕ, ◌+◌, ◌<◌, ◌≤◌, List, [], length, map, All, true, IsSome}
+use Rattle.std.specs.Prelude.{◌≡◌, ◌≢◌, ℕ, ◌+◌, ◌<◌, ◌≤◌, List, [], length, map, All, true, IsSome, Some}
 use Rattle.std.specs.List.{AllByRecursion}
 use Rattle.script_text.specs.declared.script.Call.{Call}
-use Rattle.script_text.specs.declared.script.Call.TheVariants.{Context, Bind, Unbind, List as ListNames, Open, Copy, Drop, Read, Write, Clear, Sync, Clean, Map, Unmap, Load, Store}
+use Rattle.script_text.specs.declared.script.Call.TheVariants.{Context, Bind, Unbind, List as ListNames, Open, Copy, Drop, Read, Write, Clear, Sync, Clean, Map, Unmap, Load, Store, Revoke, Release}
 use Rattle.script_text.specs.declared.script.CallLine.{CallLine}
 use Rattle.script_text.specs.declared.script.Reply.{Reply}
 use Rattle.script_text.specs.declared.script.Said.{Said}
 use Rattle.stack_accept.specs.Mount.{Mount, is_view_in}
+use Rattle.text_words.specs.Words.{IsPath}
 use Rattle.vmm_space.specs.declared.TheConstants.{MAX_ADDRESS}
 use Rattle.vmm_space.specs.declared.regions.Region.{Region}
 use Rattle.vmm_space.specs.declared.regions.Place.{Place}
@@ -14,12 +15,13 @@ use Rattle.vmm_space.specs.Spaces.{SpaceShape}
 use Rattle.name_context.specs.declared.entry.NameCall.TheVariants as names_calls
 use Rattle.name_context.specs.History.{IsPathOf}
 use Rattle.name_context.specs.Names.{HasParts}
+use Rattle.client_objects.specs.declared.kind.ObjectKind.TheVariants.{Reconnectable}
 use Rattle.client_objects.specs.declared.state.ClientState.{ClientState}
 use Rattle.client_objects.specs.declared.target.Found.{Found}
-use Rattle.client_objects.specs.Objects.{IsOnStack}
+use Rattle.client_objects.specs.Objects.{IsOnStack, object_of}
 use Rattle.client_objects.specs.Found.{IsChosen}
-use Rattle.run_defs.specs.Stack.{file_named, pages_of, view_of}
-use Rattle.run_defs.specs.Plan.{Plan, kind_named}
+use Rattle.run_defs.specs.Stack.{file_named, layer_of, pages_of, view_of}
+use Rattle.run_defs.specs.Plan.{Plan}
 use Rattle.run_defs.specs.Fits.{Did, Gone, Went, Worked}
 use Rattle.spr_volume.specs.Passes.{Knows, as_known}
 use Rattle.spr_client.specs.Calls.{histories}
@@ -31,6 +33,13 @@ pub record IsTarget (mount : Mount) (found : Found) : Type 0 where
   pub view : is_view_in mount.nodes found.target.view ≡ true
   pub above : 0 < found.node
   pub node : found.node < length mount.tree.parents
+
+-- the reconnectable object of this name leads there
+pub record IsLed (mount : Mount) (name : List ℕ) (state : ClientState) (found : Found) : Type 0 where
+  pub target : IsTarget mount found
+  pub held : object_of name state.objects ≡ Some found.target
+  pub kind : found.target.kind ≡ Reconnectable
+  pub node : found.node ≡ found.target.view
 
 -- calls that go to a layer of the stack above the ground, and to a file of it
 pub record IsLeafOf (mount : Mount) (leaf number : ℕ) : Type 0 where
@@ -78,6 +87,10 @@ pub record PlanDone (mount : Mount) (caller : ℕ) (p : Plan) (old new : Knows) 
   pub gone : Gone caller p (histories mount old) (histories mount new) said left
   pub others : OthersIdle mount caller old new
 
+-- a plan was followed up to another one: however that one ends from here, so ends the first
+abbrev pub LeadsOn : Mount → ℕ → Plan → Plan → Knows → Knows → Type 0
+LeadsOn mount caller p q old mid = (new : Knows) (said : Reply) (left : ClientState) → PlanDone mount caller q mid new said left → PlanDone mount caller p old new said left
+
 -- WHAT LINES DID, one after another
 pub record LinesDone (mount : Mount) (caller : ℕ) (kept : ClientState) (lines : List CallLine) (old new : Knows) (said : List Said) (left : ClientState) : Type 0 where
   pub pass : new ≡ as_known old new
@@ -87,7 +100,7 @@ pub record LinesDone (mount : Mount) (caller : ℕ) (kept : ClientState) (lines 
 -- a call that the program has, whose names the stack has
 abbrev pub IsCallOf : Mount → Call → Type 0
 IsCallOf mount (Context path) = HasParts path
-IsCallOf mount (Bind path sub view file) = HasParts path × IsSome (kind_named sub) × IsSome (view_of mount view) × IsSome (file_named mount file)
+IsCallOf mount (Bind path sub view file) = IsPath path × IsSome (view_of mount view) × IsSome (file_named mount file)
 IsCallOf mount (Unbind path) = HasParts path
 IsCallOf mount (ListNames path) = IsPathOf names_calls.List path
 IsCallOf mount (Open name path) = HasParts path
@@ -102,7 +115,8 @@ IsCallOf mount (Map region name address pages write) = address ≤ MAX_ADDRESS
 IsCallOf mount (Unmap region) = Unit {0}
 IsCallOf mount (Load address len) = address ≤ MAX_ADDRESS
 IsCallOf mount (Store address bytes) = address ≤ MAX_ADDRESS
-IsCallOf mount call = ⊥
+IsCallOf mount (Revoke layer file) = IsSome (layer_of mount layer) × IsSome (file_named mount file)
+IsCallOf mount (Release layer file) = IsSome (layer_of mount layer) × IsSome (file_named mount file)
 
 abbrev pub AreCalls : Mount → List CallLine → Type 0
 AreCalls mount lines = AllByRecursion (λ l. IsCallOf mount l.call) lines

@@ -8,7 +8,7 @@ ghost use Rattle.client_objects.specs.declared.kind.ObjectKind.{ObjectKind as AK
 ghost use Rattle.client_objects.specs.Kinds.{file_of, id_of};
 ghost use Rattle.run_defs.specs.Plan.{asking, access, sync};
 ghost use Rattle.run_defs.specs.Stack.{pages_of};
-ghost use Rattle.spr_client.specs.Calls.{CallDone, MayCall};
+ghost use Rattle.spr_client.specs.Calls.{CallDone, MayCall, ask_of};
 
 use crate::client::Common;
 use client_objects::{ObjectKind, Target};
@@ -17,6 +17,7 @@ use hist_plain::{Gate, Keep, Op};
 use marshal_buf::Door;
 use page_ground::Ground;
 use spr_volume::{Answered, CallErr, Pass};
+use stack_engine::End;
 use std::alloc::{AllocError, Global};
 use std::sync::Wait;
 
@@ -113,4 +114,23 @@ pub fn sync_at<R: Wait, G: Ground, T: Gate>(
     common
         .volume
         .sync(rt, pass, caller, file, node, keep, common.gate)
+}
+
+/// Ends the channels of a layer of a file, a layer above the ground.
+pub(crate) fn end_at<R: Wait, G: Ground, T: Gate>(
+    rt: &R,
+    common: &Common<'_, G, T>,
+    pass: &mut Pass<G>,
+    caller: u32,
+    file: u32,
+    node: u32,
+    end: End,
+) -> Result<Answered, CallErr>
+    requires may { MayCall common.now.mount.now common.now.volume.now pass.old caller }
+    requires route { (file < length common.now.mount.now.files) × (0 < node) × (node < length common.now.mount.now.tree.parents) }
+    ensures { CallDone caller (asking file (ask_of end node)) pass.old pass.new [] result }
+{
+    common
+        .volume
+        .end(rt, pass, caller, file, node, end, common.gate)
 }

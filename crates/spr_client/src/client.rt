@@ -6,6 +6,7 @@ ghost use Rattle.run_defs.specs.Plan.{plan};
 ghost use Rattle.spr_client.specs.Calls.{MayCall};
 ghost use Rattle.spr_client.specs.Lines.{IsCallOf, IsOnMachine, LineDone};
 
+use crate::ending::end_line;
 use crate::files::{clear_line, read_line, sync_line, write_line};
 use crate::mapping::{map_line, unmap_line};
 use crate::names::{bind_line, context_line, list_line, unbind_line};
@@ -18,6 +19,7 @@ use pager_channel::Ops;
 use script_text::{Call, Reply};
 use spr_volume::{Pass, Volume};
 use stack_accept::Mounted;
+use stack_engine::End;
 use std::alloc::{AllocError, Global};
 use std::sync::Wait;
 use vmm_space::Space;
@@ -124,6 +126,11 @@ pub fn perform<R: Wait, G: Ground, T: Gate>(
         Call::Store { address, bytes } => {
             store_line(rt, alloc, common, pass, client, *address, bytes)
         }
-        _ => unreachable!(),
+        Call::Revoke { layer, file } => {
+            end_line(rt, alloc, common, pass, client, layer, file, End::Destroy)
+        }
+        Call::Release { layer, file } => {
+            end_line(rt, alloc, common, pass, client, layer, file, End::Done)
+        }
     }
 }

@@ -5,7 +5,7 @@ ghost use Rattle.std.specs.Option.{option_map};
 ghost use Rattle.hist_plain.specs.declared.event.Op.TheVariants as ops;
 ghost use Rattle.hist_plain.specs.Event.{fits_page};
 ghost use Rattle.hist_plain.specs.Plain.{asked_by};
-ghost use Rattle.client_objects.specs.Objects.{object_of};
+ghost use Rattle.client_objects.specs.Objects.{object_of, word_of};
 ghost use Rattle.client_objects.specs.Found.{found_on};
 ghost use Rattle.run_defs.specs.Stack.{pages_of};
 ghost use Rattle.run_defs.specs.Plan.{access, asking, node_at, plan_access, plan_call, plan_named, plan_sync};
@@ -15,7 +15,8 @@ ghost use Rattle.spr_client.specs.Lines.{IsLeafOf, IsOnMachine, IsTarget, LineDo
 use crate::calls::{access_at, framed, framed_sync, sync_at};
 use crate::client::{Client, Common};
 use crate::line::{refused, reply_to};
-use client_objects::Found;
+use crate::reconnecting::reconnecting;
+use client_objects::{Found, ObjectKind};
 use hist_plain::{Gate, Keep, Op, fits};
 use page_ground::Ground;
 use run_defs::pages_of;
@@ -103,19 +104,24 @@ fn access_line<R: Wait, G: Ground, T: Gate>(
     alloc: Global,
     common: &Common<'_, G, T>,
     pass: &mut Pass<G>,
-    client: &Client,
+    client: &mut Client,
     name: &Text,
     op: Op,
     len: usize,
 ) -> Reply
-    requires may { MayCall common.now.mount.now common.now.volume.now pass.old client.now.caller }
-    requires on { IsOnMachine common.now.mount.now client.now.state }
+    requires may { MayCall common.now.mount.now common.now.volume.now pass.old client.old.caller }
+    requires on { IsOnMachine common.now.mount.now client.old.state }
     requires len { len ≡ asked_by op }
-    ensures { LineDone common.now.mount.now client.now.caller client.now.state (plan_named client.now.state (object_of name.now client.now.state.objects) (plan_access common.now.mount.now client.now.state op)) pass.old pass.new result client.now.state }
+    ensures done { LineDone common.now.mount.now client.old.caller client.old.state (plan_named client.old.state (object_of name.now client.old.state.objects) (plan_access common.now.mount.now client.old.state name.now (word_of name.now client.old.state.objects) op)) pass.old pass.new result client.new.state }
+    ensures on { IsOnMachine common.now.mount.now client.new.state }
+    ensures same { client.new ≡ record client.old { state = client.new.state } }
 {
     let Some(found) = find(common, client, name) else {
         return Reply::NoObject;
     };
+    if found.target.kind == ObjectKind::Reconnectable {
+        return reconnecting(rt, alloc, common, pass, client, name, found, op);
+    }
     if !fits(
         &op,
         common.mount.page_size(),
@@ -132,15 +138,17 @@ pub(crate) fn read_line<R: Wait, G: Ground, T: Gate>(
     alloc: Global,
     common: &Common<'_, G, T>,
     pass: &mut Pass<G>,
-    client: &Client,
+    client: &mut Client,
     name: &Text,
     page: u32,
     off: u32,
     len: u32,
 ) -> Reply
-    requires may { MayCall common.now.mount.now common.now.volume.now pass.old client.now.caller }
-    requires on { IsOnMachine common.now.mount.now client.now.state }
-    ensures { LineDone common.now.mount.now client.now.caller client.now.state (plan_named client.now.state (object_of name.now client.now.state.objects) (plan_access common.now.mount.now client.now.state (ops.Read page off len))) pass.old pass.new result client.now.state }
+    requires may { MayCall common.now.mount.now common.now.volume.now pass.old client.old.caller }
+    requires on { IsOnMachine common.now.mount.now client.old.state }
+    ensures done { LineDone common.now.mount.now client.old.caller client.old.state (plan_named client.old.state (object_of name.now client.old.state.objects) (plan_access common.now.mount.now client.old.state name.now (word_of name.now client.old.state.objects) (ops.Read page off len))) pass.old pass.new result client.new.state }
+    ensures on { IsOnMachine common.now.mount.now client.new.state }
+    ensures same { client.new ≡ record client.old { state = client.new.state } }
 {
     let op = Op::Read { page, off, len };
     access_line(rt, alloc, common, pass, client, name, op, len as usize)
@@ -152,15 +160,17 @@ pub(crate) fn write_line<R: Wait, G: Ground, T: Gate>(
     alloc: Global,
     common: &Common<'_, G, T>,
     pass: &mut Pass<G>,
-    client: &Client,
+    client: &mut Client,
     name: &Text,
     page: u32,
     off: u32,
     bytes: &Bytes,
 ) -> Reply
-    requires may { MayCall common.now.mount.now common.now.volume.now pass.old client.now.caller }
-    requires on { IsOnMachine common.now.mount.now client.now.state }
-    ensures { LineDone common.now.mount.now client.now.caller client.now.state (plan_named client.now.state (object_of name.now client.now.state.objects) (plan_access common.now.mount.now client.now.state (ops.Write page off bytes.now))) pass.old pass.new result client.now.state }
+    requires may { MayCall common.now.mount.now common.now.volume.now pass.old client.old.caller }
+    requires on { IsOnMachine common.now.mount.now client.old.state }
+    ensures done { LineDone common.now.mount.now client.old.caller client.old.state (plan_named client.old.state (object_of name.now client.old.state.objects) (plan_access common.now.mount.now client.old.state name.now (word_of name.now client.old.state.objects) (ops.Write page off bytes.now))) pass.old pass.new result client.new.state }
+    ensures on { IsOnMachine common.now.mount.now client.new.state }
+    ensures same { client.new ≡ record client.old { state = client.new.state } }
 {
     let Ok(bytes) = bytes.clone() else {
         return Reply::Memory;
@@ -175,13 +185,15 @@ pub(crate) fn clear_line<R: Wait, G: Ground, T: Gate>(
     alloc: Global,
     common: &Common<'_, G, T>,
     pass: &mut Pass<G>,
-    client: &Client,
+    client: &mut Client,
     name: &Text,
     page: u32,
 ) -> Reply
-    requires may { MayCall common.now.mount.now common.now.volume.now pass.old client.now.caller }
-    requires on { IsOnMachine common.now.mount.now client.now.state }
-    ensures { LineDone common.now.mount.now client.now.caller client.now.state (plan_named client.now.state (object_of name.now client.now.state.objects) (plan_access common.now.mount.now client.now.state (ops.Clear page))) pass.old pass.new result client.now.state }
+    requires may { MayCall common.now.mount.now common.now.volume.now pass.old client.old.caller }
+    requires on { IsOnMachine common.now.mount.now client.old.state }
+    ensures done { LineDone common.now.mount.now client.old.caller client.old.state (plan_named client.old.state (object_of name.now client.old.state.objects) (plan_access common.now.mount.now client.old.state name.now (word_of name.now client.old.state.objects) (ops.Clear page))) pass.old pass.new result client.new.state }
+    ensures on { IsOnMachine common.now.mount.now client.new.state }
+    ensures same { client.new ≡ record client.old { state = client.new.state } }
 {
     access_line(rt, alloc, common, pass, client, name, Op::Clear { page }, 0)
 }

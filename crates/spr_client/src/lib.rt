@@ -6,6 +6,7 @@
 
 mod calls;
 mod client;
+mod ending;
 mod files;
 mod line;
 mod lines;
@@ -13,6 +14,7 @@ mod mapping;
 mod names;
 mod opening;
 mod places;
+mod reconnecting;
 
 pub use calls::sync_at;
 pub use client::{Client, Common, perform};

@@ -1,13 +1,13 @@
 //! Lines on the names.
 
-ghost use Rattle.std.specs.Prelude.{◌≡◌, ◌≢◌, None, Some, IsSome};
+ghost use Rattle.std.specs.Prelude.{◌≡◌, None, Some, IfOk, IsSome};
 ghost use Rattle.std.specs.Option.{option_copied};
+ghost use Rattle.text_words.specs.Words.{IsPath, path_word};
 ghost use Rattle.name_context.specs.declared.entry.NameCall.TheVariants as names_calls;
 ghost use Rattle.name_context.specs.History.{IsPathOf};
 ghost use Rattle.name_context.specs.Names.{HasParts};
-ghost use Rattle.client_objects.specs.declared.kind.ObjectKind.TheVariants.{Reconnectable};
 ghost use Rattle.run_defs.specs.Stack.{file_named, view_of};
-ghost use Rattle.run_defs.specs.Plan.{asking_names, binding, plan_bind_as, plan_done, plan_list, kind_named};
+ghost use Rattle.run_defs.specs.Plan.{asking_names, binding, kind_named, plan_bind, plan_done, plan_list};
 ghost use Rattle.spr_client.specs.Calls.{MayCall};
 ghost use Rattle.spr_client.specs.Lines.{LineDone};
 
@@ -20,8 +20,9 @@ use run_defs::{file_named, view_of};
 use script_text::{Reply, Sub};
 use seen_values::{Items, Path, Text};
 use spr_volume::Pass;
-use std::alloc::Global;
+use std::alloc::{AllocError, Global};
 use std::sync::Wait;
+use text_words::put_path;
 
 /// A line that makes a context.
 pub(crate) fn context_line<R: Wait, G: Ground, T: Gate>(
@@ -45,19 +46,30 @@ pub(crate) fn context_line<R: Wait, G: Ground, T: Gate>(
     }
 }
 
-/// The subcontract that a line names, if a line may bind objects of it.
-fn kind_named(sub: &Sub) -> Option<ObjectKind>
+/// The subcontract that a line names.
+fn kind_named(sub: &Sub) -> ObjectKind
     ensures { result ≡ kind_named sub.now }
 {
     match sub {
-        Sub::Singleton => Some(ObjectKind::Singleton),
-        Sub::Cluster => Some(ObjectKind::Cluster),
-        Sub::Caching => Some(ObjectKind::Caching),
-        Sub::Reconnectable => None,
+        Sub::Singleton => ObjectKind::Singleton,
+        Sub::Cluster => ObjectKind::Cluster,
+        Sub::Caching => ObjectKind::Caching,
+        Sub::Reconnectable => ObjectKind::Reconnectable,
     }
 }
 
-/// A line that binds an object of a file at a view. Its subcontract is one that the program has, and the stack has the view and the file.
+/// A path as one word. An error is that memory ran out.
+fn word_of(alloc: Global, path: &Path) -> Result<Text, AllocError>
+    requires { IsPath path.now }
+    ensures { IfOk result (λ word. word ≡ path_word path.now) }
+{
+    let mut out = Vec::new(alloc);
+    put_path(&mut out, path)?;
+    // A space stands before the word.
+    Text::of_ascii(alloc, &out[1..])
+}
+
+/// A line that binds an object of a file at a view. The stack has the view and the file.
 pub(crate) fn bind_line<R: Wait, G: Ground, T: Gate>(
     rt: &R,
     alloc: Global,
@@ -70,23 +82,29 @@ pub(crate) fn bind_line<R: Wait, G: Ground, T: Gate>(
     file: &Text,
 ) -> Reply
     requires may { MayCall common.now.mount.now common.now.volume.now pass.old client.now.caller }
-    requires path { HasParts path.now }
-    requires sub { IsSome (kind_named sub.now) }
+    requires path { IsPath path.now }
     requires view { IsSome (view_of common.now.mount.now view.now) }
     requires file { IsSome (file_named common.now.mount.now file.now) }
-    ensures { LineDone common.now.mount.now client.now.caller client.now.state (plan_bind_as client.now.state path.now (kind_named sub.now) (view_of common.now.mount.now view.now) (file_named common.now.mount.now file.now)) pass.old pass.new result client.now.state }
+    ensures { LineDone common.now.mount.now client.now.caller client.now.state (plan_bind client.now.state path.now (kind_named sub.now) (view_of common.now.mount.now view.now) (file_named common.now.mount.now file.now)) pass.old pass.new result client.now.state }
 {
-    let (Some(kind), Some(node), Some(number)) = (
-        kind_named(sub),
-        view_of(common.mount, view),
-        file_named(common.mount, file),
-    ) else {
+    let (Some(node), Some(number)) = (view_of(common.mount, view), file_named(common.mount, file))
+    else {
         unreachable!()
     };
-    bind_object(rt, alloc, common, pass, client, path, kind, node, number)
+    bind_object(
+        rt,
+        alloc,
+        common,
+        pass,
+        client,
+        path,
+        kind_named(sub),
+        node,
+        number,
+    )
 }
 
-/// A line that binds an object of a subcontract that the program has, of a file at a view.
+/// A line that binds an object of a subcontract, of a file at a view.
 fn bind_object<R: Wait, G: Ground, T: Gate>(
     rt: &R,
     alloc: Global,
@@ -99,15 +117,16 @@ fn bind_object<R: Wait, G: Ground, T: Gate>(
     file: u32,
 ) -> Reply
     requires may { MayCall common.now.mount.now common.now.volume.now pass.old client.now.caller }
-    requires path { HasParts path.now }
-    requires kind { kind ≢ Reconnectable }
+    requires path { IsPath path.now }
     ensures { LineDone common.now.mount.now client.now.caller client.now.state (plan_done client.now.state (binding path.now kind node file)) pass.old pass.new result client.now.state }
 {
     let Ok(parts) = parts_of(alloc, path) else {
         return Reply::Memory;
     };
-    // The names of the objects that lines bind are not their paths.
-    let Ok(object) = bound_object(alloc, kind, "", node, file) else {
+    let Ok(word) = word_of(alloc, path) else {
+        return Reply::Memory;
+    };
+    let Ok(object) = bound_object(alloc, kind, word.as_str(), node, file) else {
         return Reply::Memory;
     };
     match common.volume.bind(rt, pass, client.caller, path, object) {

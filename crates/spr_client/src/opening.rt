@@ -2,8 +2,8 @@
 
 ghost use Rattle.std.specs.Prelude.{◌≡◌, ◌⊎◌, ℕ, List, Some};
 ghost use Rattle.name_context.specs.Names.{HasParts, kept_object};
-ghost use Rattle.client_objects.specs.Objects.{OpenObject, object_of, with_object};
-ghost use Rattle.client_objects.specs.Stored.{received};
+ghost use Rattle.client_objects.specs.Objects.{OpenObject, object_of, with_object, word_of};
+ghost use Rattle.client_objects.specs.Stored.{received, received_word};
 ghost use Rattle.run_defs.specs.Plan.{holding, node_at, plan_copy, plan_drop, plan_found, plan_named, plan_open};
 ghost use Rattle.spr_client.specs.Calls.{MayCall};
 ghost use Rattle.spr_client.specs.Lines.{IsOnMachine, IsTarget, LineDone, PlanDone};
@@ -34,10 +34,10 @@ fn open_received<R: Wait, G: Ground, T: Gate>(
     requires may { MayCall common.now.mount.now common.now.volume.now pass.old client.old.caller }
     requires target { IsTarget common.now.mount.now found }
     requires node { found.node ≡ node_at common.now.mount.now client.old.state found.target }
-    ensures done { (objects : List OpenObject) (name : List ℕ) → client.old.state.objects ≡ with_object objects name found.target
-        → PlanDone common.now.mount.now client.old.caller (plan_found common.now.mount.now (holding client.old.state objects) name (Some found.target)) pass.old pass.new result client.new.state }
-    ensures on { (objects : List OpenObject) (name : List ℕ) → client.old.state.objects ≡ with_object objects name found.target
-        → (client.new.state ≡ holding client.old.state objects) ⊎ ((life : ℕ) × (client.new.state ≡ holding client.old.state (with_object objects name (record found.target { life = life })))) }
+    ensures done { (objects : List OpenObject) (name word : List ℕ) → client.old.state.objects ≡ with_object objects name found.target word
+        → PlanDone common.now.mount.now client.old.caller (plan_found common.now.mount.now (holding client.old.state objects) name word (Some found.target)) pass.old pass.new result client.new.state }
+    ensures on { (objects : List OpenObject) (name word : List ℕ) → client.old.state.objects ≡ with_object objects name found.target word
+        → (client.new.state ≡ holding client.old.state objects) ⊎ ((life : ℕ) × (client.new.state ≡ holding client.old.state (with_object objects name (record found.target { life = life }) word))) }
     ensures same { client.new ≡ record client.old { state = client.new.state } }
 {
     let Ok((file, op)) = framed(alloc, common, found.target, Op::Open) else {
@@ -78,7 +78,7 @@ fn open_stored<R: Wait, G: Ground, T: Gate>(
 ) -> Reply
     requires may { MayCall common.now.mount.now common.now.volume.now pass.old client.old.caller }
     requires on { IsOnMachine common.now.mount.now client.old.state }
-    ensures done { PlanDone common.now.mount.now client.old.caller (plan_found common.now.mount.now client.old.state name (received common.now.mount.now (Some (kept_object stored.now)))) pass.old pass.new result client.new.state }
+    ensures done { PlanDone common.now.mount.now client.old.caller (plan_found common.now.mount.now client.old.state name (received_word (Some (kept_object stored.now))) (received common.now.mount.now (Some (kept_object stored.now)))) pass.old pass.new result client.new.state }
     ensures on { IsOnMachine common.now.mount.now client.new.state }
     ensures same { client.new ≡ record client.old { state = client.new.state } }
 {
@@ -135,7 +135,7 @@ pub(crate) fn copy_line<G: Ground, T: Gate>(
     other: &Text,
 ) -> Reply
     requires on { IsOnMachine common.now.mount.now client.old.state }
-    ensures done { LineDone common.now.mount.now client.old.caller client.old.state (plan_named client.old.state (object_of name.now client.old.state.objects) (plan_copy client.old.state other.now (object_of other.now client.old.state.objects))) pass.now pass.now result client.new.state }
+    ensures done { LineDone common.now.mount.now client.old.caller client.old.state (plan_named client.old.state (object_of name.now client.old.state.objects) (plan_copy client.old.state (word_of name.now client.old.state.objects) other.now (object_of other.now client.old.state.objects))) pass.now pass.now result client.new.state }
     ensures on { IsOnMachine common.now.mount.now client.new.state }
     ensures same { client.new ≡ record client.old { state = client.new.state } }
 {

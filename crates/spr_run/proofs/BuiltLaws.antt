@@ -1,5 +1,5 @@
--- Where no line of a script is later and the stack has what each names, the program makes its calls.
-use Rattle.std.proofs.Common.{◌≡◌, ℕ, suc, ◌+◌, ◌≤◌, length, arith, Bool, true, false, cond, not, ◌&&◌, ◌||◌, leb, position, IsSome, List, [], ◌∷◌, Option, Some, None, refl, sym, subst}
+-- Where the stack has what each line of a script names, the program makes its calls.
+use Rattle.std.proofs.Common.{◌≡◌, ℕ, suc, ◌+◌, ◌≤◌, length, drop, arith, Bool, true, false, cond, not, ◌&&◌, ◌||◌, leb, position, IsSome, List, [], ◌∷◌, Option, Some, None, refl, sym, subst}
 use Rattle.std.specs.Option.{option_map, option_or}
 use Rattle.std.proofs.lemmas.Bool.{and_parts, leb-true}
 use Rattle.std.specs.Str.{bytes_eq}
@@ -8,8 +8,6 @@ use Rattle.std.proofs.lemmas.Iterator.Adapters.{position_from-zero}
 use Rattle.text_words.specs.Words.{IsPath, is_name}
 use Rattle.script_text.specs.declared.script.Call.{Call}
 use Rattle.script_text.specs.declared.script.Call.TheVariants as calls
-use Rattle.script_text.specs.declared.script.Sub.{Sub}
-use Rattle.script_text.specs.declared.script.Sub.TheVariants as subs
 use Rattle.script_text.specs.declared.script.CallLine.{CallLine}
 use Rattle.script_text.specs.declared.script.Script.{Script}
 use Rattle.script_text.specs.Grammar.{AreCalls as AreCallLines, ArePhases, IsCall, IsScript}
@@ -17,11 +15,9 @@ use Rattle.stack_accept.specs.declared.entries.FileEntry.{FileEntry}
 use Rattle.stack_accept.specs.declared.entries.NodeEntry.{NodeEntry}
 use Rattle.stack_accept.specs.Mount.{Mount, is_view}
 use Rattle.name_context.specs.Names.{HasParts}
-use Rattle.run_defs.specs.Stack.{view_of, file_named}
-use Rattle.run_defs.specs.Plan.{kind_named}
+use Rattle.run_defs.specs.Stack.{view_of, layer_of, file_named}
 use Rattle.spr_client.specs.Lines.{AreCalls, IsCallOf}
-use Rattle.run_texts.specs.Later.{is_made, is_built, later_in, later_call}
-use Rattle.run_texts.specs.Known.{has_view, has_file, is_known, unknown_client, unknown_in, unknown_call, unknown_line}
+use Rattle.run_texts.specs.Known.{has_view, has_file, has_layer, is_known, unknown_client, unknown_in, unknown_call, unknown_line}
 
 -- a path of a text has its parts
 parts-of : (path : List (List ℕ)) → IsPath path → HasParts path
@@ -44,37 +40,43 @@ found-from p n (x ∷ xs) e = some-if (p x) (list_any p xs) n (position_from p (
 found : {A : Type 0} (p : A → Bool) (xs : List A) → list_any p xs ≡ true → IsSome (position p xs)
 found p xs e = subst (λ (o : Option ℕ). IsSome o) (sym (position_from-zero p xs)) (found-from p 0 xs e)
 
-made-some : (sub : Sub) → is_made sub ≡ true → IsSome (kind_named sub)
-made-some subs.Singleton e = refl
-made-some subs.Cluster e = refl
-made-some subs.Caching e = refl
-made-some subs.Reconnectable e = absurd cc
+one-more : (o : Option ℕ) → IsSome o → IsSome (option_map (λ place. place + 1) o)
+one-more (Some place) some = refl
+one-more None some = absurd cc
 
-call-of : (mount : Mount) (call : Call) → IsCall call → is_built call ≡ true → is_known mount call ≡ true → IsCallOf mount call
-call-of mount (calls.Context path) is built known = parts-of path is
-call-of mount (calls.Bind path sub view file) is built known =
+-- a layer and a file that the stack has
+names-of : (mount : Mount) (layer file : List ℕ) → (has_layer mount layer && has_file mount file) ≡ true → IsSome (layer_of mount layer) × IsSome (file_named mount file)
+names-of mount layer file known =
+    let named = and_parts (has_layer mount layer) (has_file mount file) known in (
+      one-more (position (λ (node : NodeEntry). bytes_eq node.name layer) (drop 1 mount.nodes)) (found (λ (node : NodeEntry). bytes_eq node.name layer) (drop 1 mount.nodes) named.0),
+      found (λ (f : FileEntry). bytes_eq f.name file) mount.files named.1,
+    )
+
+call-of : (mount : Mount) (call : Call) → IsCall call → is_known mount call ≡ true → IsCallOf mount call
+call-of mount (calls.Context path) is known = parts-of path is
+call-of mount (calls.Bind path sub view file) is known =
     let named = and_parts (has_view mount view) (has_file mount file) known in (
-      parts-of path is.0,
-      made-some sub built,
+      is.0,
       found (λ (node : NodeEntry). is_view node.kind && bytes_eq node.name view) mount.nodes named.0,
       found (λ (f : FileEntry). bytes_eq f.name file) mount.files named.1,
     )
-call-of mount (calls.Unbind path) is built known = parts-of path is
-call-of mount (calls.List None) is built known = refl
-call-of mount (calls.List (Some path)) is built known = parts-of path is
-call-of mount (calls.Open name path) is built known = parts-of path is.1
-call-of mount (calls.Copy name other) is built known = tt
-call-of mount (calls.Drop name) is built known = tt
-call-of mount (calls.Read name page off len) is built known = tt
-call-of mount (calls.Write name page off bytes) is built known = tt
-call-of mount (calls.Clear name page) is built known = tt
-call-of mount (calls.Sync name) is built known = tt
-call-of mount (calls.Clean name) is built known = tt
-call-of mount (calls.Map region name address pages write) is built known = let low = is.2 in omega (arith, low)
-call-of mount (calls.Unmap region) is built known = tt
-call-of mount (calls.Load address len) is built known = let low = is.0 in omega (arith, low)
-call-of mount (calls.Store address bytes) is built known = let low = is.0 in omega (arith, low)
-call-of mount _ is built known = absurd cc
+call-of mount (calls.Unbind path) is known = parts-of path is
+call-of mount (calls.List None) is known = refl
+call-of mount (calls.List (Some path)) is known = parts-of path is
+call-of mount (calls.Open name path) is known = parts-of path is.1
+call-of mount (calls.Copy name other) is known = tt
+call-of mount (calls.Drop name) is known = tt
+call-of mount (calls.Read name page off len) is known = tt
+call-of mount (calls.Write name page off bytes) is known = tt
+call-of mount (calls.Clear name page) is known = tt
+call-of mount (calls.Sync name) is known = tt
+call-of mount (calls.Clean name) is known = tt
+call-of mount (calls.Map region name address pages write) is known = let low = is.2 in omega (arith, low)
+call-of mount (calls.Unmap region) is known = tt
+call-of mount (calls.Load address len) is known = let low = is.0 in omega (arith, low)
+call-of mount (calls.Store address bytes) is known = let low = is.0 in omega (arith, low)
+call-of mount (calls.Revoke layer file) is known = names-of mount layer file known
+call-of mount (calls.Release layer file) is known = names-of mount layer file known
 
 passes-or : (b : Bool) (l : CallLine) (o : Option CallLine) → cond (not b) (Some l) o ≡ None → (b ≡ true) × (o ≡ None)
 passes-or true l o e = (refl, e)
@@ -84,19 +86,17 @@ or-none : (a b : Option CallLine) → option_or a b ≡ None → (a ≡ None) ×
 or-none None b e = (refl, e)
 or-none (Some x) b e = absurd cc
 
-lines-of : (mount : Mount) (count number : ℕ) (lines : List CallLine) → AreCallLines count number lines → later_in lines ≡ None → unknown_in mount lines ≡ None → AreCalls mount lines
-lines-of mount count number [] are later unknown = tt
-lines-of mount count number (l ∷ lines) are later unknown =
-    let built = passes-or (is_built l.call) l (later_in lines) later in
+lines-of : (mount : Mount) (count number : ℕ) (lines : List CallLine) → AreCallLines count number lines → unknown_in mount lines ≡ None → AreCalls mount lines
+lines-of mount count number [] are unknown = tt
+lines-of mount count number (l ∷ lines) are unknown =
     let known = passes-or (is_known mount l.call) l (unknown_in mount lines) unknown in
-    (call-of mount l.call are.2 built.0 known.0, lines-of mount count (suc number) lines are.3 built.1 known.1)
+    (call-of mount l.call are.2 known.0, lines-of mount count (suc number) lines are.3 known.1)
 
-phases-of : (mount : Mount) (count number : ℕ) (phases : List (List CallLine)) → ArePhases count number phases → later_call phases ≡ None → unknown_call mount phases ≡ None → AllByRecursion (AreCalls mount) phases
-phases-of mount count number [] are later unknown = tt
-phases-of mount count number (phase ∷ phases) are later unknown =
-    let built = or-none (later_in phase) (later_call phases) later in
+phases-of : (mount : Mount) (count number : ℕ) (phases : List (List CallLine)) → ArePhases count number phases → unknown_call mount phases ≡ None → AllByRecursion (AreCalls mount) phases
+phases-of mount count number [] are unknown = tt
+phases-of mount count number (phase ∷ phases) are unknown =
     let known = or-none (unknown_in mount phase) (unknown_call mount phases) unknown in
-    (lines-of mount count (suc number) phase are.0 built.0 known.0, phases-of mount count (suc number + length phase) phases are.1 built.1 known.1)
+    (lines-of mount count (suc number) phase are.0 known.0, phases-of mount count (suc number + length phase) phases are.1 known.1)
 
 line-none : (o : Option CallLine) → option_map {T = CallLine} (λ l. l.line) o ≡ None → o ≡ None
 line-none None e = refl
@@ -106,8 +106,8 @@ numbers-none : (a b : Option ℕ) → option_or a b ≡ None → b ≡ None
 numbers-none None b e = e
 numbers-none (Some n) b e = absurd cc
 
--- a script without a later call, which names what the stack has, has calls that the program makes
-pub phases-built : (mount : Mount) (script : Script) → IsScript script → later_call script.phases ≡ None → unknown_line mount script ≡ None → AllByRecursion (AreCalls mount) script.phases
-phases-built mount script is later unknown =
-    phases-of mount (length script.clients) (suc (length script.clients)) script.phases is.phases later
+-- a script that names what the stack has, has calls that the program makes
+pub phases-built : (mount : Mount) (script : Script) → IsScript script → unknown_line mount script ≡ None → AllByRecursion (AreCalls mount) script.phases
+phases-built mount script is unknown =
+    phases-of mount (length script.clients) (suc (length script.clients)) script.phases is.phases
     (line-none (unknown_call mount script.phases) (numbers-none (unknown_client mount script.clients) (option_map {T = CallLine} (λ l. l.line) (unknown_call mount script.phases)) unknown))

@@ -10,7 +10,7 @@ use crate::check::only_stack;
 use image_commands::{dump_file, format_files};
 use image_looks::list_disks;
 use run_defs::file_named;
-use run_texts::{Refusal, read_runnable, read_stack, refuse};
+use run_texts::{Refusal, read_stack, refuse};
 use seen_values::Text;
 use spr_io::{Bay, Shelf, Sink};
 use spr_report::Status;
@@ -63,7 +63,7 @@ fn read_file<H: Shelf>(
     ensures err { IfErr result (IsFileCause (H.told shelf.old) (H.told shelf.new) stack.now name.now) }
     ensures calm { OnOk result ((H.told shelf.new).faults ≡ (H.told shelf.old).faults) }
 {
-    let mount = read_runnable(alloc, shelf, stack)?;
+    let mount = read_stack(alloc, shelf, stack)?;
     match file_named(&mount, name) {
         Some(file) => Ok((mount, file)),
         None => Err(Refusal::FileUnknown),

@@ -387,7 +387,7 @@ try_refused caller old new Memory refused = record {
 -- nothing was done
 pub try_none : (old new : EngineSeen) → new ≡ old → IsTry [] old new
 try_none old new same = subst (IsTry [] old) (sym same) (record {
-  goes = record { file = record { tree = refl; file = refl; ops = refl }; call = inl refl; of = λ opening of. of };
+  goes = record { file = record { tree = refl; file = refl; machines = refl; ops = refl }; call = inl refl; of = λ opening of. of };
   log = sym (append-nil (log_in old));
   notes = tt;
   paid = unnoted [] old.ground old.ground (inl refl) refl;
@@ -401,7 +401,7 @@ try_none old new same = subst (IsTry [] old) (sym same) (record {
 
 pub later_refl : (e : EngineSeen) → IsLater e e
 later_refl e = record {
-  file = record { tree = refl; file = refl; ops = refl };
+  file = record { tree = refl; file = refl; machines = refl; ops = refl };
   of = λ opening of. of;
   more = [];
   log = sym (append-nil (log_in e));
@@ -439,14 +439,14 @@ disks_on xs ys a b c p q = record {
 
 pub later_trans : (a b c : EngineSeen) → IsLater a b → IsLater b c → IsLater a c
 later_trans a b c p q = record {
-  file = record { tree = q.file.tree ∙ p.file.tree; file = q.file.file ∙ p.file.file; ops = q.file.ops ∙ p.file.ops };
+  file = record { tree = q.file.tree ∙ p.file.tree; file = q.file.file ∙ p.file.file; machines = q.file.machines ∙ p.file.machines; ops = q.file.ops ∙ p.file.ops };
   of = λ opening of. q.of opening (p.of opening of);
   more = p.more ++ q.more;
   log = q.log ∙ ap (λ (l : List Logged). l ++ q.more) p.log ∙ append_assoc (log_in a) p.more q.more;
   disks = disks_on p.more q.more a.ground b.ground c.ground p.disks q.disks;
   answered = answered_on (tree_in a) (state_in a) p.more q.more p.answered (subst (λ (s : State). AreAnswered (tree_in a) s q.more) state_is (subst (λ (t : TreeShape). AreAnswered t (state_of t (events_in b)) q.more) p.file.tree q.answered));
   needed = needed_on (tree_in a) (file_in a).pages (events_in a) p.more q.more p.needed
-      (at_same (λ (t : TreeShape) (f : PagedFile). AreNeeded t f.pages (events_in a ++ trail_of p.more) q.more) b.tables a.tables (record { ops = sym p.file.ops; tree = sym p.file.tree; file = sym p.file.file })
+      (at_same (λ (t : TreeShape) (f : PagedFile). AreNeeded t f.pages (events_in a ++ trail_of p.more) q.more) b.tables a.tables (record { ops = sym p.file.ops; tree = sym p.file.tree; file = sym p.file.file; machines = sym p.file.machines })
       (subst (λ (es : List Event). AreNeeded (tree_in b) (file_in b).pages es q.more) events_are q.needed));
   calm = λ disk on none.
       let both = none-append (counts_of disk p.more) (counts_of disk q.more) (sym (counts_of-append disk p.more q.more) ∙ none) in

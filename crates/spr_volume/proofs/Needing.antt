@@ -1,5 +1,5 @@
 -- Page messages that are needed: those of a try, and one stretch of a log after another.
-use Rattle.std.proofs.Common.{◌≡◌, ◌⊎◌, inl, inr, ℕ, ◌<◌, ◌≤◌, ◌==◌, ◌&&◌, Bool, true, false, List, [], ◌∷◌, ◌++◌, Some, None, IsTrue, refl, sym, ap, subst, ◌∙◌, arith, append_assoc, append-nil}
+use Rattle.std.proofs.Common.{◌≡◌, ℕ, ◌<◌, ◌≤◌, ◌==◌, ◌&&◌, Bool, true, false, List, [], ◌∷◌, ◌++◌, Some, None, IsTrue, refl, sym, ap, subst, ◌∙◌, arith, append_assoc, append-nil}
 use Rattle.std.proofs.lemmas.Bool.Decides.{nat_tests}
 use Rattle.hist_plain.specs.declared.event.Event.{Event}
 use Rattle.hist_plain.specs.declared.event.Event.TheVariants as events
@@ -15,8 +15,10 @@ use Rattle.tower_plan.specs.Plan.{IsNext as IsNextOfPlan}
 use Rattle.stack_engine.specs.Engine.{EngineSeen, events_in, file_in, log_in, state_in, tree_in}
 use Rattle.stack_engine.specs.Messages.{IsPageMessage}
 use Rattle.stack_engine.specs.Moves.{FindsZeros, StandsFor}
+use Rattle.stack_engine.specs.Ends.{Drains}
 use Rattle.stack_engine.specs.Tower.{Settles, Steps, TowerSeen}
-use Rattle.spr_volume.specs.Needed.{AreNeeded, IsForAccess, IsForSync, as_planned}
+use Rattle.stack_engine.specs.Turns.{pushed_as}
+use Rattle.spr_volume.specs.Needed.{AreNeeded, ForAccess, ForEnd, ForSync, IsForCall, as_planned}
 
 -- ONE STRETCH OF A LOG AFTER ANOTHER
 pub needed_on : (tree : TreeShape) (pages : ℕ) (before : List Event) (xs ys : List Logged) → AreNeeded tree pages before xs → AreNeeded tree pages (before ++ trail_of xs) ys → AreNeeded tree pages before (xs ++ ys)
@@ -103,7 +105,7 @@ planned old new asked event kind stands = absurd kind
 
 -- what is asked of an event that is entered
 abbrev pub IsFor : EngineSeen → Event → Type 0
-IsFor e event = caller_of event ≡ None → IsForAccess (tree_in e) (file_in e).pages (events_in e) event ⊎ IsForSync (tree_in e) (file_in e).pages (events_in e) event
+IsFor e event = caller_of event ≡ None → IsForCall (tree_in e) (file_in e).pages (events_in e) event
 
 same_page : (page p pages : ℕ) → page < pages → Some page ≡ Some p → p < pages
 same_page page p pages inside some = subst (λ n. n < pages) (let e : page ≡ p = cc in e) inside
@@ -117,7 +119,7 @@ fits_inside size pages ops.Open page fits is = absurd cc
 
 pub for_access : (caller node life : ℕ) (op : Op) (old new : TowerSeen) (message : Event) → IsUpper (tree_in old.engine) node → IsTrue (fits_page (file_in old.engine).page_size (file_in old.engine).pages op)
     → (s : Steps caller node life op old new message) → IsPageMessage s.asked → IsFor old.engine message
-for_access caller node life op old new message upper fits s kind quiet = inl (record {
+for_access caller node life op old new message upper fits s kind quiet = ForAccess (record {
   node = node;
   page = s.page;
   want = s.want;
@@ -127,14 +129,17 @@ for_access caller node life op old new message upper fits s kind quiet = inl (re
   next = subst (λ (e : Event). IsNextOfPlan (tree_in old.engine) (file_in old.engine).pages (state_in old.engine) node s.page s.want e) (sym (planned old.engine new.engine s.asked message kind s.sends.stands)) s.steps.plan;
 })
 
-pub for_sync : (node from : ℕ) (keep : Keep) (old new : TowerSeen) (message : Event) → IsUpper (tree_in old.engine) node → from ≤ place_of (log_in old.engine) → Settles node from keep old new message → IsFor old.engine message
-for_sync node from keep old new message upper reached s quiet = inr (record {
+pub for_sync : (caller node from : ℕ) (keep : Keep) (old new : TowerSeen) (message : Event) → IsUpper (tree_in old.engine) node → from ≤ place_of (log_in old.engine) → Settles caller node from keep old new message → IsFor old.engine message
+for_sync caller node from keep old new message upper reached s quiet = ForSync (record {
   node = node;
   from = from;
-  keep = keep;
+  keep = pushed_as caller s.page keep old.turns;
   page = s.page;
   upper = upper;
   reached = reached;
   lowest = record { inside = s.lowest.inside; unsettled = s.lowest.unsettled; lowest = s.lowest.lowest };
   next = s.settles.plan;
 })
+
+pub for_end : (caller node : ℕ) (old new : TowerSeen) (message : Event) → IsUpper (tree_in old.engine) node → Drains caller node old new message → IsFor old.engine message
+for_end caller node old new message upper d quiet = ForEnd (record { top = node; upper = upper; next = d.drains.plan })

@@ -1,30 +1,24 @@
--- A run of needed messages reads each page from the ground by its first grant alone.
-use Rattle.std.specs.Prelude.{◌==◌, slice_get}
+-- What a run reads from the ground: a page by its first grant, and again only if it was taken from node 1 before.
+use Rattle.std.specs.Prelude.{◌==◌, ◌&&◌, slice_get}
 use Rattle.std.proofs.Common.{◌≡◌, ◌≢◌, ◌⊎◌, ℕ, zero, suc, ◌*◌, ◌<◌, ◌≤◌, ◌||◌, inl, inr, Bool, true, false, cond, List, [], ◌∷◌, ◌++◌, length, take, Option, Some, None, refl, sym, ap, subst, ◌∙◌, arith, append_assoc, append-nil}
 use Rattle.std.specs.List.{AllByRecursion}
 use Rattle.std.proofs.lemmas.Bool.{eq-eqb}
 use Rattle.std.proofs.lemmas.Bool.Decides.{eqb_tells}
 use Rattle.hist_plain.specs.declared.event.Event.{Event}
 use Rattle.hist_plain.specs.declared.event.Event.TheVariants as events
-use Rattle.hist_plain.specs.declared.event.Keep.{Keep}
 use Rattle.hist_plain.specs.declared.event.Op.{Op}
-use Rattle.hist_plain.specs.Event.{caller_of}
 use Rattle.hist_plain.specs.History.{page_in}
-use Rattle.hist_plain.specs.Plain.{reaches}
 use Rattle.tower_core.specs.declared.right.Right.{Right}
 use Rattle.tower_core.specs.declared.step.Step.{Step}
 use Rattle.tower_core.specs.declared.step.Step.TheVariants.{Untouched, Reads, Writes, Grants, PagesOut, Denies, Pushes, Flushes, Deletes}
-use Rattle.tower_core.specs.TreeShape.{IsTree, IsUpper, TreeShape, frames_of, is_within, nodes, parent}
+use Rattle.tower_core.specs.TreeShape.{IsTree, IsUpper, TreeShape, frames_of, parent}
 use Rattle.tower_core.specs.Column.{IsStepOf, MayStep, right_after, updated}
-use Rattle.tower_core.specs.Trail.{IsAllowed, IsRun, State, at_of, holds, of_page, right_of, start, state_after, state_of, step_of, step_of_access}
+use Rattle.tower_core.specs.Trail.{IsAllowed, IsRun, State, at_of, of_page, right_of, start, state_after, state_of, step_of, step_of_access}
 use Rattle.tower_core.specs.Legal.{FitsFile}
 use Rattle.tower_core.proofs.Legals.{run_snoc, state_of-snoc}
 use Rattle.tower_core.proofs.Trails.{on_each_page}
 use Rattle.layer_laws.specs.Granted.{is_grant_of, is_granted_in}
 use Rattle.layer_laws.proofs.Grants.{never_granted}
-use Rattle.tower_plan.specs.Plan.{Evict, Grant, Revoke, is_full, is_write, revoking}
-use Rattle.tower_plan.specs.Plan.{IsNext as IsNextOfPlan}
-use Rattle.tower_plan.specs.Sync.{IsNextOfSync, Push, pushing}
 use Rattle.tower_log.specs.declared.logged.Entry.{Entry}
 use Rattle.tower_log.specs.declared.logged.Logged.{Logged}
 use Rattle.tower_log.specs.declared.logged.Logged.TheVariants.{Entered, Noted}
@@ -34,8 +28,7 @@ use Rattle.tower_shows.specs.Began.{ground_shown}
 use Rattle.tower_shows.specs.Reads.{IsRead}
 use Rattle.tower_shows.proofs.Firsts.{granted_above, ground_or_upper}
 use Rattle.stack_engine.specs.Answers.{FindsPagesOf, KeepsPagesOf}
-use Rattle.spr_volume.specs.Needed.{AreNeeded, IsForAccess, IsForSync, as_planned}
-use Rattle.spr_volume.specs.Reads.{StandsByFirst}
+use Rattle.spr_volume.specs.Reads.{AreTakenBefore, FindsAgain, IsReadAgain, StandsByFirst, is_taken_in, takes_from_first}
 use Rattle.spr_volume.proofs.Unwritten.{unwritten}
 
 -- WHICH STEPS take the page from node 1
@@ -86,78 +79,42 @@ granted_held : (right : ℕ → Right) (write : Bool) → right_after right (Gra
 granted_held right true = write_some
 granted_held right false = read_some
 
--- WHAT A PLAN NAMES takes no page from node 1
+test_or : (b : Bool) → (b ≡ true) ⊎ (b ≡ false)
+test_or true = inl refl
+test_or false = inr refl
 
 module _ (tree : TreeShape) (pages : ℕ) (is_tree : IsTree tree) (first : StandsByFirst tree) where
-  -- node 1 is on each path
-  on_path : (steps node : ℕ) → IsUpper tree node → node ≤ steps → reaches steps tree.parents node 1 ≡ true
-  on_path zero node upper le = absurd (let above = upper.above in omega (arith, above, le))
-  on_path (suc steps) node upper le = elim (eqb_tells node 1) [
-    | inl e ↦ rw e.0 refl
-    | inr d ↦ rw d.0 (elim (ground_or_upper tree node is_tree upper) [
-      | inl ground ↦ absurd (d.1 (first.alone node upper ground))
-      | inr above ↦ let below : parent tree node < node = is_tree.ordered node upper in on_path steps (parent tree node) above (omega (arith, below, le))
-    ])
+  -- an event that is allowed takes no page from node 1, but for one that says so
+  both_true : (a b : Bool) → a ≡ true → b ≡ true → (a && b) ≡ true
+  both_true true true e f = refl
+  both_true true false e f = absurd cc
+  both_true false b e f = absurd cc
+
+  named_none : (page p node : ℕ) (step : Step) → (Drops step → node ≡ 1) → ((node == 1) && (p == page)) ≡ false → Drops (of_page page p step) → ⊥
+  named_none page p node step own off drops = elim (eqb_tells p page) [
+    | inl same ↦ (let one : node ≡ 1 = own (rw same.0 at drops) in let on : ((node == 1) && (p == page)) ≡ true = both_true (node == 1) (p == page) (eq-eqb node 1 one) (eq-eqb p page same.1) in let both : true ≡ false = sym on ∙ off in cc)
+    | inr d ↦ (rw d.0 at drops)
   ]
 
-  off_path : (node other : ℕ) → IsUpper tree node → is_within tree node other ≡ false → other ≡ 1 → ⊥
-  off_path node other upper off is = let both : true ≡ false = sym (on_path node node upper (omega arith)) ∙ ap (λ (o : ℕ). is_within tree node o) (sym is) ∙ off in cc
+  allowed_none : (s : State) (event : Event) → IsAllowed tree pages s event → (page : ℕ) → takes_from_first page event ≡ false → Drops (step_of s.life page event) → ⊥
+  allowed_none s (events.Access caller number node l op) allowed page off drops = elim (eqb_tells l (s.life node)) [ inl e ↦ access_none page node op (rw e.0 at drops) | inr d ↦ (rw d.0 at drops) ]
+  allowed_none s (events.PageIn node p write) allowed page off drops = of_page_none page p (Grants node write) (λ never. never) drops
+  allowed_none s (events.ZeroFill node p write) allowed page off drops = of_page_none page p (Grants node write) (λ never. never) drops
+  allowed_none s (events.PageOut node p) allowed page off drops = of_page_none page p (PagesOut node) (λ own. allowed.line.0 (ap (frames_of tree) own ∙ first.bare)) drops
+  allowed_none s (events.WriteOut node p) allowed page off drops = of_page_none page p (Denies node) (λ never. never) drops
+  allowed_none s (events.SyncOut node p) allowed page off drops = of_page_none page p (Pushes node) (λ never. never) drops
+  allowed_none s (events.FlushBack node p) allowed page off drops = named_none page p node (Flushes node) (λ own. own) off drops
+  allowed_none s (events.DenyWrites node p) allowed page off drops = of_page_none page p (Denies node) (λ never. never) drops
+  allowed_none s (events.WriteBack node p) allowed page off drops = of_page_none page p (Pushes node) (λ never. never) drops
+  allowed_none s (events.DeleteRange node p) allowed page off drops = named_none page p node (Deletes node) (λ own. own) off drops
+  allowed_none s (events.DestroyCache caller number node) allowed page off drops = drops
+  allowed_none s (events.DonePager caller number node) allowed page off drops = drops
+  allowed_none s (events.Synced caller number node from keep) allowed page off drops = drops
 
-  revoked_none : (want have : Right) (other page p : ℕ) (life : ℕ → ℕ) → (other ≡ 1 → ⊥) → Drops (step_of life p (revoking want have other page)) → ⊥
-  revoked_none Right.Write Right.Write other page p life never drops = of_page_none p page (Flushes other) never drops
-  revoked_none Right.Write Right.Read other page p life never drops = of_page_none p page (Deletes other) never drops
-  revoked_none Right.Write Right.Nothing other page p life never drops = of_page_none p page (Deletes other) never drops
-  revoked_none Right.Read have other page p life never drops = of_page_none p page (Denies other) (λ never'. never') drops
-  revoked_none Right.Nothing have other page p life never drops = of_page_none p page (Denies other) (λ never'. never') drops
-
-  -- node 1 has no frames, so it is never full
-  never_full : (s : State) (node page : ℕ) → node ≡ 1 → is_full tree pages s node page ≡ true → ⊥
-  never_full s node page is full =
-      let none : (frames_of tree node == 0) ≡ true = ap (λ (n : ℕ). frames_of tree n == 0) is ∙ eq-eqb (frames_of tree 1) 0 first.bare in
-      by (holds ((s.column page).right node)) (rw none at full)
-    where
-      by : (b : Bool) → cond b false false ≡ true → ⊥
-      by true e = cc
-      by false e = cc
-
-  planned_none : (s : State) (node page : ℕ) (want : Right) (event : Event) → IsUpper tree node → IsNextOfPlan tree pages s node page want event → (p : ℕ) (life : ℕ → ℕ) → Drops (step_of life p event) → ⊥
-  planned_none s node page want event upper (Revoke other hinders) p life drops = revoked_none want ((s.column page).right other) other page p life (off_path node other upper hinders.is_one.off) drops
-  planned_none s node page want event upper (Evict victim free is) p life drops = of_page_none p victim (PagesOut node) (λ own. never_full s node page own is.full) drops
-  planned_none s node page want event upper (Grant other free roomy lacking) p life drops = of_page_none p page (Grants other (is_write want)) (λ never. never) drops
-
-  pushed_none : (keep : Keep) (on : Bool) (other page p : ℕ) (life : ℕ → ℕ) → Drops (step_of life p (pushing keep on other page)) → ⊥
-  pushed_none Keep.Write true other page p life drops = of_page_none p page (Pushes other) (λ never. never) drops
-  pushed_none Keep.Write false other page p life drops = of_page_none p page (Pushes other) (λ never. never) drops
-  pushed_none Keep.Read true other page p life drops = of_page_none p page (Denies other) (λ never. never) drops
-  pushed_none Keep.Read false other page p life drops = of_page_none p page (Denies other) (λ never. never) drops
-
-  settled_none : (s : State) (node page from : ℕ) (keep : Keep) (event : Event) → IsNextOfSync tree s page node from keep event → (p : ℕ) (life : ℕ → ℕ) → Drops (step_of life p event) → ⊥
-  settled_none s node page from keep event (Push other unsettled deepest) p life drops = pushed_none keep (is_within tree node other) other page p life drops
-
-  -- a needed message that is named as it is
-  named_none : (before : List Event) (message : Event) → as_planned message ≡ message → IsForAccess tree pages before message ⊎ IsForSync tree pages before message → (p : ℕ) (life : ℕ → ℕ) → Drops (step_of life p message) → ⊥
-  named_none before message same (inl a) p life drops = planned_none (state_of tree before) a.node a.page a.want message a.upper (subst (IsNextOfPlan tree pages (state_of tree before) a.node a.page a.want) same a.next) p life drops
-  named_none before message same (inr y) p life drops = settled_none (state_of tree before) y.node y.page y.from y.keep message y.next p life drops
-
-  needed_none : (before : List Event) (event : Event) → (caller_of event ≡ None → IsForAccess tree pages before event ⊎ IsForSync tree pages before event) → (p : ℕ) (life : ℕ → ℕ) → Drops (step_of life p event) → ⊥
-  needed_none before (events.Access caller number node l op) need p life drops = elim (eqb_tells l (life node)) [ inl e ↦ access_none p node op (rw e.0 at drops) | inr d ↦ (rw d.0 at drops) ]
-  needed_none before (events.PageIn node page write) need p life drops = of_page_none p page (Grants node write) (λ never. never) drops
-  needed_none before (events.ZeroFill node page write) need p life drops = of_page_none p page (Grants node write) (λ never. never) drops
-  needed_none before (events.PageOut node page) need p life drops = named_none before (events.PageOut node page) refl (need refl) p life drops
-  needed_none before (events.WriteOut node page) need p life drops = of_page_none p page (Denies node) (λ never. never) drops
-  needed_none before (events.SyncOut node page) need p life drops = of_page_none p page (Pushes node) (λ never. never) drops
-  needed_none before (events.FlushBack node page) need p life drops = named_none before (events.FlushBack node page) refl (need refl) p life drops
-  needed_none before (events.DenyWrites node page) need p life drops = of_page_none p page (Denies node) (λ never. never) drops
-  needed_none before (events.WriteBack node page) need p life drops = of_page_none p page (Pushes node) (λ never. never) drops
-  needed_none before (events.DeleteRange node page) need p life drops = named_none before (events.DeleteRange node page) refl (need refl) p life drops
-  needed_none before (events.DestroyCache caller number node) need p life drops = drops
-  needed_none before (events.DonePager caller number node) need p life drops = drops
-  needed_none before (events.Synced caller number node from keep) need p life drops = drops
-
-  -- ALONG A RUN: node 1 has each page that was granted
+  -- ALONG A RUN: node 1 has each page that was granted, unless it was taken from there
 
   abbrev Holds : List Event → Type 0
-  Holds before = (page : ℕ) → is_granted_in page before ≡ true → right_of tree before 1 page ≢ Right.Nothing
+  Holds before = (page : ℕ) → is_granted_in page before ≡ true → is_taken_in page before ≡ false → right_of tree before 1 page ≢ Right.Nothing
 
   right-snoc : (before : List Event) (event : Event) (page : ℕ) → right_of tree (before ++ event ∷ []) 1 page ≡ right_after ((state_of tree before).column page).right (step_of (state_of tree before).life page event) 1
   right-snoc before event page = ap (λ (s : State). (s.column page).right 1) (state_of-snoc tree before event)
@@ -214,16 +171,23 @@ module _ (tree : TreeShape) (pages : ℕ) (is_tree : IsTree tree) (first : Stand
       by true b c e rest = inl refl
       by false b c e rest = rest e
 
-  test_or : (b : Bool) → (b ≡ true) ⊎ (b ≡ false)
-  test_or true = inl refl
-  test_or false = inr refl
+  neither : (a b : Bool) → (a || b) ≡ false → (a ≡ false) × (b ≡ false)
+  neither true b e = absurd cc
+  neither false b e = (refl, e)
 
-  holds_next : (before : List Event) (event : Event) → IsRun tree pages start before → IsAllowed tree pages (state_of tree before) event
-      → (caller_of event ≡ None → IsForAccess tree pages before event ⊎ IsForSync tree pages before event) → Holds before → Holds (before ++ event ∷ [])
-  holds_next before event run allowed need held page granted =
+  taken-snoc : (page : ℕ) (before : List Event) (event : Event) → is_taken_in page (before ++ event ∷ []) ≡ false → (is_taken_in page before ≡ false) × (takes_from_first page event ≡ false)
+  taken-snoc page [] event e = (refl, (neither (takes_from_first page event) false e).0)
+  taken-snoc page (other ∷ before) event e =
+      let parts = neither (takes_from_first page other) (is_taken_in page (before ++ event ∷ [])) e in
+      let rest = taken-snoc page before event parts.1 in
+      (rw parts.0 rest.0, rest.1)
+
+  holds_next : (before : List Event) (event : Event) → IsRun tree pages start before → IsAllowed tree pages (state_of tree before) event → Holds before → Holds (before ++ event ∷ [])
+  holds_next before event run allowed held page granted left =
+      let off = taken-snoc page before event left in
       let may = on_each_page tree pages (state_of tree before) event is_tree allowed.upper allowed.line page in
       subst (λ (r : Right). r ≢ Right.Nothing) (sym (right-snoc before event page)) (elim (test_or (is_granted_in page before)) [
-        | inl was ↦ stays_held ((state_of tree before).column page).right (step_of (state_of tree before).life page event) (held page was) (needed_none before event need page (state_of tree before).life)
+        | inl was ↦ stays_held ((state_of tree before).column page).right (step_of (state_of tree before).life page event) (held page was off.0) (allowed_none (state_of tree before) event allowed page off.1)
         | inr none ↦ (elim (granted-snoc page before event granted) [
           | inl was ↦ absurd (let both : true ≡ false = sym was ∙ none in cc)
           | inr grant ↦
@@ -232,7 +196,7 @@ module _ (tree : TreeShape) (pages : ℕ) (is_tree : IsTree tree) (first : Stand
         ])
       ])
 
-  -- WHAT IS READ was not granted before
+  -- WHAT IS READ AGAIN was taken from node 1
 
   reads_first : (right : ℕ → Right) (step : Step) → IsStepOf tree step → ReadsGround tree right step → right 1 ≡ Right.Nothing
   reads_first right (Grants node write) of read = subst (λ (n : ℕ). right n ≡ Right.Nothing) (first.alone node of read.0) read.1
@@ -245,14 +209,37 @@ module _ (tree : TreeShape) (pages : ℕ) (is_tree : IsTree tree) (first : Stand
   reads_first right (Flushes node) of read = absurd read
   reads_first right (Deletes node) of read = absurd read
 
-  read_once : (before : List Event) (event : Event) (page : ℕ) → IsAllowed tree pages (state_of tree before) event → Holds before → IsRead tree before page event → is_granted_in page before ≡ false
-  read_once before event page allowed held read =
+  taken_here : (before : List Event) (event : Event) (page : ℕ) → IsAllowed tree pages (state_of tree before) event → Holds before → IsRead tree before page event → is_granted_in page before ≡ true → is_taken_in page before ≡ true
+  taken_here before event page allowed held read granted =
       let may = on_each_page tree pages (state_of tree before) event is_tree allowed.upper allowed.line page in
-      elim (test_or (is_granted_in page before)) [
-        | inl was ↦ absurd (held page was (reads_first (λ node. right_of tree before node page) (step_of (state_of tree before).life page event) may.0 read))
-        | inr none ↦ none
+      elim (test_or (is_taken_in page before)) [
+        | inl taken ↦ taken
+        | inr left ↦ absurd (held page granted left (reads_first (λ node. right_of tree before node page) (step_of (state_of tree before).life page event) may.0 read))
       ]
 
+  taken_at : (before : List Event) (log : List Logged) (place page : ℕ) (entry : Entry) → IsRun tree pages start before → Holds before → IsRun tree pages (state_of tree before) (trail_of log)
+      → slice_get (entries_of log) place ≡ Some entry → IsRead tree (before ++ take place (trail_of log)) page entry.event → is_granted_in page (before ++ take place (trail_of log)) ≡ true → is_taken_in page (before ++ take place (trail_of log)) ≡ true
+  taken_at before [] place page entry run held after is read granted = absurd cc
+  taken_at before (Noted note ∷ log) place page entry run held after is read granted = taken_at before log place page entry run held after is read granted
+  taken_at before (Entered one ∷ log) zero page entry run held after is read granted =
+      let same : one ≡ entry = (let both : Some one ≡ Some entry = is in cc) in
+      let here : (before ++ []) ≡ before = append-nil before in
+      subst (λ (es : List Event). is_taken_in page es ≡ true) (sym here)
+      (taken_here before entry.event page (subst (λ (e : Entry). IsAllowed tree pages (state_of tree before) e.event) same after.0) held (subst (λ (es : List Event). IsRead tree es page entry.event) here read)
+      (subst (λ (es : List Event). is_granted_in page es ≡ true) here granted))
+  taken_at before (Entered one ∷ log) (suc place) page entry run held after is read granted =
+      let parts : (before ++ one.event ∷ []) ++ take place (trail_of log) ≡ before ++ (one.event ∷ take place (trail_of log)) = append_assoc before (one.event ∷ []) (take place (trail_of log)) in
+      subst (λ (es : List Event). is_taken_in page es ≡ true) parts
+      (taken_at (before ++ one.event ∷ []) log place page entry (run_snoc tree pages start before one.event run after.0) (holds_next before one.event run after.0 held)
+      (subst (λ (s : State). IsRun tree pages s (trail_of log)) (sym (state_of-snoc tree before one.event)) after.1) is
+      (subst (λ (es : List Event). IsRead tree es page entry.event) (sym parts) read) (subst (λ (es : List Event). is_granted_in page es ≡ true) (sym parts) granted))
+
+pub taken_before : (tree : TreeShape) (pages : ℕ) (log : List Logged) → IsTree tree → StandsByFirst tree → IsRun tree pages start (trail_of log) → AreTakenBefore tree log
+taken_before tree pages log is_tree first run place page entry r = taken_at tree pages is_tree first [] log place page entry tt (λ p granted left. absurd (let both : false ≡ true = granted in cc)) run r.stands r.read r.again
+
+-- WHAT IS READ FIRST is as the file began with it
+
+module _ (tree : TreeShape) (pages : ℕ) (is_tree : IsTree tree) where
   -- what is read is granted
   of_page_read : (right : ℕ → Right) (page p : ℕ) (step : Step) → ReadsGround tree right (of_page page p step) → ((page == p) ≡ true) × ReadsGround tree right step
   of_page_read right page p step read = elim (eqb_tells p page) [
@@ -281,43 +268,37 @@ module _ (tree : TreeShape) (pages : ℕ) (is_tree : IsTree tree) (first : Stand
   read_grants right life page (events.DonePager caller number node) read = absurd read
   read_grants right life page (events.Synced caller number node from keep) read = absurd read
 
-  -- AT A PLACE of a log
-
   module _ (size : ℕ) (opening : List ℕ) (long : length opening ≡ pages * size) where
-    -- a read behind these events is the page's first grant, and the page is as the file began with it
+    -- a read of a page that was not granted yet is its first grant, and the page is as the file began with it
     record IsFirst (before : List Event) (page : ℕ) (event : Event) : Type 0 where
-      none : is_granted_in page before ≡ false
       grant : is_grant_of page event ≡ true
       shown : ground_shown tree size opening before page ≡ page_in size opening page
 
-    is_first : (before : List Event) (event : Event) (page : ℕ) → IsRun tree pages start before → AllByRecursion (FitsFile size pages) before → IsAllowed tree pages (state_of tree before) event → Holds before → IsRead tree before page event → IsFirst before page event
-    is_first before event page run fits allowed held read =
-        let none : is_granted_in page before ≡ false = read_once before event page allowed held read in
-        record {
-          none = none;
-          grant = read_grants (λ node. right_of tree before node page) (state_of tree before).life page event read;
-          shown = unwritten tree size pages opening page is_tree before (at_of tree before 0 page) run fits none long;
-        }
+    is_first : (before : List Event) (event : Event) (page : ℕ) → IsRun tree pages start before → AllByRecursion (FitsFile size pages) before → IsRead tree before page event → is_granted_in page before ≡ false → IsFirst before page event
+    is_first before event page run fits read none = record {
+      grant = read_grants (λ node. right_of tree before node page) (state_of tree before).life page event read;
+      shown = unwritten tree size pages opening page is_tree before (at_of tree before 0 page) run fits none long;
+    }
 
     fits-snoc : (before : List Event) (event : Event) → AllByRecursion (FitsFile size pages) before → FitsFile size pages event → AllByRecursion (FitsFile size pages) (before ++ event ∷ [])
     fits-snoc [] event all here = (here, tt)
     fits-snoc (other ∷ before) event all here = (all.0, fits-snoc before event all.1 here)
 
-    first_at : (before : List Event) (log : List Logged) (place page : ℕ) (entry : Entry) → IsRun tree pages start before → AllByRecursion (FitsFile size pages) before → Holds before
-        → IsRun tree pages (state_of tree before) (trail_of log) → AllByRecursion (FitsFile size pages) (trail_of log) → AreNeeded tree pages before log
-        → slice_get (entries_of log) place ≡ Some entry → IsRead tree (before ++ take place (trail_of log)) page entry.event → IsFirst (before ++ take place (trail_of log)) page entry.event
-    first_at before [] place page entry run fits held after more need is read = absurd cc
-    first_at before (Noted note ∷ log) place page entry run fits held after more need is read = first_at before log place page entry run fits held after more need is read
-    first_at before (Entered one ∷ log) zero page entry run fits held after more need is read =
-        let same : one ≡ entry = (let both : Some one ≡ Some entry = is in cc) in
-        subst (λ (es : List Event). IsFirst es page entry.event) (sym (append-nil before))
-        (is_first before entry.event page run fits (subst (λ (e : Entry). IsAllowed tree pages (state_of tree before) e.event) same after.0) held (subst (λ (es : List Event). IsRead tree es page entry.event) (append-nil before) read))
-    first_at before (Entered one ∷ log) (suc place) page entry run fits held after more need is read =
+    first_at : (before : List Event) (log : List Logged) (place page : ℕ) (entry : Entry) → IsRun tree pages start before → AllByRecursion (FitsFile size pages) before
+        → IsRun tree pages (state_of tree before) (trail_of log) → AllByRecursion (FitsFile size pages) (trail_of log)
+        → slice_get (entries_of log) place ≡ Some entry → IsRead tree (before ++ take place (trail_of log)) page entry.event → is_granted_in page (before ++ take place (trail_of log)) ≡ false → IsFirst (before ++ take place (trail_of log)) page entry.event
+    first_at before [] place page entry run fits after more is read none = absurd cc
+    first_at before (Noted note ∷ log) place page entry run fits after more is read none = first_at before log place page entry run fits after more is read none
+    first_at before (Entered one ∷ log) zero page entry run fits after more is read none =
+        let here : (before ++ []) ≡ before = append-nil before in
+        subst (λ (es : List Event). IsFirst es page entry.event) (sym here)
+        (is_first before entry.event page run fits (subst (λ (es : List Event). IsRead tree es page entry.event) here read) (subst (λ (es : List Event). is_granted_in page es ≡ false) here none))
+    first_at before (Entered one ∷ log) (suc place) page entry run fits after more is read none =
         let parts : (before ++ one.event ∷ []) ++ take place (trail_of log) ≡ before ++ (one.event ∷ take place (trail_of log)) = append_assoc before (one.event ∷ []) (take place (trail_of log)) in
         subst (λ (es : List Event). IsFirst es page entry.event) parts
-        (first_at (before ++ one.event ∷ []) log place page entry (run_snoc tree pages start before one.event run after.0) (fits-snoc before one.event fits more.0) (holds_next before one.event run after.0 need.0 held)
-        (subst (λ (s : State). IsRun tree pages s (trail_of log)) (sym (state_of-snoc tree before one.event)) after.1) more.1 need.1 is
-        (subst (λ (es : List Event). IsRead tree es page entry.event) (sym parts) read))
+        (first_at (before ++ one.event ∷ []) log place page entry (run_snoc tree pages start before one.event run after.0) (fits-snoc before one.event fits more.0)
+        (subst (λ (s : State). IsRun tree pages s (trail_of log)) (sym (state_of-snoc tree before one.event)) after.1) more.1 is
+        (subst (λ (es : List Event). IsRead tree es page entry.event) (sym parts) read) (subst (λ (es : List Event). is_granted_in page es ≡ false) (sym parts) none))
 
 -- the first grant of a page is what is kept of it
 kept_first : (page : ℕ) (log : List Logged) (place : ℕ) (entry : Entry) → slice_get (entries_of log) place ≡ Some entry → is_granted_in page (take place (trail_of log)) ≡ false → is_grant_of page entry.event ≡ true → kept_in page log ≡ Some entry.bytes
@@ -334,8 +315,11 @@ kept_first page (Entered one ∷ log) (suc place) entry is none grant =
     neither true b e = absurd cc
     neither false b e = (refl, e)
 
-pub needed_finds : (tree : TreeShape) (size pages : ℕ) (opening : List ℕ) (log : List Logged) → IsTree tree → StandsByFirst tree → length opening ≡ pages * size → IsRun tree pages start (trail_of log)
-    → AllByRecursion (FitsFile size pages) (trail_of log) → AreNeeded tree pages [] log → KeepsPagesOf size opening log → FindsPagesOf tree size opening log
-needed_finds tree size pages opening log is_tree first long run fits need keeps place page entry is read =
-    let f = first_at tree pages is_tree first size opening long [] log place page entry tt tt (λ p granted. absurd (let both : false ≡ true = granted in cc)) run fits need is read in
-    keeps page entry.bytes (kept_first page log place entry is f.none f.grant) ∙ sym f.shown
+pub reads_find : (tree : TreeShape) (size pages : ℕ) (opening : List ℕ) (log : List Logged) → IsTree tree → length opening ≡ pages * size → IsRun tree pages start (trail_of log)
+    → AllByRecursion (FitsFile size pages) (trail_of log) → KeepsPagesOf size opening log → FindsAgain tree size opening log → FindsPagesOf tree size opening log
+reads_find tree size pages opening log is_tree long run fits keeps again place page entry is read = elim (test_or (is_granted_in page (take place (trail_of log)))) [
+  | inl granted ↦ again place page entry (record { stands = is; read = read; again = granted })
+  | inr none ↦
+      let f = first_at tree pages is_tree size opening long [] log place page entry tt tt run fits is read none in
+      keeps page entry.bytes (kept_first page log place entry is none f.grant) ∙ sym f.shown
+]

@@ -12,7 +12,7 @@ use Rattle.spr_volume.specs.TowerShared.{IsNeeded, IsPlain, SharedSeen}
 pub plain_later : (began now : EngineSeen) → IsLater began now → IsPlain began (log_in now)
 plain_later began now later = λ opening of.
     at_same (λ (t : TreeShape) (f : PagedFile). AreAnswers t f.page_size opening (log_in now)) now.tables began.tables
-    (record { tree = sym later.file.tree; file = sym later.file.file; ops = sym later.file.ops }) (later.of opening of).answers
+    (record { tree = sym later.file.tree; file = sym later.file.file; machines = sym later.file.machines; ops = sym later.file.ops }) (later.of opening of).answers
 
 pub needed_later : (began now : EngineSeen) → IsLater began now → IsNeeded began (log_in now)
 needed_later began now later = record { more = later.more; log_is = later.log; needed = later.needed }

@@ -10,6 +10,7 @@ use Rattle.hist_plain.specs.History.{mine}
 use Rattle.tower_core.specs.TreeShape.{IsUpper}
 use Rattle.tower_log.specs.declared.logged.Logged.{Logged}
 use Rattle.tower_log.specs.Log.{place_of}
+use Rattle.stack_engine.specs.declared.ends.End.{End}
 use Rattle.stack_engine.specs.declared.moved.Moved.{Moved}
 use Rattle.stack_engine.specs.declared.moved.Moved.TheVariants.{Busy, Done, Stepped}
 use Rattle.stack_engine.specs.declared.refusal.StepErr.{StepErr}
@@ -17,11 +18,16 @@ use Rattle.stack_engine.specs.declared.refusal.StepErr.TheVariants.{StoreFault, 
 use Rattle.stack_engine.specs.Engine.{EngineSeen, IsSound, events_in, file_in, log_in, state_in, tree_in}
 use Rattle.stack_engine.specs.Messages.{IsPageMessage}
 use Rattle.stack_engine.specs.Moves.{FindsZeros, IsRefused, Sends, StandsFor, bytes_to}
+use Rattle.stack_engine.specs.Ended.{event_ended}
+use Rattle.stack_engine.specs.Ends.{AdvancesEnd}
 use Rattle.stack_engine.specs.Tower.{Advances, AdvancesSync, Fails, IsDone, TowerSeen}
+use Rattle.stack_engine.specs.Turns.{pushed_as}
+use Rattle.stack_engine.proofs.Draining.{drain_kind}
 use Rattle.stack_engine.proofs.Planning.{plan_kind, sync_kind}
-use Rattle.spr_volume.specs.TowerCalls.{Moves, Refuses, Tries, access_of, sync_of}
-use Rattle.spr_volume.specs.Later.{IsLater}
-use Rattle.spr_volume.proofs.Needing.{IsFor, for_access, for_sync}
+use Rattle.spr_volume.specs.TowerCalls.{Moves, Refuses, Tries, access_of, end_of, sync_of}
+use Rattle.stack_engine.specs.Opened.{from_after}
+use Rattle.spr_volume.specs.Later.{IsLater, answer_by}
+use Rattle.spr_volume.proofs.Needing.{IsFor, for_access, for_end, for_sync}
 use Rattle.spr_volume.proofs.Laters.{IsTry, later_trans, later_try, noted_by, try_entered, try_none, try_refused, unanswered, unsynced}
 
 -- MESSAGES are nobody's
@@ -94,9 +100,35 @@ module _ (caller number node from : ℕ) (keep : Keep) (old new : TowerSeen) (nu
     moves = (_, refl, record { event_is = ap (λ (n : ℕ). events.Synced caller n node from keep) number_is; answer_is = ap Some (sym syncs.is); bytes = λ read. refl });
   }
   tried_sync (Ok (Stepped message)) settles fails =
-      sent caller _ old.engine new.engine [] message message (sync_kind _ _ settles.page node from keep message settles.settles.plan) settles.sends (for_sync node from keep old new message upper reached settles)
+      sent caller _ old.engine new.engine [] message message (sync_kind _ _ settles.page node from (pushed_as caller settles.page keep old.turns) message settles.settles.plan) settles.sends (for_sync caller node from keep old new message upper reached settles)
   tried_sync (Ok (Busy holder)) never fails = absurd never
   tried_sync (Err err) advances fails = refused_so caller _ old.engine new.engine [] err fails.refused
+
+-- A TRY OF AN END, which has the caller's next number
+end_answered : (old : EngineSeen) (end : End) (caller number node : ℕ) → answer_by (state_in old) (event_ended end caller number node) ≡ Some answers.Done
+end_answered old End.Destroy caller number node = refl
+end_answered old End.Done caller number node = refl
+
+end_called : (end : End) (caller number node : ℕ) → caller_of (event_ended end caller number node) ≡ None → ⊥
+end_called End.Destroy caller number node none = cc
+end_called End.Done caller number node none = cc
+
+end_unsynced : (end : End) (caller number node from : ℕ) → from_after None (event_ended end caller number node) ≡ Some from → ⊥
+end_unsynced End.Destroy caller number node from is = cc
+end_unsynced End.Done caller number node from is = cc
+
+module _ (caller number node : ℕ) (end : End) (old new : TowerSeen) (number_is : number ≡ length (mine (events_in old.engine) caller)) (upper : IsUpper (tree_in old.engine) node) where
+  pub tried_end : (r : Result Moved StepErr) → IfOk r (AdvancesEnd caller number node end old new) → IfErr r (Fails caller old new)
+      → IsTried caller (end_of caller node end (events_in old.engine)) old.engine new.engine [] r
+  tried_end (Ok (Done answer)) ends fails = record {
+    last = _;
+    is_try = try_entered _ old.engine new.engine ends.ended.enters (sym (end_answered old.engine end caller number node)) (λ quiet. absurd (end_called end caller number node quiet)) (λ from is. absurd (end_unsynced end caller number node from is));
+    moves = (_, refl, record { event_is = ap (λ (n : ℕ). event_ended end caller n node) number_is; answer_is = ap Some (sym ends.is); bytes = λ read. refl });
+  }
+  tried_end (Ok (Stepped message)) drains fails =
+      sent caller _ old.engine new.engine [] message message (drain_kind _ _ _ node message drains.drains.plan) drains.sends (for_end caller node old new message upper drains)
+  tried_end (Ok (Busy holder)) waits fails = record { last = []; is_try = try_none old.engine new.engine (ap (λ (t : TowerSeen). t.engine) waits.same); moves = refl }
+  tried_end (Err err) advances fails = refused_so caller _ old.engine new.engine [] err fails.refused
 
 -- WHAT A TRY KEEPS
 module _ (caller : ℕ) (event : List Event → Event) (old new : EngineSeen) (out : List ℕ) (r : Result Moved StepErr) (tried : IsTried caller (event (events_in old)) old new out r) where

@@ -7,7 +7,7 @@ use Rattle.name_context.specs.declared.entry.NameErr.{NameErr}
 use Rattle.name_context.specs.Names.{Name}
 use Rattle.stack_engine.specs.declared.refusal.StepErr.{StepErr}
 use Rattle.spr_volume.specs.declared.answered.Answered.{Answered}
-pub use Rattle.spr_volume.specs.FileCalls.{Called, Ends, IsAccess, IsSync}
+pub use Rattle.spr_volume.specs.FileCalls.{Called, Ends, IsAccess, IsEnd, IsSync}
 use Rattle.spr_volume.specs.NamesCalls.{Called as NamesCalled}
 pub use Rattle.spr_volume.specs.NamesCalls.{TellsNothing, TellsObject}
 use Rattle.spr_volume.specs.Passes.{Knows, VolumeSeen, as_known, known}

@@ -8,7 +8,8 @@ use Rattle.tower_log.specs.declared.logged.Logged.{Logged}
 use Rattle.tower_log.specs.declared.logged.Logged.TheVariants.{Entered}
 use Rattle.tower_log.specs.Log.{place_of, trail_of}
 use Rattle.stack_engine.specs.declared.refusal.StepErr.{StepErr}
-use Rattle.spr_volume.specs.TowerCalls.{IsAnswered, Refuses, access_of, sync_of}
+use Rattle.stack_engine.specs.declared.ends.End.{End}
+use Rattle.spr_volume.specs.TowerCalls.{IsAnswered, Refuses, access_of, end_of, sync_of}
 use Rattle.spr_volume.specs.declared.answered.Answered.{Answered}
 use Rattle.spr_volume.specs.FilePasses.{FilesKnown, Quietly, known, with_logs}
 
@@ -23,6 +24,10 @@ pub record IsSync (caller node : ℕ) (keep : Keep) (least : ℕ) (trail : List 
   pub least_is : least ≤ from
   pub reached : from ≤ length trail
   pub is : event ≡ sync_of caller node from keep trail
+
+-- THE EVENT OF A REVOKE OR A RELEASE, after these events: it has its caller's next number
+abbrev pub IsEnd : ℕ → ℕ → End → List Event → Event → Type 0
+IsEnd caller node end trail event = event ≡ end_of caller node end trail
 
 -- how a call ends: its event stands last in the log, at the place that is answered, with its answer; or it is refused
 abbrev pub Ends : ℕ → (List Event → Event → Type 0) → List Logged → List Logged → List ℕ → Result Answered StepErr → Type 0

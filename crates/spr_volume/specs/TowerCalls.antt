@@ -13,10 +13,12 @@ use Rattle.tower_log.specs.declared.logged.Entry.{Entry}
 use Rattle.tower_log.specs.declared.logged.Logged.{Logged}
 use Rattle.tower_log.specs.declared.logged.Logged.TheVariants.{Entered, Noted}
 use Rattle.tower_log.specs.Log.{place_of, trail_of}
+use Rattle.stack_engine.specs.declared.ends.End.{End}
 use Rattle.stack_engine.specs.declared.moved.Moved.{Moved}
 use Rattle.stack_engine.specs.declared.moved.Moved.TheVariants.{Busy, Done, Stepped}
 use Rattle.stack_engine.specs.declared.refusal.StepErr.{StepErr}
 use Rattle.stack_engine.specs.declared.refusal.StepErr.TheVariants.{StoreFault, TrailFull, Memory}
+use Rattle.stack_engine.specs.Ended.{event_ended}
 
 -- the access that a caller makes after these events
 abbrev pub access_of : ℕ → ℕ → ℕ → Op → List Event → Event
@@ -25,6 +27,10 @@ access_of caller node life op trail = events.Access caller (length (mine trail c
 -- the sync that a caller completes after these events, from a place of them on
 abbrev pub sync_of : ℕ → ℕ → ℕ → Keep → List Event → Event
 sync_of caller node from keep trail = events.Synced caller (length (mine trail caller)) node from keep
+
+-- the end of a layer's channels that a caller makes after these events: a revoke or a release
+abbrev pub end_of : ℕ → ℕ → End → List Event → Event
+end_of caller node end trail = event_ended end caller (length (mine trail caller)) node
 
 -- the call's event with its answer; the bytes that were read are in `out`
 pub record IsAnswered (event : Event) (answer : Answer) (out : List ℕ) (entry : Entry) : Type 0 where

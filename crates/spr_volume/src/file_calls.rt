@@ -9,17 +9,17 @@ ghost use Rattle.tower_core.specs.TreeShape.{IsUpper};
 ghost use Rattle.tower_log.specs.Log.{place_of};
 ghost use Rattle.stack_engine.specs.Engine.{file_in, tree_in};
 ghost use Rattle.spr_volume.specs.TowerShared.{IsNeeded, IsPlain};
-ghost use Rattle.spr_volume.specs.FileCalls.{Called, IsAccess, IsSync};
+ghost use Rattle.spr_volume.specs.FileCalls.{Called, IsAccess, IsEnd, IsSync};
 ghost use Rattle.spr_volume.specs.Holds.{IsSame};
 
 use crate::answered::Answered;
-use crate::holds::{hold_access, hold_place, hold_sync};
+use crate::holds::{hold_access, hold_end, hold_place, hold_sync};
 use crate::patience::Patience;
 use crate::shared_tower::SharedTower;
 use hist_lock::{HistLock, Seat};
 use hist_plain::{Gate, Keep, Op};
 use page_ground::Ground;
-use stack_engine::{Moved, StepErr};
+use stack_engine::{End, Moved, StepErr};
 use std::sync::Wait;
 
 /// An access of a caller at a file.
@@ -87,6 +87,44 @@ pub(crate) fn sync<G: Ground, R: Wait, T: Gate>(
     let mut patience = Patience::new(caller);
     for _ in rt.forever() {
         let hold = hold_sync(rt, lock, seat, caller, node, from, keep);
+        match hold.moved? {
+            Moved::Done { answer } => {
+                let place = hold.place;
+                return Ok(Answered { answer, place });
+            }
+            Moved::Stepped { event } => {
+                gate.between(caller, file, &event);
+                patience.step(hold.nodes);
+            }
+            Moved::Busy { .. } => patience.pause(),
+        }
+    }
+    unreachable!()
+}
+
+/// The end of a layer's channels of a file, for a caller.
+pub(crate) fn end<G: Ground, R: Wait, T: Gate>(
+    rt: &R,
+    lock: &HistLock<SharedTower<G>>,
+    seat: &mut Seat<SharedTower<G>>,
+    caller: u32,
+    file: u32,
+    node: u32,
+    end: End,
+    gate: &T,
+) -> Result<Answered, StepErr>
+    requires seat { IsFree lock.now seat.old }
+    requires caller { (seat.old.first ≤ caller) × (caller < seat.old.end) }
+    requires upper { IsUpper (tree_in lock.now.part.engine) node }
+    ensures seat { IsSame seat.old seat.new }
+    ensures called { Called seat.old.first seat.old.end caller (IsEnd caller node end) seat.old.seen seat.new.seen [] result }
+    ensures done { IfOk result (λ answered. answered.answer ≡ ADone) }
+    ensures plain { IsPlain lock.now.part.engine seat.new.seen }
+    ensures needed { IsNeeded lock.now.part.engine seat.new.seen }
+{
+    let mut patience = Patience::new(caller);
+    for _ in rt.forever() {
+        let hold = hold_end(rt, lock, seat, caller, node, end);
         match hold.moved? {
             Moved::Done { answer } => {
                 let place = hold.place;

@@ -9,14 +9,14 @@ ghost use Rattle.tower_core.specs.TreeShape.{IsUpper};
 ghost use Rattle.tower_log.specs.Log.{place_of};
 ghost use Rattle.stack_engine.specs.Engine.{file_in, tree_in};
 ghost use Rattle.stack_engine.specs.Tower.{TowerSeen};
-ghost use Rattle.spr_volume.specs.Calls.{CalledAt, IsAccess, IsSync};
+ghost use Rattle.spr_volume.specs.Calls.{CalledAt, IsAccess, IsEnd, IsSync};
 ghost use Rattle.spr_volume.specs.Passes.{IsOf, KnowsNeeded, KnowsPlain, known};
 
 use crate::answered::Answered;
 use crate::mounted::{Pass, Volume};
 use hist_plain::{Gate, Keep, Op};
 use page_ground::Ground;
-use stack_engine::StepErr as CallErr;
+use stack_engine::{End, StepErr as CallErr};
 use std::sync::Wait;
 
 impl<G: Ground> Volume<G> {
@@ -94,5 +94,31 @@ impl<G: Ground> Volume<G> {
     {
         self.files
             .sync(rt, &mut pass.files, caller, file, node, keep, gate)
+    }
+
+    /// Ends the channels of a layer of a file for a caller: a revoke raises the lives of the layer's subtree, a release leaves them.
+    /// Each right in the subtree is taken first, in as many holds of the file's lock as that needs. The gate is called after each hold
+    /// that entered a page message, while no lock is held.
+    pub fn end<R: Wait, T: Gate>(
+        &self,
+        rt: &R,
+        pass: &mut Pass<G>,
+        caller: u32,
+        file: u32,
+        node: u32,
+        end: End,
+        gate: &T,
+    ) -> Result<Answered, CallErr>
+        requires pass { IsOf self.now pass.old }
+        requires caller { (pass.old.first ≤ caller) × (caller < pass.old.end) }
+        requires file { file < length self.now.towers }
+        requires upper { (t : TowerSeen) → slice_get self.now.towers file ≡ Some t → IsUpper (tree_in t.engine) node }
+        ensures called { CalledAt file caller (IsEnd caller node end) pass.old pass.new [] result }
+        ensures done { IfOk result (λ answered. answered.answer ≡ ADone) }
+        ensures plain { KnowsPlain self.now pass.new file }
+        ensures needed { KnowsNeeded self.now pass.new file }
+    {
+        self.files
+            .end(rt, &mut pass.files, caller, file, node, end, gate)
     }
 }

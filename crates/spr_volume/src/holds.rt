@@ -9,7 +9,7 @@ ghost use Rattle.tower_core.specs.TreeShape.{IsUpper};
 ghost use Rattle.tower_log.specs.Log.{place_of};
 ghost use Rattle.stack_engine.specs.Engine.{file_in, tree_in};
 ghost use Rattle.stack_engine.specs.Tower.{IsDone};
-ghost use Rattle.spr_volume.specs.TowerCalls.{access_of, sync_of};
+ghost use Rattle.spr_volume.specs.TowerCalls.{access_of, end_of, sync_of};
 ghost use Rattle.spr_volume.specs.TowerShared.{IsNeeded, IsPlain};
 ghost use Rattle.spr_volume.specs.Holds.{Held, IsSame};
 ghost use Rattle.spr_volume.specs.FilePasses.{Quietly};
@@ -18,7 +18,7 @@ use crate::shared_tower::SharedTower;
 use hist_lock::{HistLock, Seat};
 use hist_plain::{Keep, Op};
 use page_ground::Ground;
-use stack_engine::{Moved, StepErr};
+use stack_engine::{End, Moved, StepErr};
 use std::sync::Wait;
 
 /// How a hold ended.
@@ -91,6 +91,38 @@ pub(crate) fn hold_sync<G: Ground, R: Wait>(
     let place = file.place();
     let nodes = file.nodes();
     let moved = file.try_sync(caller, node, from, keep);
+    // The proof reads here that the answers are the plain file's, and that the messages are needed.
+    file.sound();
+    lock.give(seat, file);
+    Hold {
+        place,
+        nodes,
+        moved,
+    }
+}
+
+/// Tries the end of a layer's channels for a caller, in one hold.
+pub(crate) fn hold_end<G: Ground, R: Wait>(
+    rt: &R,
+    lock: &HistLock<SharedTower<G>>,
+    seat: &mut Seat<SharedTower<G>>,
+    caller: u32,
+    node: u32,
+    end: End,
+) -> Hold
+    requires seat { IsFree lock.now seat.old }
+    requires caller { (seat.old.first ≤ caller) × (caller < seat.old.end) }
+    requires upper { IsUpper (tree_in lock.now.part.engine) node }
+    ensures seat { IsSame seat.old seat.new }
+    ensures held { Held seat.old.first seat.old.end caller (end_of caller node end) seat.old.seen seat.new.seen [] result.moved result.place }
+    ensures done { IfOk result.moved (λ moved. (answer : _) → IsDone answer moved → answer ≡ ADone) }
+    ensures plain { IsPlain lock.now.part.engine seat.new.seen }
+    ensures needed { IsNeeded lock.now.part.engine seat.new.seen }
+{
+    let mut file = lock.take(rt, seat);
+    let place = file.place();
+    let nodes = file.nodes();
+    let moved = file.try_end(caller, node, end);
     // The proof reads here that the answers are the plain file's, and that the messages are needed.
     file.sound();
     lock.give(seat, file);

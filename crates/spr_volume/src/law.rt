@@ -1,4 +1,4 @@
-//! What needed messages read from the ground, what a log keeps of it, and that tries come to an end. Each law is the contract of a function that does nothing.
+//! What is read from the ground, once and again, what a log keeps of it, and that tries come to an end. Each law is the contract of a function that does nothing.
 
 ghost use Rattle.std.specs.Prelude.{List, length, ℕ, ◌*◌, ◌≡◌, ◌≤◌, []};
 ghost use Rattle.std.specs.List.{AllByRecursion};
@@ -12,18 +12,23 @@ ghost use Rattle.stack_engine.specs.Engine.{IsSound, tree_in};
 ghost use Rattle.stack_engine.specs.Tower.{TowerSeen};
 ghost use Rattle.stack_engine.specs.Answers.{FindsPagesOf, KeepsPagesOf, KeepsWholePages};
 ghost use Rattle.spr_volume.specs.Drive.{Drives};
-ghost use Rattle.spr_volume.specs.Needed.{AreNeeded};
-ghost use Rattle.spr_volume.specs.Reads.{StandsByFirst};
+ghost use Rattle.spr_volume.specs.Reads.{AreTakenBefore, FindsAgain, StandsByFirst};
 
-/// A run of a tree of which one layer alone stands on the ground, and each page message is needed. It reads each page from
-/// the ground once at most, by the page's first grant; so each file that has the pages which the log keeps is one of which the
-/// reads found the pages.
-pub fn needed_runs_read_once()
+/// Each file that has the pages which a log keeps, as their first grants found them, and those that were read again, is one of
+/// which the reads found the pages.
+pub fn reads_find_the_file()
     ensures { (tree : TreeShape) (size pages : ℕ) (opening : List ℕ) (log : List ALogged) →
-        IsTree tree → StandsByFirst tree → length opening ≡ pages * size →
+        IsTree tree → length opening ≡ pages * size →
         IsRun tree pages start (trail_of log) → AllByRecursion (FitsFile size pages) (trail_of log) →
-        AreNeeded tree pages [] log → KeepsPagesOf size opening log →
+        KeepsPagesOf size opening log → FindsAgain tree size opening log →
         FindsPagesOf tree size opening log }
+{}
+
+/// Where one layer alone stands on the ground, a page is read from the ground again only if it was taken from that layer before.
+pub fn pages_read_again_were_taken()
+    ensures { (tree : TreeShape) (pages : ℕ) (log : List ALogged) →
+        IsTree tree → StandsByFirst tree → IsRun tree pages start (trail_of log) →
+        AreTakenBefore tree log }
 {}
 
 /// There is a file that has the pages which a log keeps, if these are whole.

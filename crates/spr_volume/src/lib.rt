@@ -23,7 +23,9 @@ mod shared_files;
 mod shared_tower;
 
 pub use answered::Answered;
-pub use law::{kept_pages_make_a_file, needed_runs_read_once, tries_come_to_an_end};
+pub use law::{
+    kept_pages_make_a_file, pages_read_again_were_taken, reads_find_the_file, tries_come_to_an_end,
+};
 pub use mounted::{Pass, Volume};
 pub use name_context::{NameErr, Names, Stored};
 pub use shared_files::{FilesPass, SharedFiles};

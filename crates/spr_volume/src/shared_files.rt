@@ -10,7 +10,7 @@ ghost use Rattle.tower_core.specs.TreeShape.{IsUpper};
 ghost use Rattle.tower_log.specs.Log.{place_of};
 ghost use Rattle.stack_engine.specs.Engine.{file_in, tree_in};
 ghost use Rattle.stack_engine.specs.Tower.{TowerSeen};
-ghost use Rattle.spr_volume.specs.FileCalls.{CalledAt, IsAccess, IsSync};
+ghost use Rattle.spr_volume.specs.FileCalls.{CalledAt, IsAccess, IsEnd, IsSync};
 ghost use Rattle.spr_volume.specs.FilePasses.{AllQuietly, AreBack, IsMounted, IsOf, FilesKnown, KnowsNeeded, KnowsPlain, known, logs, whole, with_logs, with_range};
 
 use crate::answered::Answered;
@@ -20,7 +20,7 @@ use crate::shared_tower::SharedTower;
 use hist_lock::{HistLock, Seat};
 use hist_plain::{Gate, Keep, Op};
 use page_ground::Ground;
-use stack_engine::{StepErr, Tower};
+use stack_engine::{End, StepErr, Tower};
 use std::alloc::{AllocError, Global};
 use std::marker::Model;
 use std::sync::Wait;
@@ -194,6 +194,42 @@ impl<G: Ground> SharedFiles<G> {
             file,
             node,
             keep,
+            gate,
+        )
+    }
+
+    /// Ends the channels of a layer of a file for a caller: a revoke raises the lives of the layer's subtree, a release leaves them.
+    /// Each right in the subtree is taken first, in as many holds of the file's lock as that needs. The gate is called after each hold
+    /// that entered a page message, while no lock is held.
+    pub fn end<R: Wait, T: Gate>(
+        &self,
+        rt: &R,
+        pass: &mut FilesPass<G>,
+        caller: u32,
+        file: u32,
+        node: u32,
+        end: End,
+        gate: &T,
+    ) -> Result<Answered, StepErr>
+        requires pass { IsOf self.now pass.old }
+        requires caller { (pass.old.first ≤ caller) × (caller < pass.old.end) }
+        requires file { file < length self.now.towers }
+        requires upper { (t : TowerSeen) → slice_get self.now.towers file ≡ Some t → IsUpper (tree_in t.engine) node }
+        ensures called { CalledAt file caller (IsEnd caller node end) pass.old pass.new [] result }
+        ensures done { IfOk result (λ answered. answered.answer ≡ ADone) }
+        ensures plain { KnowsPlain self.now pass.new file }
+        ensures needed { KnowsNeeded self.now pass.new file }
+    {
+        let index = file as usize;
+        let lock = &self.locks[index];
+        file_calls::end(
+            rt,
+            lock,
+            &mut pass.seats[index],
+            caller,
+            file,
+            node,
+            end,
             gate,
         )
     }

@@ -8,16 +8,19 @@ ghost use Rattle.hist_plain.specs.Plain.{asked_by};
 ghost use Rattle.tower_core.specs.TreeShape.{IsUpper, nodes};
 ghost use Rattle.tower_log.specs.Log.{place_of};
 ghost use Rattle.stack_engine.specs.Engine.{IsSound, events_in, file_in, tree_in};
+ghost use Rattle.stack_engine.specs.Ended.{EndNeedsDisks};
+ghost use Rattle.stack_engine.specs.Ends.{AdvancesEnd};
 ghost use Rattle.stack_engine.specs.Plans.{AccessNeedsDisks, SyncNeedsDisks};
 ghost use Rattle.stack_engine.specs.Tower.{Advances, AdvancesSync, Fails, IsDone};
-ghost use Rattle.spr_volume.specs.TowerCalls.{Tries, access_of, sync_of};
+ghost use Rattle.stack_engine.specs.Turns.{pushed_as};
+ghost use Rattle.spr_volume.specs.TowerCalls.{Tries, access_of, end_of, sync_of};
 ghost use Rattle.spr_volume.specs.Later.{IsLater};
 ghost use Rattle.spr_volume.specs.TowerShared.{IsNeeded, IsPlain, log_of, shared};
 
 use hist_lock::Storied;
 use hist_plain::{Keep, Op};
 use page_ground::Ground;
-use stack_engine::{Logged, Moved, StepErr, Tower};
+use stack_engine::{End, Logged, Moved, StepErr, Tower};
 use std::marker::Model;
 use std::snapshot::Snapshot;
 
@@ -155,11 +158,31 @@ impl<G: Ground> SharedTower<G> {
         ensures done { IfOk result (λ moved. (answer : _) → IsDone answer moved → answer ≡ ADone) }
         ensures advances { IfOk result (AdvancesSync caller (length (mine (events_in self.old.tower.engine) caller)) node from keep self.old.tower self.new.tower) }
         ensures fails { IfErr result (Fails caller self.old.tower self.new.tower) }
-        ensures idle { (SyncNeedsDisks self.old.tower.engine node from keep → ⊥) → self.new.tower.engine.ground ≡ self.old.tower.engine.ground }
+        ensures idle { (SyncNeedsDisks self.old.tower.engine node from (λ page. pushed_as caller page keep self.old.tower.turns) → ⊥) → self.new.tower.engine.ground ≡ self.old.tower.engine.ground }
     {
         let number = self.tower.number(caller);
         self.tower.sound();
         let result = self.tower.advance_sync(caller, number, node, from, keep);
+        self.tower.sound();
+        self.logged = self.tower.log_len();
+        result
+    }
+
+    /// Tries the end of a layer's channels for a caller, with the caller's next number. If no node of the layer's subtree has a right
+    /// any more, the end is entered. If not, the message is sent that takes the next right. Another caller that has the file's turn
+    /// is before this one.
+    pub fn try_end(&mut self, caller: u32, node: u32, end: End) -> Result<Moved, StepErr>
+        requires upper { IsUpper (tree_in self.old.began.engine) node }
+        ensures began { self.new.began ≡ self.old.began }
+        ensures tries { Tries caller (end_of caller node end) (log_of self.old) (log_of self.new) [] result }
+        ensures done { IfOk result (λ moved. (answer : _) → IsDone answer moved → answer ≡ ADone) }
+        ensures advances { IfOk result (AdvancesEnd caller (length (mine (events_in self.old.tower.engine) caller)) node end self.old.tower self.new.tower) }
+        ensures fails { IfErr result (Fails caller self.old.tower self.new.tower) }
+        ensures idle { (EndNeedsDisks self.old.tower.engine node → ⊥) → self.new.tower.engine.ground ≡ self.old.tower.engine.ground }
+    {
+        let number = self.tower.number(caller);
+        self.tower.sound();
+        let result = self.tower.advance_end(caller, number, node, end);
         self.tower.sound();
         self.logged = self.tower.log_len();
         result

@@ -27,8 +27,9 @@ use Rattle.stack_engine.specs.Plans.{IsLowest, IsLowestUnsettled, SettlesBy}
 use Rattle.stack_engine.specs.Start.{Opens}
 use Rattle.stack_engine.specs.Tower.{Settles, TowerSeen}
 use Rattle.stack_engine.specs.declared.turns.Turn.{Turn}
-use Rattle.stack_engine.specs.declared.turns.TurnOf.TheVariants.{Page}
-use Rattle.stack_engine.specs.Turns.{page_holder, turns_with, with_turn, without_turns}
+use Rattle.stack_engine.specs.declared.turns.TurnOf.{TurnOf}
+use Rattle.stack_engine.specs.declared.turns.TurnOf.TheVariants.{Leaf, Page}
+use Rattle.stack_engine.specs.Turns.{holder_of, leaf_emptied, pushed_as, turns_stepping, turns_with, with_leaf, with_turn, without_turns}
 use Rattle.std.proofs.lemmas.List.{append-nil}
 use Rattle.std.proofs.lemmas.List.Elements.{filter-append}
 use Rattle.std.proofs.lemmas.Bool.Decides.{nat_tests}
@@ -67,13 +68,14 @@ push_same Keep.Read false node page old new event h = h
 sync_same : (shape : TreeShape) (s : State) (page node from : ℕ) (keep : Keep) (asked : Event) → IsNextOfSync shape s page node from keep asked → (old new : EngineSeen) (event : Event) → StandsFor old new asked event → event ≡ asked
 sync_same shape s page node from keep asked (Push other unsettled deepest) old new event h = push_same keep (is_within shape node other) other page old new event h
 
-pub settles_of : (old new : TowerSeen) (page node from : ℕ) (keep : Keep) (asked event : Event) → IsLowestUnsettled old.engine from page → SettlesBy old.engine page node from keep asked → Sends asked old.engine new.engine event → new.turns ≡ old.turns → Settles node from keep old new event
-settles_of old new page node from keep asked event lowest settles sends turns =
-    let same : event ≡ asked = sync_same (tree_in old.engine) (state_in old.engine) page node from keep asked settles.plan old.engine new.engine event sends.stands in
+pub settles_of : (old new : TowerSeen) (caller page node from : ℕ) (keep : Keep) (asked event : Event) → IsLowestUnsettled old.engine from page → SettlesBy old.engine page node from (pushed_as caller page keep old.turns) asked → Sends asked old.engine new.engine event → new.turns ≡ old.turns
+    → Settles caller node from keep old new event
+settles_of old new caller page node from keep asked event lowest settles sends turns =
+    let same : event ≡ asked = sync_same (tree_in old.engine) (state_in old.engine) page node from (pushed_as caller page keep old.turns) asked settles.plan old.engine new.engine event sends.stands in
     record {
       page = page;
       lowest = lowest;
-      settles = subst (SettlesBy old.engine page node from keep) (sym same) settles;
+      settles = subst (SettlesBy old.engine page node from (pushed_as caller page keep old.turns)) (sym same) settles;
       sends = subst (λ (a : Event). Sends a old.engine new.engine event) (sym same) sends;
       turns = turns;
     }
@@ -109,12 +111,19 @@ on_err (Err e) P h = h
 own_turn : (caller : ℕ) → not (caller == caller) ≡ false
 own_turn caller = grind (arith, nat_tests)
 
-undone_by : (caller page : ℕ) (turns : List Turn) (holder : Option ℕ) → without_turns caller (turns_with caller page turns holder) ≡ without_turns caller turns
-undone_by caller page turns (Some holder) = refl
-undone_by caller page turns None =
-    filter-append (λ (turn : Turn). not (turn.caller == caller)) turns (record { caller = caller; of = Page page } ∷ [])
-    ∙ ap (λ b. without_turns caller turns ++ cond b (record { caller = caller; of = Page page } ∷ []) []) (own_turn caller)
+undone_by : (caller : ℕ) (of : TurnOf) (turns : List Turn) (holder : Option ℕ) → without_turns caller (turns_with caller of turns holder) ≡ without_turns caller turns
+undone_by caller of turns (Some holder) = refl
+undone_by caller of turns None =
+    filter-append (λ (turn : Turn). not (turn.caller == caller)) turns (record { caller = caller; of = of } ∷ [])
+    ∙ ap (λ b. without_turns caller turns ++ cond b (record { caller = caller; of = of } ∷ []) []) (own_turn caller)
     ∙ append-nil (without_turns caller turns)
 
-pub turns_undone : (caller page : ℕ) (turns : List Turn) → without_turns caller (with_turn caller page turns) ≡ without_turns caller turns
-turns_undone caller page turns = undone_by caller page turns (page_holder page turns)
+pub turns_undone : (caller : ℕ) (of : TurnOf) (turns : List Turn) → without_turns caller (with_turn caller of turns) ≡ without_turns caller turns
+turns_undone caller of turns = undone_by caller of turns (holder_of of turns)
+
+leaf_undone : (caller : ℕ) (leaf : Option ℕ) (turns : List Turn) → without_turns caller (with_leaf caller leaf turns) ≡ without_turns caller turns
+leaf_undone caller None turns = refl
+leaf_undone caller (Some leaf) turns = turns_undone caller (Leaf leaf) turns
+
+pub stepping_undone : (caller page : ℕ) (event : Event) (turns : List Turn) → without_turns caller (turns_stepping caller page event turns) ≡ without_turns caller turns
+stepping_undone caller page event turns = leaf_undone caller (leaf_emptied event) (with_turn caller (Page page) turns) ∙ turns_undone caller (Page page) turns

@@ -3,6 +3,7 @@ pub mod Victims
 pub mod Logs
 pub mod Asking
 pub mod Planning
+pub mod Draining
 pub mod Entering
 pub mod Rooms
 pub mod Refusing
@@ -10,6 +11,7 @@ pub mod Sending
 pub mod Overs
 pub mod Pages
 pub mod Making
+pub mod Endings
 pub mod Granting
 pub mod Needs
 pub mod Sparing

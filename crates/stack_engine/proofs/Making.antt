@@ -1,5 +1,5 @@
 -- An access, or the end of a sync, that was made and stands in the log.
-use Rattle.std.proofs.Common.{◌≡◌, ◌≢◌, ◌⊎◌, inl, inr, ℕ, ◌<◌, ◌≤◌, ◌||◌, ◌==◌, Bool, true, false, cond, List, [], ◌∷◌, ◌++◌, length, take, drop, replicate, Option, Some, None, refl, sym, ap, subst, ◌∙◌, arith}
+use Rattle.std.proofs.Common.{◌≡◌, ◌≢◌, ◌⊎◌, inl, inr, ℕ, ◌<◌, ◌≤◌, ◌==◌, Bool, true, false, cond, List, [], ◌∷◌, ◌++◌, length, take, drop, replicate, Option, Some, None, refl, sym, ap, subst, ◌∙◌, arith}
 use Rattle.std.proofs.lemmas.Bool.{cases_lt}
 use Rattle.std.proofs.lemmas.Bool.Decides.{eqb_tells}
 use Rattle.hist_plain.specs.declared.TheConstants.{MAX_EVENTS}
@@ -17,7 +17,7 @@ use Rattle.page_ground.specs.Seen.{AllKept, Seen}
 use Rattle.tower_core.specs.declared.sheet.Sheet.{Sheet}
 use Rattle.tower_core.specs.declared.step.Step.{Step}
 use Rattle.tower_core.specs.declared.step.Step.TheVariants.{Reads, Untouched, Writes}
-use Rattle.std.specs.Prelude.{max, slice_index_or, unwrap_or}
+use Rattle.std.specs.Prelude.{max, unwrap_or}
 use Rattle.tower_core.specs.Sheet.{nodes_of, pages_of, seen}
 use Rattle.tower_core.specs.Legal.{IsFilled, file_after, plain_shape}
 use Rattle.tower_core.specs.TreeShape.{TreeShape, frames_of}
@@ -27,7 +27,7 @@ use Rattle.layer_laws.specs.Sent.{AreBrought}
 use Rattle.layer_laws.specs.Side.{Side}
 use Rattle.layer_laws.specs.Granted.{is_grant_of}
 use Rattle.layer_laws.specs.PlacesShown.{access_next, answer_next, page_next, page_shown, told_bytes}
-use Rattle.page_exchange.specs.Ground.{IsCalmCall, IsOneCall, Tells, pages_given}
+use Rattle.page_exchange.specs.Ground.{IsCalmCall, IsOneCall, pages_given}
 use Rattle.page_exchange.specs.Steps.{AreSentAt, given_up}
 use Rattle.vmm_cache.specs.Used.{AreUses}
 use Rattle.vmm_cache.proofs.TrailLaws.{uses_follow}
@@ -138,7 +138,7 @@ write_on shape trail caller number node life page off bytes e = λ p. ap (λ b. 
 pub clear_on : (shape : TreeShape) (trail : List Event) (caller number node life page : ℕ) → life ≡ (state_of shape trail).life node → IsStepOn shape trail (events.Access caller number node life (ops.Clear page)) page (Writes node)
 clear_on shape trail caller number node life page e = λ p. ap (λ b. cond b (step_of_access p node (ops.Clear page)) Untouched) (same_life ((state_of shape trail).life node) life e)
 
-untouched_at : (p : ℕ) (step : Step) → step ≡ Untouched → step ≡ of_page p 0 Untouched
+pub untouched_at : (p : ℕ) (step : Step) → step ≡ Untouched → step ≡ of_page p 0 Untouched
 untouched_at p step e = e ∙ sym (of_untouched (0 == p))
   where
     of_untouched : (b : Bool) → cond b Untouched Untouched ≡ Untouched

@@ -1,23 +1,21 @@
 -- The frames of an event are those that its node and the node's parent write for it.
-use Rattle.std.specs.Prelude.{◌==◌, ◌&&◌, IsTrue, replicate}
-use Rattle.std.specs.List.{list_all}
-use Rattle.std.proofs.Common.{◌≡◌, ◌≢◌, ℕ, zero, suc, Bool, true, false, List, [], ◌∷◌, length, Some, refl, sym, ap, subst, ◌∙◌}
-use Rattle.hist_plain.specs.declared.event.Event.{Event}
+use Rattle.std.specs.Prelude.{replicate}
+use Rattle.std.proofs.Common.{◌≡◌, ◌≢◌, ℕ, zero, suc, Bool, true, false, List, [], length, refl, sym, ap, subst, ◌∙◌}
 use Rattle.hist_plain.specs.declared.event.Event.TheVariants as events
 use Rattle.hist_plain.specs.History.{IsZeroPage}
 use Rattle.tower_core.specs.declared.right.Right.{Right}
 use Rattle.tower_core.specs.TreeShape.{IsUpper}
 use Rattle.layer_laws.specs.Sent.{page_above}
 use Rattle.layer_laws.specs.Shown.{AreRights}
-use Rattle.layer_laws.specs.Side.{Side}
 use Rattle.page_messages.specs.declared.kinds.Asked.{Asked}
 use Rattle.page_messages.specs.declared.kinds.Called.{Called}
 use Rattle.page_messages.specs.Letters.{is_zeros}
-use Rattle.page_messages.specs.Written.{AreFramesOf, IsTableOf, asked_by, called_of, wanted}
+use Rattle.page_messages.specs.Written.{IsTableOf, asked_by, called_of, wanted}
 use Rattle.page_messages.proofs.KeptLaws.{write_some}
 use Rattle.page_messages.proofs.MeantLaws.{zeros_are}
 use Rattle.page_exchange.specs.Allowed.{grant_asked}
 use Rattle.page_exchange.specs.Moved.{AreAskedAt}
+use Rattle.page_exchange.specs.Tables.{CarriesDown, CarriesUp}
 use Rattle.page_exchange.specs.Wire.{WentOver}
 use Rattle.stack_engine.specs.Engine.{EngineSeen, IsNext, IsSound, column_in, file_in, sides_in, state_in, tree_in, wire_in}
 use Rattle.stack_engine.specs.Messages.{IsPush, event_asked, event_called, event_granted}
@@ -49,65 +47,72 @@ module _ (old new : EngineSeen) (sound : IsSound old) (node page : ℕ) where
     changed = rights.changed node upper (λ none. some (rights.right node upper ∙ none));
   }
 
-  pub push_over : (what : Asked) → IsPush what → IsNext old (event_asked what node page) → AreAskedAt (tree_in old) (wire_in new) (file_in old) node page what (sides_in old) (sides_in new) → GoesOver old new (event_asked what node page)
-  push_over Asked.PageOut push next asked =
+  pub push_over : (what : Asked) → IsPush what → IsNext old (event_asked what node page) → AreAskedAt (tree_in old) (wire_in new) (file_in old) node page what (sides_in old) (sides_in new) → CarriesUp old.tables (wire_in new) node → GoesOver old new (event_asked what node page)
+  push_over Asked.PageOut push next asked carried =
       let own = (asking.push_asks old sound node page Asked.PageOut push next) in
       let some : (sides_in old page node).right ≢ Right.Nothing = own.may.own.0 in record {
         base = asked.base;
         came = λ none. absurd (some none);
         went = record { letters = asked_by (sides_in old page node) (page_above (tree_in old) (sides_in old page) asked.base node) page Asked.PageOut; are = refl; written = table_is own.upper some; frames = asked.went };
+        carried = carried;
       }
-  push_over Asked.WriteOut push next asked =
+  push_over Asked.WriteOut push next asked carried =
       let own = (asking.push_asks old sound node page Asked.WriteOut push next) in
       let some : (sides_in old page node).right ≢ Right.Nothing = write_some (sides_in old page node).right own.may.own.0 in record {
         base = asked.base;
         came = λ none. absurd (some none);
         went = record { letters = asked_by (sides_in old page node) (page_above (tree_in old) (sides_in old page) asked.base node) page Asked.WriteOut; are = refl; written = table_is own.upper some; frames = asked.went };
+        carried = carried;
       }
-  push_over Asked.Sync push next asked =
+  push_over Asked.Sync push next asked carried =
       let own = (asking.push_asks old sound node page Asked.Sync push next) in
       let some : (sides_in old page node).right ≢ Right.Nothing = write_some (sides_in old page node).right own.may.own in record {
         base = asked.base;
         came = λ none. absurd (some none);
         went = record { letters = asked_by (sides_in old page node) (page_above (tree_in old) (sides_in old page) asked.base node) page Asked.Sync; are = refl; written = table_is own.upper some; frames = asked.went };
+        carried = carried;
       }
-  push_over Asked.PageInRead push next asked = absurd push
-  push_over Asked.PageInWrite push next asked = absurd push
-  push_over Asked.Done push next asked = absurd push
+  push_over Asked.PageInRead push next asked carried = absurd push
+  push_over Asked.PageInWrite push next asked carried = absurd push
+  push_over Asked.Done push next asked carried = absurd push
 
-  pub order_over : (what : Called) → what ≢ Called.Destroy → IsNext old (event_called what node page) → WentOver (wire_in new) (file_in old) (called_of (sides_in old page node) page what) → GoesOver old new (event_called what node page)
-  order_over Called.FlushBack other next went =
+  pub order_over : (what : Called) → what ≢ Called.Destroy → IsNext old (event_called what node page) → WentOver (wire_in new) (file_in old) (called_of (sides_in old page node) page what) → CarriesDown old.tables (wire_in new) node → GoesOver old new (event_called what node page)
+  order_over Called.FlushBack other next went carried =
       let own = (asking.order_calls old sound node page Called.FlushBack other next) in
       let some : (sides_in old page node).right ≢ Right.Nothing = write_some (sides_in old page node).right own.may.own.0 in record {
         base = [];
         came = λ none. absurd (some none);
         went = record { letters = called_of (sides_in old page node) page Called.FlushBack; are = refl; written = table_is own.upper some; frames = went };
+        carried = carried;
       }
-  order_over Called.DenyWrites other next went =
+  order_over Called.DenyWrites other next went carried =
       let own = (asking.order_calls old sound node page Called.DenyWrites other next) in
       let some : (sides_in old page node).right ≢ Right.Nothing = write_some (sides_in old page node).right own.may.own.0 in record {
         base = [];
         came = λ none. absurd (some none);
         went = record { letters = called_of (sides_in old page node) page Called.DenyWrites; are = refl; written = table_is own.upper some; frames = went };
+        carried = carried;
       }
-  order_over Called.WriteBack other next went =
+  order_over Called.WriteBack other next went carried =
       let own = (asking.order_calls old sound node page Called.WriteBack other next) in
       let some : (sides_in old page node).right ≢ Right.Nothing = write_some (sides_in old page node).right own.may.own in record {
         base = [];
         came = λ none. absurd (some none);
         went = record { letters = called_of (sides_in old page node) page Called.WriteBack; are = refl; written = table_is own.upper some; frames = went };
+        carried = carried;
       }
-  order_over Called.DeleteRange other next went =
+  order_over Called.DeleteRange other next went carried =
       let own = (asking.order_calls old sound node page Called.DeleteRange other next) in record {
         base = [];
         came = λ none. let both : Right.Nothing ≡ Right.Read = sym none ∙ own.may.own.0 in cc;
         went = record { letters = called_of (sides_in old page node) page Called.DeleteRange; are = refl; written = tt; frames = went };
+        carried = carried;
       }
-  order_over Called.Destroy other next went = absurd (other refl)
+  order_over Called.Destroy other next went carried = absurd (other refl)
 
   -- A GRANT of a page, which zeros may be
   module _ (write : Bool) (next : IsNext old (events.PageIn node page write)) (asked : Asked) (asked_is : asked ≡ grant_asked write)
-      (went : AreAskedAt (tree_in old) (wire_in new) (file_in old) node page asked (sides_in old) (sides_in new)) (long : length (sides_in new page node).copy ≡ (file_in old).page_size) where
+      (went : AreAskedAt (tree_in old) (wire_in new) (file_in old) node page asked (sides_in old) (sides_in new)) (carried : CarriesUp old.tables (wire_in new) node) (long : length (sides_in new page node).copy ≡ (file_in old).page_size) where
     over : AreAskedAt (tree_in old) (wire_in new) (file_in old) node page (grant_asked write) (sides_in old) (sides_in new)
     over = subst (λ (a : Asked). AreAskedAt (tree_in old) (wire_in new) (file_in old) node page a (sides_in old) (sides_in new)) asked_is went
 
@@ -146,6 +151,7 @@ module _ (old new : EngineSeen) (sound : IsSound old) (node page : ℕ) where
         written = (own_right, none, zeros_seen (file_in old).page_size (sides_in new page node).copy above (came none) f.zeros);
         frames = subst (λ (a : Asked). WentOver (wire_in new) (file_in old) (asked_by (sides_in old page node) above page a)) (frames write) over.went;
       };
+      carried = carried;
     }
     grant_over false found missed = record {
       base = over.base;
@@ -163,4 +169,5 @@ module _ (old new : EngineSeen) (sound : IsSound old) (node page : ℕ) where
         );
         frames = subst (λ (a : Asked). WentOver (wire_in new) (file_in old) (asked_by (sides_in old page node) above page a)) (frames write) over.went;
       };
+      carried = carried;
     }

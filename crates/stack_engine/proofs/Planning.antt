@@ -1,5 +1,5 @@
 -- What a plan asks of an engine's sheet, and what its answer says of the engine.
-use Rattle.std.proofs.Common.{◌≡◌, ◌≢◌, ◌≤◌, ◌+◌, ℕ, ◌<◌, Bool, true, false, List, Some, sym, subst}
+use Rattle.std.proofs.Common.{◌≡◌, ◌≢◌, ◌≤◌, ◌+◌, ℕ, ◌<◌, Bool, true, false, Some, sym, subst}
 use Rattle.hist_plain.specs.declared.event.Event.{Event}
 use Rattle.hist_plain.specs.declared.event.Keep.{Keep}
 use Rattle.tower_core.specs.declared.right.Right.{Right}
@@ -73,14 +73,14 @@ sync_kind shape s page node from keep event (Push other unsettled deepest) = pus
 pub sync_fits : (shape : TreeShape) (s : State) (page node from size pages : ℕ) (keep : Keep) (event : Event) → page < pages → IsNextOfSync shape s page node from keep event → FitsFile size pages event
 sync_fits shape s page node from size pages keep event inside (Push other unsettled deepest) = push_fits size pages keep (is_within shape node other) other page inside
 
-revoke_kind : (want have : Right) (node page : ℕ) → IsPageMessage (revoking want have node page)
+pub revoke_kind : (want have : Right) (node page : ℕ) → IsPageMessage (revoking want have node page)
 revoke_kind Right.Write Right.Write node page = tt
 revoke_kind Right.Write Right.Read node page = tt
 revoke_kind Right.Write Right.Nothing node page = tt
 revoke_kind Right.Read have node page = tt
 revoke_kind Right.Nothing have node page = tt
 
-revoke_fits : (size pages : ℕ) (want have : Right) (node page : ℕ) → page < pages → FitsFile size pages (revoking want have node page)
+pub revoke_fits : (size pages : ℕ) (want have : Right) (node page : ℕ) → page < pages → FitsFile size pages (revoking want have node page)
 revoke_fits size pages Right.Write Right.Write node page inside = at_page (λ p. p < pages) page inside
 revoke_fits size pages Right.Write Right.Read node page inside = at_page (λ p. p < pages) page inside
 revoke_fits size pages Right.Write Right.Nothing node page inside = at_page (λ p. p < pages) page inside

@@ -20,7 +20,7 @@ use Rattle.stack_engine.specs.declared.refusal.StepErr.{StepErr}
 use Rattle.stack_engine.specs.declared.refusal.StepErr.TheVariants as errors
 use Rattle.stack_engine.specs.Engine.{EngineSeen, IsEngine, IsSheetOf, events_in, log_in, tree_in}
 use Rattle.stack_engine.specs.Messages.{NeedsDisks}
-use Rattle.stack_engine.specs.Moves.{Enters, GoesOver, IsRefused, IsWhy, Makes, Sends, StandsFor}
+use Rattle.stack_engine.specs.Moves.{AreCarried, Enters, GoesOver, IsRefused, IsWhy, Makes, Sends, StandsFor}
 use Rattle.stack_engine.specs.Opened.{IsOf}
 use Rattle.stack_engine.specs.Start.{IsFullOrNoMemory}
 
@@ -82,8 +82,15 @@ module _ (old mid new : EngineSeen) (r : ℕ) (is : mid ≡ roomy old r) where
       ((λ z. h.0 (record { nothing = z.nothing; zeros = z.zeros })), (λ nz. h.1 (λ z. nz (record { nothing = z.nothing; zeros = z.zeros }))))
   stands_room _ event h = h
 
+  carried_room : (event : Event) → AreCarried (roomy old r) new event → AreCarried old new event
+  carried_room (events.FlushBack node page) h = h
+  carried_room (events.DenyWrites node page) h = h
+  carried_room (events.WriteBack node page) h = h
+  carried_room (events.DeleteRange node page) h = h
+  carried_room _ h = h
+
   over_room : (event : Event) → GoesOver (roomy old r) new event → GoesOver old new event
-  over_room event h = record { base = h.base; came = h.came; went = h.went }
+  over_room event h = record { base = h.base; came = h.came; went = h.went; carried = carried_room event h.carried }
 
   pub sends_room : (asked event : Event) → Sends asked mid new event → Sends asked old new event
   sends_room asked event = subst (λ (e : EngineSeen). Sends asked e new event → Sends asked old new event) (sym is) (λ h. by asked h)
@@ -128,7 +135,7 @@ module _ (old mid new : EngineSeen) (r : ℕ) (is : mid ≡ roomy old r) where
 -- a full trail, and want of memory before anything was done
 pub full_refused : (caller : ℕ) (old new : EngineSeen) (r : ℕ) (err : StepErr) → new ≡ roomy old r → IsFullOrNoMemory old err → IsRefused caller old new err
 full_refused caller old new r err is h = subst (λ (e : EngineSeen). IsRefused caller old e err) (sym is) (record {
-  goes = record { file = record { tree = refl; file = refl; ops = refl }; call = inl refl; of = λ opening of. of_roomy opening old r of };
+  goes = record { file = record { tree = refl; file = refl; machines = refl; ops = refl }; call = inl refl; of = λ opening of. of_roomy opening old r of };
   tables = record { sides = λ page node. refl; uses = λ node. refl };
   pages = refl;
   why = why err h;
@@ -151,7 +158,7 @@ lacking_read caller old mid new is ground tables trail no_spare none few =
     subst (λ (e : EngineSeen). IsRefused caller e new errors.Memory) is
     (subst (λ (e : EngineSeen). IsRefused caller mid e errors.Memory) (sym all) (record {
       goes = record {
-        file = record { tree = refl; file = refl; ops = refl };
+        file = record { tree = refl; file = refl; machines = refl; ops = refl };
         call = inl refl;
         of = λ opening of. record {
           began = of.began;

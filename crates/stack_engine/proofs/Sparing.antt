@@ -1,6 +1,6 @@
 -- The spare room after a try of an access.
 use Rattle.std.specs.Prelude.{IsErrAnd}
-use Rattle.std.proofs.Common.{◌≡◌, ◌∙◌, ℕ, Result, Ok, Err, Some, None, sym, ap, subst}
+use Rattle.std.proofs.Common.{◌≡◌, ◌∙◌, ℕ, Result, Ok, Err, Some, None, ap, subst}
 use Rattle.hist_plain.specs.declared.event.Event.TheVariants as events
 use Rattle.hist_plain.specs.declared.event.Op.{Op}
 use Rattle.hist_plain.specs.declared.event.Op.TheVariants as ops

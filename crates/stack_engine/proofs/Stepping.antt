@@ -1,4 +1,4 @@
--- A step that is neither an access nor the end of a sync is a message.
+-- A step that is neither an access, nor the end of a sync, nor that of channels, is a message.
 use Rattle.std.proofs.Common.{◌≡◌, ℕ, Result, refl}
 use Rattle.hist_plain.specs.declared.event.Event.{Event}
 use Rattle.hist_plain.specs.declared.event.Event.TheVariants as events
@@ -16,10 +16,18 @@ IsNoAccess event = (caller number node life : ℕ) (op : Op) → event ≡ event
 abbrev pub IsNoSync : Event → Type 0
 IsNoSync event = (caller number node from : ℕ) (keep : Keep) → event ≡ events.Synced caller number node from keep → ⊥
 
-pub takes_message : (old new : EngineSeen) (event stands : Event) → IsNoAccess event → IsNoSync event → Sends event old new stands → TakesStep old new event
-takes_message old new (events.Access caller number node life op) stands access sync h = absurd (access caller number node life op refl)
-takes_message old new (events.Synced caller number node from keep) stands access sync h = absurd (sync caller number node from keep refl)
-takes_message old new _ stands access sync h = (stands, h)
+abbrev pub IsNoDestroy : Event → Type 0
+IsNoDestroy event = (caller number node : ℕ) → event ≡ events.DestroyCache caller number node → ⊥
+
+abbrev pub IsNoDone : Event → Type 0
+IsNoDone event = (caller number node : ℕ) → event ≡ events.DonePager caller number node → ⊥
+
+pub takes_message : (old new : EngineSeen) (event stands : Event) → IsNoAccess event → IsNoSync event → IsNoDestroy event → IsNoDone event → Sends event old new stands → TakesStep old new event
+takes_message old new (events.Access caller number node life op) stands access sync destroy done h = absurd (access caller number node life op refl)
+takes_message old new (events.Synced caller number node from keep) stands access sync destroy done h = absurd (sync caller number node from keep refl)
+takes_message old new (events.DestroyCache caller number node) stands access sync destroy done h = absurd (destroy caller number node refl)
+takes_message old new (events.DonePager caller number node) stands access sync destroy done h = absurd (done caller number node refl)
+takes_message old new _ stands access sync destroy done h = (stands, h)
 
 pub needs_message : (old : EngineSeen) (event : Event) → IsNoAccess event → IsNoSync event → NeedsDisks old event → StepNeedsDisks old event
 needs_message old (events.Access caller number node life op) access sync h = absurd (access caller number node life op refl)

@@ -13,7 +13,7 @@ use Rattle.page_ground.specs.Seen.{DiskSeen, Seen, faults_in, opened_in}
 use Rattle.page_messages.specs.declared.paged.PagedFile.{PagedFile}
 use Rattle.page_exchange.specs.declared.tables.Tables.{Tables}
 use Rattle.vmm_cache.specs.Used.{AreUses}
-use Rattle.page_exchange.specs.Tables.{IsUnderFile, paged_of, sides, tree_of, uses, wire_of}
+use Rattle.page_exchange.specs.Tables.{IsUnderFile, machines_of, paged_of, sides, tree_of, uses, wire_of}
 use Rattle.page_exchange.specs.Wire.{WireSeen}
 use Rattle.tower_log.specs.declared.logged.Logged.{Logged}
 use Rattle.tower_log.specs.Log.{place_of, trail_of}
@@ -39,7 +39,11 @@ sides_in e = sides e.tables
 abbrev pub uses_in : EngineSeen → ℕ → List ℕ
 uses_in e = uses e.tables
 
--- the frames that went last
+-- the number of each node's machine, that of the ground first
+abbrev pub machines_in : EngineSeen → List ℕ
+machines_in e = machines_of e.tables
+
+-- the frames that went last, and their packets
 abbrev pub wire_in : EngineSeen → WireSeen
 wire_in e = wire_of e.tables
 

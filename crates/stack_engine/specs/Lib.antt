@@ -4,8 +4,10 @@ pub mod Start
 pub mod Opened
 pub mod Messages
 pub mod Moves
+pub mod Ended
 pub mod Accesses
 pub mod Plans
 pub mod Turns
 pub mod Tower
+pub mod Ends
 pub mod Sight

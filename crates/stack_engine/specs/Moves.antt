@@ -15,7 +15,7 @@ use Rattle.layer_laws.specs.Sent.{page_above}
 use Rattle.layer_laws.specs.Side.{Side}
 use Rattle.page_messages.specs.Written.{AreFramesFor}
 use Rattle.page_exchange.specs.Ground.{IsCalmCall, IsOneCall}
-use Rattle.page_exchange.specs.Tables.{AreLeft, IsSameFile}
+use Rattle.page_exchange.specs.Tables.{AreLeft, CarriesDown, CarriesUp, IsSameFile}
 use Rattle.tower_log.specs.declared.logged.Entry.{Entry}
 use Rattle.tower_log.specs.declared.logged.Logged.TheVariants.{Entered, Noted}
 use Rattle.tower_log.specs.Log.{place_of}
@@ -60,12 +60,21 @@ own_side e event = sides_in e (unwrap_or (page_of event) 0) (node_of event)
 abbrev pub page_over : EngineSeen → List ℕ → Event → List ℕ
 page_over e base event = page_above (tree_in e) (sides_in e (unwrap_or (page_of event) 0)) base (node_of event)
 
--- THE FRAMES OF THE EVENT went over the wire, as the two write them by what they had before it. A page that came to a node that had nothing of it
--- is the parent's
+-- THE PACKETS OF THE EVENT: an order goes down to the node, and its answer up; and a question goes up, and its answer down
+abbrev pub AreCarried : EngineSeen → EngineSeen → Event → Type 0
+AreCarried old new (events.FlushBack node page) = CarriesDown old.tables (wire_in new) node
+AreCarried old new (events.DenyWrites node page) = CarriesDown old.tables (wire_in new) node
+AreCarried old new (events.WriteBack node page) = CarriesDown old.tables (wire_in new) node
+AreCarried old new (events.DeleteRange node page) = CarriesDown old.tables (wire_in new) node
+AreCarried old new event = CarriesUp old.tables (wire_in new) (node_of event)
+
+-- THE FRAMES OF THE EVENT went over the wire, as the two write them by what they had before it, in packets between two machines. A page that came
+-- to a node that had nothing of it is the parent's
 pub record GoesOver (old new : EngineSeen) (event : Event) : Type 0 where
   pub base : List ℕ
   pub came : (own_side old event).right ≡ Right.Nothing → (own_side new event).copy ≡ page_over old base event
   pub went : AreFramesFor (tree_in old) (state_in old) (wire_in new).ops (file_in old) (own_side old event) (page_over old base event) event (wire_in new).first (wire_in new).second
+  pub carried : AreCarried old new event
 
 -- a page message was sent in its two frames, and stands in the log. It calls the ground only if it needs it
 pub record Sends (asked : Event) (old new : EngineSeen) (event : Event) : Type 0 where

@@ -65,14 +65,14 @@ pub record AccessNeedsDisks (e : EngineSeen) (node life : ℕ) (op : Op) : Type 
   pub is : IsMissed e node life op missed
   pub needs : NeedsDisks e missed.event
 
--- the push of the lowest page that is not settled needs the disks
-pub record PushNeedsDisks (e : EngineSeen) (node from : ℕ) (keep : Keep) : Type 0 where
+-- the push of the lowest page that is not settled needs the disks, where of each page these rights are kept
+pub record PushNeedsDisks (e : EngineSeen) (node from : ℕ) (keep : ℕ → Keep) : Type 0 where
   pub page : ℕ
   pub event : Event
   pub lowest : IsLowestUnsettled e from page
-  pub settles : SettlesBy e page node from keep event
+  pub settles : SettlesBy e page node from (keep page) event
   pub needs : NeedsDisks e event
 
 -- THE SYNC NEEDS THE DISKS: every page is settled, so that they are made to keep them, or the push needs them
-abbrev pub SyncNeedsDisks : EngineSeen → ℕ → ℕ → Keep → Type 0
+abbrev pub SyncNeedsDisks : EngineSeen → ℕ → ℕ → (ℕ → Keep) → Type 0
 SyncNeedsDisks e node from keep = IsAllSettled (file_in e).pages from (state_in e) ⊎ PushNeedsDisks e node from keep

@@ -9,16 +9,18 @@ use Rattle.hist_plain.specs.History.{mine}
 use Rattle.tower_core.specs.declared.right.Right.{Right}
 use Rattle.tower_core.specs.Trail.{IsSettled}
 use Rattle.page_ground.specs.Seen.{AllKept}
+use Rattle.stack_engine.specs.declared.ends.End.{End}
 use Rattle.stack_engine.specs.declared.moved.Moved.{Moved}
 use Rattle.stack_engine.specs.declared.moved.Moved.TheVariants.{Busy, Done, Stepped}
 use Rattle.stack_engine.specs.declared.refusal.StepErr.{StepErr}
 use Rattle.stack_engine.specs.declared.turns.Turn.{Turn}
 use Rattle.stack_engine.specs.Accesses.{LowersSpare}
-use Rattle.stack_engine.specs.Engine.{EngineSeen, IsNext, column_in, events_in, file_in}
+use Rattle.stack_engine.specs.Ended.{IsEnded}
+use Rattle.stack_engine.specs.Engine.{EngineSeen, IsNext, column_in, events_in, file_in, tree_in}
 use Rattle.stack_engine.specs.Messages.{IsPageMessage, NeedsDisks}
 use Rattle.stack_engine.specs.Moves.{Enters, IsRefused, Makes, Sends}
 use Rattle.stack_engine.specs.Plans.{IsLowestUnsettled, SettlesBy, StepsTo, Wants}
-use Rattle.stack_engine.specs.Turns.{blocker, with_turn, without_turns}
+use Rattle.stack_engine.specs.Turns.{blocker, leaf_at, pushed_as, turns_stepping, without_turns}
 
 -- the engine, and whose turn it is
 pub record TowerSeen : Type 0 where
@@ -33,8 +35,8 @@ pub record Steps (caller node life : ℕ) (op : Op) (old new : TowerSeen) (event
   pub wants : Wants old.engine node life op page want
   pub steps : StepsTo old.engine node page want asked
   pub sends : Sends asked old.engine new.engine event
-  pub free : blocker caller page old.turns ≡ None
-  pub turns : new.turns ≡ with_turn caller page old.turns
+  pub free : blocker caller page (leaf_at (tree_in old.engine) node) old.turns ≡ None
+  pub turns : new.turns ≡ turns_stepping caller page asked old.turns
 
 -- it is not allowed yet, and another caller is before this one
 pub record Waits (caller node life : ℕ) (op : Op) (old new : TowerSeen) (holder : ℕ) : Type 0 where
@@ -43,7 +45,7 @@ pub record Waits (caller node life : ℕ) (op : Op) (old new : TowerSeen) (holde
   pub asked : Event
   pub wants : Wants old.engine node life op page want
   pub steps : StepsTo old.engine node page want asked
-  pub holder_is : blocker caller page old.turns ≡ Some holder
+  pub holder_is : blocker caller page (leaf_at (tree_in old.engine) node) old.turns ≡ Some holder
   pub same : new ≡ old
 
 -- it is allowed, and was made
@@ -77,31 +79,35 @@ pub record Syncs (caller number node from : ℕ) (keep : Keep) (old new : TowerS
   pub pages : new.engine.ground.pages ≡ old.engine.ground.pages
   pub turns : new.turns ≡ without_turns caller old.turns
 
--- a push of the lowest page that is not settled
-pub record Settles (node from : ℕ) (keep : Keep) (old new : TowerSeen) (event : Event) : Type 0 where
+-- a push of the lowest page that is not settled. It lowers no right where another caller has the page's turn
+pub record Settles (caller node from : ℕ) (keep : Keep) (old new : TowerSeen) (event : Event) : Type 0 where
   pub page : ℕ
   pub lowest : IsLowestUnsettled old.engine from page
-  pub settles : SettlesBy old.engine page node from keep event
+  pub settles : SettlesBy old.engine page node from (pushed_as caller page keep old.turns) event
   pub sends : Sends event old.engine new.engine event
   pub turns : new.turns ≡ old.turns
 
 -- ONE TRY OF A SYNC. It waits for nobody
 abbrev pub AdvancesSync : ℕ → ℕ → ℕ → ℕ → Keep → TowerSeen → TowerSeen → Moved → Type 0
 AdvancesSync caller number node from keep old new (Done answer) = Syncs caller number node from keep old new answer
-AdvancesSync caller number node from keep old new (Stepped event) = Settles node from keep old new event
+AdvancesSync caller number node from keep old new (Stepped event) = Settles caller node from keep old new event
 AdvancesSync caller number node from keep old new (Busy holder) = ⊥
 
--- WHAT ONE STEP DOES, of an event that is allowed: a message is sent, an access is made, a sync is completed
+-- WHAT ONE STEP DOES, of an event that is allowed: a message is sent, an access is made, a sync is completed, or channels end
 abbrev pub TakesStep : EngineSeen → EngineSeen → Event → Type 0
 TakesStep old new (events.Access caller number node life op) = (answer : Answer) × Makes caller number node life op old new answer
 TakesStep old new (events.Synced caller number node from keep) = Enters (record { event = events.Synced caller number node from keep; answer = Some Answer.Done; bytes = [] }) old new
     × AllKept new.ground new.ground.pages
+TakesStep old new (events.DestroyCache caller number node) = IsEnded End.Destroy caller number node old new
+TakesStep old new (events.DonePager caller number node) = IsEnded End.Done caller number node old new
 TakesStep old new event = (stands : Event) × Sends event old new stands
 
--- an event that a step takes: its caller is the one that calls, and has this number next. The ends of channels are none of them yet
+-- an event that a step takes: its caller, if it has one, is the one that calls, and has this number next
 abbrev pub IsStepOf : EngineSeen → ℕ → Event → Type 0
 IsStepOf e caller (events.Access by number node life op) = (by ≡ caller) × (number ≡ length (mine (events_in e) caller))
 IsStepOf e caller (events.Synced by number node from keep) = (by ≡ caller) × (number ≡ length (mine (events_in e) caller))
+IsStepOf e caller (events.DestroyCache by number node) = (by ≡ caller) × (number ≡ length (mine (events_in e) caller))
+IsStepOf e caller (events.DonePager by number node) = (by ≡ caller) × (number ≡ length (mine (events_in e) caller))
 IsStepOf e caller event = IsPageMessage event
 
 -- THE STEP NEEDS THE DISKS: a completed sync makes them keep their pages, and a message may need them

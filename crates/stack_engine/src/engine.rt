@@ -7,8 +7,8 @@ ghost use Rattle.page_ground.specs.Seen.{faults_in, opened_in};
 ghost use Rattle.page_messages.specs.Paged.{IsPagedFile};
 ghost use Rattle.tower_core.specs.TreeShape.{IsUpper, frames_of, nodes};
 ghost use Rattle.tower_log.specs.Log.{place_of};
-ghost use Rattle.page_exchange.specs.Tables.{IsUnderFile, wire_of};
-ghost use Rattle.stack_engine.specs.Engine.{EngineSeen, IsSound, events_in, file_in, log_in, sides_in, state_in, tree_in, uses_in, wire_in};
+ghost use Rattle.page_exchange.specs.Tables.{IsUnderFile, machines_of, wire_of};
+ghost use Rattle.stack_engine.specs.Engine.{EngineSeen, IsSound, events_in, file_in, log_in, machines_in, sides_in, state_in, tree_in, uses_in, wire_in};
 ghost use Rattle.stack_engine.specs.Opened.{IsOf};
 ghost use Rattle.coherency_layer.specs.Node as layers;
 ghost use Rattle.vmm_cache.specs.Leaf as leaves;
@@ -47,15 +47,23 @@ impl<G: Ground> Model for Engine<G> {
 }
 
 /// The tables and the book of a file without events.
-fn start(alloc: Global, tree: Tree, file: PagedFile, ops: Ops) -> Result<(Tables, Book), AllocError>
+fn start(
+    alloc: Global,
+    tree: Tree,
+    file: PagedFile,
+    machines: Vec<u32>,
+    ops: Ops,
+) -> Result<(Tables, Book), AllocError>
     requires paged { IsPagedFile file }
     requires frames { (node : ℕ) → frames_of tree node ≤ 1024 }
+    requires machines { length machines.items ≡ nodes tree }
     ensures starts { IfOk result (λ parts. Starts tree file parts.0 parts.1) }
-    ensures wire { IfOk result (λ parts. wire_of parts.0 ≡ record { ops = ops; first = []; second = [] }) }
+    ensures machines { IfOk result (λ parts. machines_of parts.0 ≡ machines.items) }
+    ensures wire { IfOk result (λ parts. wire_of parts.0 ≡ record { ops = ops; first = []; second = []; first_packet = []; second_packet = [] }) }
 {
     let sheet = Sheet::new(alloc, &tree, file.pages)?;
     let trail = Trail::new(alloc, file.page_size);
-    let tables = Tables::new(alloc, tree, file, ops)?;
+    let tables = Tables::new(alloc, tree, file, machines, ops)?;
     Ok((tables, Book { sheet, trail }))
 }
 
@@ -66,18 +74,21 @@ impl<G: Ground> Engine<G> {
         alloc: Global,
         tree: Tree,
         file: PagedFile,
+        machines: Vec<u32>,
         ground: G,
         ops: Ops,
     ) -> Result<Engine<G>, G>
         requires paged { IsPagedFile file }
         requires frames { (node : ℕ) → frames_of tree node ≤ 1024 }
+        requires machines { length machines.items ≡ nodes tree }
         requires under { IsUnderFile (G.seen ground) file }
         requires counts { (disk : ℕ) → opened_in (G.seen ground).disks disk ≤ faults_in (G.seen ground).disks disk }
         ensures opened { IfOk result (Opens tree file (G.seen ground)) }
-        ensures wire { IfOk result (λ e. wire_in e ≡ record { ops = ops; first = []; second = [] }) }
+        ensures machines { IfOk result (λ e. machines_in e ≡ machines.items) }
+        ensures wire { IfOk result (λ e. wire_in e ≡ record { ops = ops; first = []; second = []; first_packet = []; second_packet = [] }) }
         ensures back { IfErr result (λ g. g ≡ ground) }
     {
-        match start(alloc, tree, file, ops) {
+        match start(alloc, tree, file, machines, ops) {
             Ok((tables, book)) => Ok(Engine {
                 alloc,
                 ground,
@@ -123,6 +134,14 @@ impl<G: Ground> Engine<G> {
         ensures second { result.1.now ≡ (wire_in self.now).second }
     {
         self.tables.frames()
+    }
+
+    /// Lends the packets of these two frames.
+    pub(crate) fn packets(&self) -> (&[u8], &[u8])
+        ensures first { result.0.now ≡ (wire_in self.now).first_packet }
+        ensures second { result.1.now ≡ (wire_in self.now).second_packet }
+    {
+        self.tables.packets()
     }
 
     /// A layer's own table.

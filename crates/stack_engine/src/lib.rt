@@ -1,9 +1,12 @@
 //! One file over its ground: the layers above it, each with a table and copies of its own, moved one event at a time, and
-//! the log that they leave. An access or a sync is brought about by tries, between which other callers may act.
+//! the log that they leave. An access, a sync or an end of channels is brought about by tries, between which other callers
+//! may act.
 #![tactic(auto)]
 
 mod accesses;
 mod book;
+mod ending;
+mod ends;
 mod engine;
 mod messages;
 mod moved;
@@ -14,6 +17,7 @@ mod syncs;
 mod tower;
 mod turns;
 
+pub use ends::End;
 pub use moved::Moved;
 pub use refusal::StepErr;
 pub use tower::Tower;

@@ -2,7 +2,7 @@
 
 use hist_plain::{Answer, Event};
 
-/// How far one try of an access or a sync got.
+/// How far one try of an access, of a sync or of an end of channels got.
 #[derive(Debug, Drop)]
 pub enum Moved {
     /// It was allowed, and was made.

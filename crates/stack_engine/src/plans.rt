@@ -10,6 +10,7 @@ ghost use Rattle.tower_plan.specs.Plan.{IfDo, MayAccessFor};
 ghost use Rattle.tower_log.specs.Log.{place_of};
 ghost use Rattle.stack_engine.specs.Engine.{IsNext, column_in, file_in, log_in, tree_in};
 ghost use Rattle.stack_engine.specs.Messages.{IsPageMessage};
+ghost use Rattle.stack_engine.specs.Turns.{leaf_at};
 ghost use Rattle.stack_engine.specs.Plans.{IsLowest, IsLowestUnsettled, IsMissed, SettlesBy, StepsTo};
 
 use crate::engine::Engine;
@@ -94,6 +95,18 @@ impl<G: Ground> Engine<G> {
         match next_for(self.tables.tree(), &sight, node, page, want) {
             Next::Ready => None,
             Next::Do { event } => Some(event),
+        }
+    }
+
+    /// The node, if it is a leaf.
+    pub(crate) fn leaf_at(&self, node: u32) -> Option<u32>
+        requires { IsUpper (tree_in self.now) node }
+        ensures { result ≡ leaf_at (tree_in self.now) node }
+    {
+        if self.tables.tree().frames(node) == 0 {
+            None
+        } else {
+            Some(node)
         }
     }
 

@@ -8,11 +8,13 @@ ghost use Rattle.hist_plain.specs.declared.event.Event.{Event as AnEvent};
 ghost use Rattle.hist_plain.specs.History.{mine};
 ghost use Rattle.page_ground.specs.Seen.{AllKept};
 ghost use Rattle.stack_engine.specs.Accesses.{LowersSpare};
+ghost use Rattle.stack_engine.specs.Ended.{IsEnded, event_ended};
 ghost use Rattle.stack_engine.specs.Engine.{IsNext, events_in};
 ghost use Rattle.stack_engine.specs.Moves.{Enters, IsRefused, Makes};
 ghost use Rattle.stack_engine.specs.Tower.{IsStepOf, SparesStep, StepNeedsDisks, TakesStep};
 
 use crate::accesses::Place;
+use crate::ends::End;
 use crate::engine::Engine;
 use crate::messages::noted;
 use crate::refusal::StepErr;
@@ -96,11 +98,30 @@ impl<G: Ground> Engine<G> {
                 self.synced(caller, number, node, from, keep)?;
                 Ok(())
             }
+            Event::DestroyCache { number, node, .. } => {
+                self.step_end(caller, number, node, End::Destroy)
+            }
+            Event::DonePager { number, node, .. } => {
+                self.step_end(caller, number, node, End::Done)
+            }
             event => {
                 self.message(caller, event)?;
                 Ok(())
             }
         }
+    }
+
+    /// Enters the end of a node's channels, which is allowed.
+    fn step_end(&mut self, caller: u32, number: u32, node: u32, end: End) -> Result<(), StepErr>
+        requires next { IsNext self.old (event_ended end caller number node) }
+        requires number { number ≡ length (mine (events_in self.old) caller) }
+        ensures ended { OnOk result (IsEnded end caller number node self.old self.new) }
+        ensures refused { IfErr result (IsRefused caller self.old self.new) }
+        ensures ground { self.new.ground ≡ self.old.ground }
+        ensures spare { self.new.trail.spare ≡ self.old.trail.spare }
+    {
+        self.end(caller, number, node, end)?;
+        Ok(())
     }
 
     /// Makes an access that is allowed, of which nobody wants the bytes.

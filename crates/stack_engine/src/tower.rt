@@ -9,27 +9,27 @@ ghost use Rattle.page_ground.specs.Seen.{faults_in, opened_in};
 ghost use Rattle.coherency_layer.specs.Node as layers;
 ghost use Rattle.vmm_cache.specs.Leaf as leaves;
 ghost use Rattle.page_messages.specs.Paged.{IsPagedFile};
-ghost use Rattle.tower_core.specs.TreeShape.{IsTree, IsUpper, frames_of};
+ghost use Rattle.tower_core.specs.TreeShape.{IsTree, IsUpper, frames_of, nodes};
 ghost use Rattle.tower_log.specs.Log.{place_of};
 ghost use Rattle.tower_shows.specs.Began.{ArePagesOf};
 ghost use Rattle.page_exchange.specs.Tables.{IsUnderFile};
 ghost use Rattle.tower_core.specs.Trail.{IsSettled};
 ghost use Rattle.stack_engine.specs.Accesses.{SparesRead, SparesTry};
-ghost use Rattle.stack_engine.specs.Engine.{IsNext, IsSound, column_in, events_in, file_in, log_in, sides_in, state_in, tree_in, uses_in, wire_in};
+ghost use Rattle.stack_engine.specs.Engine.{IsNext, IsSound, column_in, events_in, file_in, log_in, machines_in, sides_in, state_in, tree_in, uses_in, wire_in};
 ghost use Rattle.stack_engine.specs.Messages.{NeedsDisks};
 ghost use Rattle.stack_engine.specs.Moves.{IsRefused, bytes_to};
 ghost use Rattle.stack_engine.specs.Opened.{IsOf};
 ghost use Rattle.stack_engine.specs.Plans.{AccessNeedsDisks, IsLowestUnsettled, IsMissed, PushNeedsDisks, SyncNeedsDisks};
 ghost use Rattle.stack_engine.specs.Start.{Opens};
 ghost use Rattle.stack_engine.specs.Tower.{Advances, AdvancesSync, Fails, IsDone, IsStepOf, SparesStep, StepNeedsDisks, TakesStep};
-ghost use Rattle.stack_engine.specs.Turns.{blocker, without_turns};
+ghost use Rattle.stack_engine.specs.Turns.{blocker, leaf_at, pushed_as, without_turns};
 
 use crate::accesses::Place;
 use crate::engine::Engine;
 use crate::moved::Moved;
 use crate::plans::Missed;
 use crate::refusal::StepErr;
-use crate::turns::{Turn, blocker, give_up_turns, take_turn};
+use crate::turns::{Turn, blocker, give_up_turns, pushed_as, take_turns};
 use coherency_layer::{Node, PagedFile};
 use hist_plain::{Event, Keep, Op};
 use page_ground::Ground;
@@ -41,12 +41,12 @@ use tower_log::Trail;
 use vmm_cache::Leaf;
 
 /// A file over its ground: the layers above it, each with a table and copies of its own, the log of all that happened, and
-/// whose turn it is. Calls try an access or a sync, and enter one event at most, so that other callers may act between
-/// two tries.
+/// whose turn it is. Calls try an access, a sync or an end of channels, and enter one event at most, so that other callers
+/// may act between two tries.
 #[derive(Drop)]
 pub struct Tower<G: Ground> {
-    engine: Engine<G>,
-    turns: Vec<Turn>,
+    pub(crate) engine: Engine<G>,
+    pub(crate) turns: Vec<Turn>,
 }
 
 impl<G: Ground> Model for Tower<G> {
@@ -59,28 +59,32 @@ impl<G: Ground> Model for Tower<G> {
 
 impl<G: Ground> Tower<G> {
     /// A file without events, over a ground that has its pages. No layer has anything yet, and no page is read. For want of
-    /// memory the ground is handed back. A leaf has at most 1024 frames.
+    /// memory the ground is handed back. A leaf has at most 1024 frames. `machines` has the number of each node's machine, that of
+    /// the ground first.
     pub fn open(
         alloc: Global,
         tree: Tree,
         file: PagedFile,
+        machines: Vec<u32>,
         ground: G,
         ops: Ops,
     ) -> Result<Tower<G>, G>
         requires paged { IsPagedFile file }
         requires frames { (node : ℕ) → frames_of tree node ≤ 1024 }
+        requires machines { length machines.items ≡ nodes tree }
         requires under { IsUnderFile (G.seen ground) file }
         requires counts { (disk : ℕ) → opened_in (G.seen ground).disks disk ≤ faults_in (G.seen ground).disks disk }
         ensures opened { IfOk result (λ t. Opens tree file (G.seen ground) t.engine) }
         ensures free { IfOk result (λ t. t.turns ≡ []) }
-        ensures wire { IfOk result (λ t. wire_in t.engine ≡ record { ops = ops; first = []; second = [] }) }
+        ensures machines { IfOk result (λ t. machines_in t.engine ≡ machines.items) }
+        ensures wire { IfOk result (λ t. wire_in t.engine ≡ record { ops = ops; first = []; second = []; first_packet = []; second_packet = [] }) }
         ensures began { IfOk result (λ t. (opening : List ℕ) (told : List (List ℕ)) → (G.seen ground).pages ≡ Some told →
             length opening ≡ file.pages * file.page_size → ArePagesOf file.page_size file.pages opening told → IsOf opening t.engine) }
         ensures back { IfErr result (λ g. g ≡ ground) }
     {
         // The proof reads here that this is a tree.
         let _nodes = tree.nodes();
-        match Engine::new(alloc, tree, file, ground, ops) {
+        match Engine::new(alloc, tree, file, machines, ground, ops) {
             Ok(engine) => Ok(Tower {
                 engine,
                 turns: Vec::new(alloc),
@@ -119,6 +123,14 @@ impl<G: Ground> Tower<G> {
         ensures second { result.1.now ≡ (wire_in self.now.engine).second }
     {
         self.engine.frames()
+    }
+
+    /// Lends the packets in which these two frames went from one machine to another. Both are empty if they went on one machine.
+    pub fn packets(&self) -> (&[u8], &[u8])
+        ensures first { result.0.now ≡ (wire_in self.now.engine).first_packet }
+        ensures second { result.1.now ≡ (wire_in self.now.engine).second_packet }
+    {
+        self.engine.packets()
     }
 
     /// How many events there are.
@@ -188,8 +200,8 @@ impl<G: Ground> Tower<G> {
         give_up_turns(caller, &mut self.turns);
     }
 
-    /// Enters one event that is allowed, for a caller: a page message, an access, or the end of a sync. A grant of zeros to
-    /// a layer that had nothing stands in the log as a ZeroFill.
+    /// Enters one event that is allowed, for a caller: a page message, an access, the end of a sync, or the end of channels.
+    /// A grant of zeros to a layer that had nothing stands in the log as a ZeroFill.
     pub fn step(&mut self, caller: u32, event: Event) -> Result<(), StepErr>
         requires next { IsNext self.old.engine event }
         requires kind { IsStepOf self.old.engine caller event }
@@ -259,8 +271,17 @@ impl<G: Ground> Tower<G> {
         }
     }
 
+    /// Who is before a caller that misses a page.
+    fn before(&self, at: Place, page: u32) -> Option<u32>
+        requires { IsUpper (tree_in self.now.engine) at.node }
+        ensures { result ≡ blocker at.caller page (leaf_at (tree_in self.now.engine) at.node) self.now.turns }
+    {
+        blocker(at.caller, page, self.engine.leaf_at(at.node), &self.turns)
+    }
+
     /// Goes on with an access that is not allowed yet, unless another caller is before this one.
     fn miss(&mut self, at: Place, op: &Op, missed: Missed) -> Result<Moved, StepErr>
+        requires upper { IsUpper (tree_in self.old.engine) at.node }
         requires missed { IsMissed self.old.engine at.node at.life op.now missed }
         ensures advances { IfOk result (Advances at.caller at.number at.node at.life op.now self.old self.new) }
         ensures open { IfOk result (λ moved. IsDone ABytes moved → ⊥) }
@@ -268,7 +289,7 @@ impl<G: Ground> Tower<G> {
         ensures idle { (NeedsDisks self.old.engine missed.event → ⊥) → self.new.engine.ground ≡ self.old.engine.ground }
         ensures spare { self.new.engine.trail.spare ≡ self.old.engine.trail.spare }
     {
-        if let Some(holder) = blocker(at.caller, missed.page, &self.turns) {
+        if let Some(holder) = self.before(at, missed.page) {
             return Ok(Moved::Busy { holder });
         }
         let result = self.move_on(at, op, missed);
@@ -278,10 +299,10 @@ impl<G: Ground> Tower<G> {
         result
     }
 
-    /// Takes the turn of the page, and sends the message that comes next.
+    /// Takes the turn of the page, and that of a leaf of which a page goes out, and sends the message that comes next.
     fn move_on(&mut self, at: Place, op: &Op, missed: Missed) -> Result<Moved, StepErr>
         requires missed { IsMissed self.old.engine at.node at.life op.now missed }
-        requires free { blocker at.caller missed.page self.old.turns ≡ None }
+        requires free { blocker at.caller missed.page (leaf_at (tree_in self.old.engine) at.node) self.old.turns ≡ None }
         ensures advances { IfOk result (Advances at.caller at.number at.node at.life op.now self.old self.new) }
         ensures open { IfOk result (λ moved. IsDone ABytes moved → ⊥) }
         ensures refused { IfErr result (IsRefused at.caller self.old.engine self.new.engine) }
@@ -291,14 +312,14 @@ impl<G: Ground> Tower<G> {
     {
         let Missed { page, event } = missed;
         self.engine.make_room()?;
-        take_turn(at.caller, page, &mut self.turns)?;
+        take_turns(at.caller, page, &event, &mut self.turns)?;
         let event = self.engine.message(at.caller, event)?;
         Ok(Moved::Stepped { event })
     }
 
     /// Tries a sync of a caller at a layer, from a place of the trail on. If every page is settled from there, the ground is
     /// made to keep its pages and the sync is done. If not, the lowest that is not is pushed one layer further. It waits
-    /// for nobody.
+    /// for nobody, and lowers no right on a page whose turn another caller has.
     pub fn advance_sync(
         &mut self,
         caller: u32,
@@ -312,7 +333,7 @@ impl<G: Ground> Tower<G> {
         requires from { from ≤ place_of (log_in self.old.engine) }
         ensures advances { IfOk result (AdvancesSync caller number node from keep self.old self.new) }
         ensures fails { IfErr result (Fails caller self.old self.new) }
-        ensures idle { (SyncNeedsDisks self.old.engine node from keep → ⊥) → self.new.engine.ground ≡ self.old.engine.ground }
+        ensures idle { (SyncNeedsDisks self.old.engine node from (λ page. pushed_as caller page keep self.old.turns) → ⊥) → self.new.engine.ground ≡ self.old.engine.ground }
         ensures spare { self.new.engine.trail.spare ≡ self.old.engine.trail.spare }
     {
         match self.engine.lowest_unsettled(from) {
@@ -360,10 +381,11 @@ impl<G: Ground> Tower<G> {
         requires lowest { IsLowestUnsettled self.old.engine from page }
         ensures advances { IfOk result (λ moved. (number : ℕ) → AdvancesSync caller number node from keep self.old self.new moved) }
         ensures fails { IfErr result (Fails caller self.old self.new) }
-        ensures idle { (PushNeedsDisks self.old.engine node from keep → ⊥) → self.new.engine.ground ≡ self.old.engine.ground }
+        ensures idle { (PushNeedsDisks self.old.engine node from (λ p. pushed_as caller p keep self.old.turns) → ⊥) → self.new.engine.ground ≡ self.old.engine.ground }
         ensures spare { self.new.engine.trail.spare ≡ self.old.engine.trail.spare }
     {
-        let event = self.engine.next_push(page, node, from, keep);
+        let pushed = pushed_as(caller, page, keep, &self.turns);
+        let event = self.engine.next_push(page, node, from, pushed);
         match self.engine.message(caller, event) {
             Ok(event) => Ok(Moved::Stepped { event }),
             Err(err) => {

@@ -1,5 +1,5 @@
-//! Exchanges about page 0 of a file of two pages of 64 bytes: of a layer and the disk of number 7, and of that layer and its
-//! child, which is node 2 and a leaf of one frame.
+//! Exchanges about page 0 of a file of two pages of 64 bytes: of a layer and the disk of number 7, which are on machine 5, and of
+//! that layer and its child on machine 6, which is node 2 and a leaf of one frame.
 
 ghost use Rattle.std.specs.Prelude.{◌≡◌, ◌<◌, IsTrue};
 ghost use Rattle.disk_layer.specs.Disk.{seen_of};
@@ -11,13 +11,19 @@ ghost use Rattle.page_exchange.specs.Ground.{IsUnder};
 
 use crate::layers::right_word;
 use coherency_layer::{Asked, Called, Node, NodeErr};
-use page_exchange::{GroundErr, Table, Wire};
+use page_exchange::{Ends, GroundErr, Table, Wire};
 use page_ground::Ground;
 use std::alloc::{AllocError, Global};
 use tower_core::Right;
 use trial_parts::{Ram, Subject, disk, first_bytes, operations, refused_write};
 use trial_words::{Halt, bytes, put_hex};
 use vmm_cache::Leaf;
+
+/// The machines of the layer and of the disk.
+const ON_DISK: Ends = Ends { node: 5, parent: 5 };
+
+/// The machines of the leaf and of the layer.
+const ON_LAYER: Ends = Ends { node: 6, parent: 5 };
 
 /// The layer and the leaf below it, the disk, and the wire.
 #[derive(Drop)]
@@ -91,7 +97,7 @@ fn leaf_gets(wire: &mut Wire, own: &mut Table, above: &mut Node) -> Result<(), H
     if !above.may_write(0) {
         return Err(Halt::Impossible);
     }
-    match wire.ask_above(own, above, 2, Asked::PageInWrite, 0) {
+    match wire.ask_above(own, above, ON_LAYER, 2, Asked::PageInWrite, 0) {
         Ok(()) => Ok(()),
         Err(NodeErr::Memory) => Err(Halt::Memory),
         Err(NodeErr::NotAllowed { .. }) => Err(Halt::Impossible),
@@ -107,7 +113,7 @@ fn leaf_denied(wire: &mut Wire, own: &mut Table, above: &mut Node) -> Result<(),
     if above.child_right(0, 2) != Right::Write {
         return Err(Halt::Impossible);
     }
-    wire.call_below(own, above, 2, Called::DenyWrites, 0);
+    wire.call_below(own, above, ON_LAYER, 2, Called::DenyWrites, 0);
     Ok(())
 }
 
@@ -117,6 +123,26 @@ pub fn put_ground(answered: Result<(), GroundErr>, answer: &mut String) -> Resul
         Ok(()) => answer.push_str("done\n"),
         Err(err) => writeln!(answer, "{err}"),
     }
+}
+
+/// Appends how many bytes a packet has, and the first 34 of them: both machines, the head and two bytes of the page.
+fn put_packet(alloc: Global, packet: &[u8], answer: &mut String) -> Result<(), Halt> {
+    write!(answer, "{} bytes ", packet.len())?;
+    put_hex(alloc, &packet[..packet.len().min(34)], answer)?;
+    Ok(answer.push('\n')?)
+}
+
+/// Appends how the packets of an exchange begin, or that there are none.
+pub fn put_packets(
+    alloc: Global,
+    packets: (&[u8], &[u8]),
+    answer: &mut String,
+) -> Result<(), Halt> {
+    if packets.0.is_empty() && packets.1.is_empty() {
+        return Ok(answer.push_str("no packets\n")?);
+    }
+    put_packet(alloc, packets.0, answer)?;
+    put_packet(alloc, packets.1, answer)
 }
 
 /// Appends the right on page 0 and its first bytes at a node, where it may read them.
@@ -163,7 +189,9 @@ impl Exchanged {
             return Err(Halt::Impossible);
         }
         let mut scratch = [0u8; 64];
-        let asked = self.wire.ask_ground(layer, ground, what, 0, &mut scratch);
+        let asked = self
+            .wire
+            .ask_ground(layer, ground, ON_DISK, what, 0, &mut scratch);
         Ok(put_ground(asked, answer)?)
     }
 
@@ -175,7 +203,7 @@ impl Exchanged {
         }
         let denied = self
             .wire
-            .order_by_ground(layer, ground, Called::DenyWrites, 0)
+            .order_by_ground(layer, ground, ON_DISK, Called::DenyWrites, 0)
             .map_err(GroundErr::Store);
         Ok(put_ground(denied, answer)?)
     }
@@ -244,6 +272,7 @@ impl Subject for Exchanged {
             ["leaf", "writes", word] => write_first(&mut self.leaf, &bytes(alloc, word)?),
             ["leaf", word] => self.pair(word),
             ["disk"] => self.put_disk(alloc, answer),
+            ["packets"] => put_packets(alloc, self.wire.packets(), answer),
             _ => Err(Halt::Unread),
         }
     }

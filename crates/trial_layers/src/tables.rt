@@ -1,5 +1,5 @@
 //! The tables of a node on the ground, and of two on that node, which share page 1 of a file of two pages of 64 bytes, over the
-//! disk of number 7.
+//! disk of number 7. Node 3 is on machine 1, and all others are on machine 0.
 
 ghost use Rattle.std.specs.Prelude.{◌≡◌, ◌≢◌, ◌<◌, IfSome, IsTrue, true};
 ghost use Rattle.disk_layer.specs.Disk.{seen_of};
@@ -12,7 +12,7 @@ ghost use Rattle.page_exchange.specs.Allowed.{AllowAsking, AllowCalling, AllowsR
 ghost use Rattle.page_exchange.specs.Exchange.{may_be_full};
 ghost use Rattle.page_exchange.specs.Tables.{IsUnderFile, MayAskFrames, paged_of, sides, tree_of};
 
-use crate::exchange::put_ground;
+use crate::exchange::{put_ground, put_packets};
 use crate::layers::right_word;
 use coherency_layer::{Asked, Called};
 use page_exchange::{GroundErr, Tables};
@@ -35,7 +35,8 @@ pub struct Shared {
 /// The tables of the three nodes.
 fn tables(alloc: Global) -> Result<Tables, AllocError> {
     let tree = Tree::new(alloc, &[0, 0, 1, 1], &[0, 0, 0, 0])?;
-    Tables::new(alloc, tree, file_of(3, 2), operations())
+    let machines = [0, 0, 0, 1].to_vec(alloc)?;
+    Tables::new(alloc, tree, file_of(3, 2), machines, operations())
 }
 
 /// Whether the disk has the pages of the tables' file, two of 64 bytes.
@@ -302,6 +303,7 @@ impl Subject for Shared {
     fn step(&mut self, alloc: Global, words: &[&str], answer: &mut String) -> Result<(), Halt> {
         match words {
             ["disk"] => self.put_disk(alloc, answer),
+            ["packets"] => put_packets(alloc, self.tables.packets(), answer),
             [node, rest @ ..] => {
                 self.act(alloc, number(node)?, rest, answer)?;
                 self.put_all(alloc, answer)

@@ -2,6 +2,7 @@
 #![tactic(auto)]
 
 mod command;
+mod generated;
 mod interfaces;
 mod operations;
 mod run;
@@ -69,6 +70,7 @@ impl Trial for TextTrial {
             "command" => command::step(alloc, rest, answer),
             "stack" => stack::step(alloc, rest, text, answer),
             "script" => script::step(alloc, rest, text, answer),
+            "generate" => generated::step(alloc, rest, text, answer),
             "answer" => script::answer_step(alloc, rest, answer),
             "interfaces" => interfaces::step(alloc, rest, text, answer),
             "run" => self.run.step(alloc, rest, text, answer),

@@ -3,8 +3,7 @@
 use crate::say::{count_of, say_number};
 use pager_channel::{Operation, Ops};
 use run_texts::{
-    Refusal, TextNames, operation_name, read_run, read_runnable, read_stack, read_tables, refuse,
-    unknown_line,
+    Refusal, TextNames, operation_name, read_run, read_stack, read_tables, refuse, unknown_line,
 };
 use script_text::{Script, parse_script};
 use seen_values::Text;
@@ -140,7 +139,7 @@ impl RunTexts {
         }
     }
 
-    /// `run tables NAME`, `run stack NAME` and `run runnable NAME`: reads the one text of a name.
+    /// `run tables NAME` and `run stack NAME`: reads the one text of a name.
     fn one(
         &mut self,
         alloc: Global,
@@ -155,7 +154,6 @@ impl RunTexts {
                 Err(refusal) => Err(refusal),
             },
             "stack" => read_stack(alloc, &mut self.shelf, &text),
-            "runnable" => read_runnable(alloc, &mut self.shelf, &text),
             _ => return say(answer, "no such step"),
         };
         match read {

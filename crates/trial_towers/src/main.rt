@@ -29,7 +29,7 @@ fn try_cases<R: Print>(rt: &R, alloc: Global, file: &CaseFile) -> io::Result<boo
         "plan" => try_about::<R, Planned>(rt, alloc, file),
         "log" => try_about::<R, Log>(rt, alloc, file),
         "trace" => try_about::<R, Traced>(rt, alloc, file),
-        "tower" => try_about::<R, Driven>(rt, alloc, file),
+        "tower" | "ends" => try_about::<R, Driven>(rt, alloc, file),
         other => {
             println!(rt; "{other}: no such subject")?;
             Ok(false)

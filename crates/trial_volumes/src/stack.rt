@@ -1,20 +1,23 @@
 //! The stack of a case: its volume of one file, and the lines of a client of it.
 
 ghost use Rattle.std.specs.Prelude.{◌≡◌, ◌∷◌, [], IfOk, IfSome, IsTrue, map};
+ghost use Rattle.std.specs.List.{list_all};
+ghost use Rattle.text_words.specs.Words.{is_name, is_path};
 ghost use Rattle.client_objects.specs.Views.{names_at_start};
 ghost use Rattle.spr_client.specs.Calls.{AreOfStack};
 ghost use Rattle.spr_client.specs.Lines.{AreCalls, IsCallOf};
 ghost use Rattle.trial_volumes.specs.Alike.{IsFor};
 
 use client_objects::start_names;
-use run_defs::{file_named, view_of};
-use script_text::{Call, CallLine, Sub, parse_script};
-use seen_values::Items;
+use run_defs::{file_named, layer_of, view_of};
+use script_text::{Call, CallLine, parse_script};
+use seen_values::{Items, Path, Text};
 use spr_volume::{Pass, Volume};
 use stack_accept::{Mounted, accept};
 use stack_engine::Tower;
 use stack_text::parse_stack;
 use std::alloc::Global;
+use text_words::is_name;
 use trial_parts::{Ram, SIZE, copy_tree, tower_over};
 use trial_words::Halt;
 use vmm_space::MAX_ADDRESS;
@@ -27,6 +30,28 @@ pub fn stack_of(alloc: Global, text: &[u8]) -> Result<Mounted, Halt> {
     }
 }
 
+/// Whether a part of a path is a name.
+fn is_part(part: &Text) -> bool
+    ensures { result ≡ is_name part.now }
+{
+    is_name(part.as_str().as_bytes())
+}
+
+/// Whether each part is a name.
+fn are_names(parts: &[Text]) -> bool
+    ensures { result ≡ list_all is_name parts.now }
+{
+    parts.iter().all(is_part)
+}
+
+/// Whether the parts are those of a path: 1 to 8 names.
+fn is_path(path: &Path) -> bool
+    ensures { result ≡ is_path path.now }
+{
+    let parts = path.as_slice();
+    matches!(parts.len(), 1..=8) && are_names(parts)
+}
+
 /// Whether it is a call that the program has, whose names the stack has.
 fn is_call(mount: &Mounted, call: &Call) -> bool
     ensures { IsTrue result → IsCallOf mount.now call.now }
@@ -34,13 +59,11 @@ fn is_call(mount: &Mounted, call: &Call) -> bool
     match call {
         Call::Bind {
             path,
-            sub: Sub::Cluster | Sub::Caching,
             view,
             file,
+            ..
         } => {
-            matches!(path.as_slice().len(), 1..=8)
-                && view_of(mount, view).is_some()
-                && file_named(mount, file).is_some()
+            is_path(path) && view_of(mount, view).is_some() && file_named(mount, file).is_some()
         }
         Call::Unbind { path } | Call::Open { path, .. } => {
             matches!(path.as_slice().len(), 1..=8)
@@ -52,7 +75,10 @@ fn is_call(mount: &Mounted, call: &Call) -> bool
         Call::Map { address, .. } | Call::Load { address, .. } | Call::Store { address, .. } => {
             *address <= MAX_ADDRESS
         }
-        _ => false,
+        Call::Revoke { layer, file } | Call::Release { layer, file } => {
+            layer_of(mount, layer).is_some() && file_named(mount, file).is_some()
+        }
+        Call::Context { .. } => false,
     }
 }
 

@@ -38,5 +38,5 @@ returns-in-Ok-open_tower-clause-opened g c =
     let f : FileSeen = c.args.stores in
     let own = ap (λ (x : FileSeen). x.file) c.stores.view_is in
     opens-of mount f c.in-Ok.opened.1.items c.in-Ok.opened.0 c.in-Ok-open_tower.tower c.in-Ok.ensures.many c.in-Ok.ensures.opened c.in-Ok-open_tower.ensures.sound
-    (subst (λ n. engines.Opens mount.tree (paged mount n) (seen_under c.in-Ok.opened.0) c.in-Ok-open_tower.tower.engine) own c.in-Ok-open_tower.ensures.opened) c.in-Ok-open_tower.ensures.free
+    (subst (λ n. engines.Opens mount.tree (paged mount n) (seen_under c.in-Ok.opened.0) c.in-Ok-open_tower.tower.engine) own c.in-Ok-open_tower.ensures.opened) c.in-Ok-open_tower.ensures.free c.in-Ok-open_tower.ensures.machines
     (subst (λ n. BeganOn mount n c.in-Ok.opened.0 c.in-Ok-open_tower.tower) own c.in-Ok-open_tower.ensures.began)

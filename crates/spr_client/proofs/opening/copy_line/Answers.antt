@@ -1,7 +1,7 @@
 use Rattle.std.proofs.Common.{◌≡◌, ℕ, List, Option, None, Some, sym, ap, ◌∙◌}
 use Rattle.script_text.specs.declared.script.Reply.TheVariants as replies
 use Rattle.client_objects.specs.declared.target.Target.{Target}
-use Rattle.client_objects.specs.Objects.{OpenObject, object_of, with_object}
+use Rattle.client_objects.specs.Objects.{OpenObject, object_of, with_object, word_of}
 use Rattle.run_defs.specs.Plan.{ends, holding, plan_copy}
 use Rattle.spr_client.proofs.LineLaws.{done-left, done-none, done-lacks, named-none, named-some}
 use Rattle.spr_client.proofs.Targets.{found-none, found-some, on_machine-copy}
@@ -11,7 +11,7 @@ pub returns-in_default-clause-done : goal.returns-in_default-clause-done
 returns-in_default-clause-done g c =
     let state = c.args.client.now.state in
     done-none c.args.common.now.mount.now c.args.client.now.caller state _ c.args.pass.now _ state
-    (named-none state (object_of c.args.name.now state.objects) (plan_copy state c.args.other.now (object_of c.args.other.now state.objects))
+    (named-none state (object_of c.args.name.now state.objects) (plan_copy state (word_of c.args.name.now state.objects) c.args.other.now (object_of c.args.other.now state.objects))
     (found-none c.args.common.now.mount.now state.machine (object_of c.args.name.now state.objects) (sym c.find.ensures.is ∙ c.in_default.is)))
 
 pub returns-in_default-find-clause-done : goal.returns-in_default-find-clause-done
@@ -22,8 +22,8 @@ returns-in_default-find-clause-done g c =
     let found = found-some mount state.machine (object_of c.args.name.now state.objects) c.in-Some.field-0 (sym c.find.ensures.is ∙ c.in-Some.is) in
     let other = found-some mount state.machine (object_of c.args.other.now state.objects) c.in_default-find.field-0 (sym c.find-2.ensures.is ∙ c.in_default-find.is) in
     done-none c.args.common.now.mount.now c.args.client.now.caller state _ c.args.pass.now _ state
-    (named-some state (object_of c.args.name.now state.objects) target (plan_copy state c.args.other.now (object_of c.args.other.now state.objects)) found.0
-    ∙ ap (λ (o : Option Target). plan_copy state c.args.other.now o target) other.0)
+    (named-some state (object_of c.args.name.now state.objects) target (plan_copy state (word_of c.args.name.now state.objects) c.args.other.now (object_of c.args.other.now state.objects)) found.0
+    ∙ ap (λ (o : Option Target). plan_copy state (word_of c.args.name.now state.objects) c.args.other.now o target) other.0)
 
 pub returns-in_default-of-clause-done : goal.returns-in_default-of-clause-done
 returns-in_default-of-clause-done g c = done-lacks c.args.common.now.mount.now c.args.client.now.caller c.args.client.now.state _ c.args.pass.now
@@ -34,13 +34,14 @@ returns-in-Ok-copy-clause-done g c =
     let mount = c.args.common.now.mount.now in
     let target : Target = c.in-Some.field-0.target in
     let other = c.args.other.now in
+    let word = word_of c.args.name.now state.objects in
     let found : object_of c.args.name.now state.objects ≡ Some target = (found-some mount state.machine (object_of c.args.name.now state.objects) c.in-Some.field-0 (sym c.find.ensures.is ∙ c.in-Some.is)).0 in
     let free : object_of other state.objects ≡ None = found-none mount state.machine (object_of other state.objects) (sym c.find-2.ensures.is ∙ c.in-None.is) in
     let second : c.in-Ok.second ≡ other = c.in-Ok.ensures ∙ c.as_str.ensures in
-    let left : c.copy.new.self ≡ with_object state.objects other target = c.in-Ok-copy.ensures.ok target found ∙ ap (λ (n : List ℕ). with_object state.objects n target) second in
+    let left : c.copy.new.self ≡ with_object state.objects other target word = c.in-Ok-copy.ensures.ok target found ∙ ap (λ (n : List ℕ). with_object state.objects n target word) second in
     done-none c.args.common.now.mount.now c.args.client.now.caller state _ c.args.pass.now replies.Done (holding state c.copy.new.self)
-    (named-some state (object_of c.args.name.now state.objects) target (plan_copy state other (object_of other state.objects)) found
-    ∙ (ap (λ (o : Option Target). plan_copy state other o target) free
+    (named-some state (object_of c.args.name.now state.objects) target (plan_copy state word other (object_of other state.objects)) found
+    ∙ (ap (λ (o : Option Target). plan_copy state word other o target) free
     ∙ ap (λ (os : List OpenObject). ends replies.Done (holding state os)) (sym left)))
 
 pub returns-in-Ok-copy-clause-on : goal.returns-in-Ok-copy-clause-on
@@ -49,7 +50,7 @@ returns-in-Ok-copy-clause-on g c =
     let mount = c.args.common.now.mount.now in
     let target : Target = c.in-Some.field-0.target in
     let found : object_of c.args.name.now state.objects ≡ Some target = (found-some mount state.machine (object_of c.args.name.now state.objects) c.in-Some.field-0 (sym c.find.ensures.is ∙ c.in-Some.is)).0 in
-    on_machine-copy mount state c.copy.new.self c.args.name.now c.in-Ok.second target c.requires.on found (c.in-Ok-copy.ensures.ok target found)
+    on_machine-copy mount state c.copy.new.self c.args.name.now c.in-Ok.second (word_of c.args.name.now state.objects) target c.requires.on found (c.in-Ok-copy.ensures.ok target found)
 
 pub returns-in-Err-clause-done : goal.returns-in-Err-clause-done
 returns-in-Err-clause-done g c =

@@ -6,7 +6,7 @@ use Rattle.client_objects.specs.declared.target.Found.{Found}
 use Rattle.client_objects.specs.Objects.{OpenObject}
 use Rattle.client_objects.specs.declared.why.NotReceived.{NotReceived}
 use Rattle.client_objects.specs.Received.{RefusesReceived}
-use Rattle.client_objects.specs.Stored.{received}
+use Rattle.client_objects.specs.Stored.{received, received_word}
 use Rattle.run_defs.specs.Plan.{ends, holding, plan_found}
 use Rattle.spr_client.specs.Lines.{PlanDone}
 use Rattle.spr_client.proofs.LineLaws.{found-lacks, plan-none}
@@ -23,22 +23,22 @@ open_received-requires-clause-node g c κs within = ap (λ (f : Found). f.node) 
 pub returns-in-Ok-clause-done : goal.returns-in-Ok-clause-done
 returns-in-Ok-clause-done g c =
     let state = c.args.client.now.state in
-    subst (λ (o : Option Target). PlanDone c.args.common.now.mount.now c.args.client.now.caller (plan_found c.args.common.now.mount.now state c.args.name o) c.args.pass.now c.open_received.new.pass c.open_received.result c.open_received.new.client.state) (sym c.in-Ok.ensures.read)
-    (c.open_received.ensures.done state.objects c.args.name c.in-Ok.ensures.opened)
+    subst (λ (o : Option Target). PlanDone c.args.common.now.mount.now c.args.client.now.caller (plan_found c.args.common.now.mount.now state c.args.name (received_word (Some (kept_object c.args.stored.now))) o) c.args.pass.now c.open_received.new.pass c.open_received.result c.open_received.new.client.state) (sym c.in-Ok.ensures.read)
+    (c.open_received.ensures.done state.objects c.args.name (received_word (Some (kept_object c.args.stored.now))) c.in-Ok.ensures.opened)
 
 pub returns-in-Ok-clause-on : goal.returns-in-Ok-clause-on
 returns-in-Ok-clause-on g c =
     let state = c.args.client.now.state in
-    on_machine-either c.args.common.now.mount.now c.open_received.new.client.state state c.args.name c.in-Ok.found.target (Some (kept_object c.args.stored.now)) c.requires.on c.in-Ok.ensures.read
-    (c.open_received.ensures.on state.objects c.args.name c.in-Ok.ensures.opened)
+    on_machine-either c.args.common.now.mount.now c.open_received.new.client.state state c.args.name (received_word (Some (kept_object c.args.stored.now))) c.in-Ok.found.target (Some (kept_object c.args.stored.now)) c.requires.on c.in-Ok.ensures.read
+    (c.open_received.ensures.on state.objects c.args.name (received_word (Some (kept_object c.args.stored.now))) c.in-Ok.ensures.opened)
 
 pub returns-in-Err-BadObject-clause-done : goal.returns-in-Err-BadObject-clause-done
 returns-in-Err-BadObject-clause-done g c =
     let state = c.args.client.now.state in
     let found = received c.args.common.now.mount.now (Some (kept_object c.args.stored.now)) in
     let why : RefusesReceived found NotReceived.BadObject = subst (λ (e : NotReceived). RefusesReceived found e) c.in-Err-BadObject.field-0-is c.in-Err-BadObject.ensures.why in
-    plan-none c.args.common.now.mount.now c.args.client.now.caller (plan_found c.args.common.now.mount.now state c.args.name (received c.args.common.now.mount.now (Some (kept_object c.args.stored.now)))) c.args.pass.now replies.BadObject (holding state c.receive.new.self)
-    (ap (λ (o : Option Target). plan_found c.args.common.now.mount.now state c.args.name o) why ∙ ap (λ (os : List OpenObject). ends replies.BadObject (holding state os)) (sym c.in-Err-BadObject.ensures.err))
+    plan-none c.args.common.now.mount.now c.args.client.now.caller (plan_found c.args.common.now.mount.now state c.args.name (received_word (Some (kept_object c.args.stored.now))) (received c.args.common.now.mount.now (Some (kept_object c.args.stored.now)))) c.args.pass.now replies.BadObject (holding state c.receive.new.self)
+    (ap (λ (o : Option Target). plan_found c.args.common.now.mount.now state c.args.name (received_word (Some (kept_object c.args.stored.now))) o) why ∙ ap (λ (os : List OpenObject). ends replies.BadObject (holding state os)) (sym c.in-Err-BadObject.ensures.err))
 
 pub returns-in-Err-Memory-clause-done : goal.returns-in-Err-Memory-clause-done
 returns-in-Err-Memory-clause-done g c =
@@ -46,5 +46,5 @@ returns-in-Err-Memory-clause-done g c =
     let state = c.args.client.now.state in
     let found = received mount (Some (kept_object c.args.stored.now)) in
     let why : RefusesReceived found NotReceived.Memory = subst (λ (e : NotReceived). RefusesReceived found e) c.in-Err-Memory.field-0-is c.in-Err-Memory.ensures.why in
-    subst (λ (os : List OpenObject). PlanDone mount c.args.client.now.caller (plan_found c.args.common.now.mount.now state c.args.name found) c.args.pass.now c.args.pass.now replies.Memory (holding state os)) (sym c.in-Err-Memory.ensures.err)
-    (found-lacks mount c.args.client.now.caller state c.args.name found c.args.pass.now why)
+    subst (λ (os : List OpenObject). PlanDone mount c.args.client.now.caller (plan_found c.args.common.now.mount.now state c.args.name (received_word (Some (kept_object c.args.stored.now))) found) c.args.pass.now c.args.pass.now replies.Memory (holding state os)) (sym c.in-Err-Memory.ensures.err)
+    (found-lacks mount c.args.client.now.caller state c.args.name (received_word (Some (kept_object c.args.stored.now))) found c.args.pass.now why)

@@ -8,7 +8,7 @@ use Rattle.spr_run.proofs.WayLaws.{ends-runs, ends-unrun}
 use Rattle.spr_run.proofs.top.run_named.Goals as goal
 
 pub run_files-requires-clause-calls : goal.run_files-requires-clause-calls
-run_files-requires-clause-calls g c κs within = phases-built c.in-Ok.mount c.in-Ok.script c.in-Ok.ensures.script.0 c.in-Ok.ensures.script.1 c.in-Ok.ensures.script.2
+run_files-requires-clause-calls g c κs within = phases-built c.in-Ok.mount c.in-Ok.script c.in-Ok.ensures.script.0 c.in-Ok.ensures.script.1
 
 pub returns-in-Ok : goal.returns-in-Ok
 returns-in-Ok g c =

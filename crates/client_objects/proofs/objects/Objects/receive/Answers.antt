@@ -8,7 +8,7 @@ use Rattle.client_objects.specs.Stored.{target_of}
 use Rattle.client_objects.specs.Found.{found_on}
 use Rattle.client_objects.specs.Held.{seen, target_in, AreHeld}
 use Rattle.client_objects.proofs.HeldLaws.{are_held-receive, seen-receive, held-receive, target_in-receive}
-use Rattle.client_objects.proofs.ReceivedLaws.{unread_is, received-reads, received-sub, received-target, received-leads_to_view}
+use Rattle.client_objects.proofs.ReceivedLaws.{unread_is, received-reads, received-sub, received-target, received-word, received-leads_to_view}
 use Rattle.client_objects.proofs.objects.Objects.receive.Goals as goal
 
 pub take_in-requires : goal.take_in-requires
@@ -70,8 +70,10 @@ returns-clause-opened c =
     let is = sym c.received_target.ensures ∙ c.in-Some.is in
     let got = c.in_ok-object.ensures.ok in
     let target = received-target c.args.mount.now c.args.stored.now.bytes c.args.stored.now.doors c.in-Some.target c.reader-from.result c.take_in.new.from c.self.inside.domain c.take_in.new.domain c.in_ok-object.object start is got in
+    let word = received-word c.args.mount.now c.args.stored.now.bytes c.args.stored.now.doors c.in-Some.target c.reader-from.result c.take_in.new.from c.self.inside.domain c.take_in.new.domain c.in_ok-object.object start is got in
     let seen_now = seen-receive c.self.inside.domain c.take_in.new.domain c.self.inside.entries.items c.args.name c.in-Some.target.kind c.in_ok-object.object c.reader-from.result c.take_in.new.from c.self.invariant got in
     ap (seen c.take_in.new.domain) items
     ∙ seen_now
-    ∙ ap (λ (os : List OpenObject). with_object os c.args.name (target_of c.in-Some.target.kind got.reads.fields)) c.self.view_is
-    ∙ ap (λ (t : Target). with_object c.args.self.now c.args.name t) target
+    ∙ ap (λ (os : List OpenObject). with_object os c.args.name (target_of c.in-Some.target.kind got.reads.fields) got.reads.fields.name) c.self.view_is
+    ∙ ap (λ (t : Target). with_object c.args.self.now c.args.name t got.reads.fields.name) target
+    ∙ ap (with_object c.args.self.now c.args.name c.in-Some.target) word

@@ -60,4 +60,4 @@ returns-clause-idle g c = λ needless.
 pub returns-clause-went : goal.returns-clause-went
 returns-clause-went g c =
     let one = singles.one_is c.args.self.now.tree c.args.self.now.file c.args.self.now.nodes.items c.args.node c.index_mut-own.result.now c.order_by_ground.new.own c.args.self.now.tables c.requires.upper c.index_mut-own.ensures.value in
-    on_ok c.order_by_ground.result (singles.called_frames c.args.self.now.tree c.args.self.now.file _ _ c.args.node _ _ c.args.self.now.tables one _ c.args.page c.args.what) c.order_by_ground.ensures.went
+    on_ok c.order_by_ground.result (singles.called_frames c.args.self.now.tree c.args.self.now.file _ _ c.args.node _ _ c.args.self.now.tables one c.order_by_ground.new.self c.args.page c.args.what) c.order_by_ground.ensures.went

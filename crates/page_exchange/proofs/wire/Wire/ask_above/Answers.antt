@@ -1,12 +1,13 @@
 use Rattle.page_exchange.proofs.Exchanges as exchange
+use Rattle.page_exchange.proofs.PacketLaws.{frame_few}
 use Rattle.page_exchange.proofs.wire.Wire.ask_above.Goals as goal
 
 pub serve-requires-clause-allowed : goal.serve-requires-clause-allowed
 serve-requires-clause-allowed c =
     exchange.served c.self.inside.ops c.args.own.now c.args.above.now c.args.node c.args.page c.args.what c.ask.new.buf.bytes c.sent-question.result c.requires.pair c.requires.may c.requires.serves c.ask.ensures.sent c.sent-question.ensures
 
-pub sent-answer-requires : goal.sent-answer-requires
-sent-answer-requires c =
+pub sent-answer-requires-clause-sent : goal.sent-answer-requires-clause-sent
+sent-answer-requires-clause-sent c =
     (_, exchange.answer_sent c.self.inside.ops c.args.own.now c.args.above.now c.args.node c.args.page c.args.what c.ask.new.buf.bytes c.sent-question.result c.requires.pair c.requires.may c.requires.serves c.ask.ensures.sent c.sent-question.ensures c.serve.new.buf.bytes c.serve.ensures.sent)
 
 pub returns-in_err-accept-clause-lack : goal.returns-in_err-accept-clause-lack
@@ -36,3 +37,9 @@ returns-clause-went c = record {
   asks = c.ask.ensures.sent;
   answers = exchange.answer_sent c.self.inside.ops c.args.own.now c.args.above.now c.args.node c.args.page c.args.what c.ask.new.buf.bytes c.sent-question.result c.requires.pair c.requires.may c.requires.serves c.ask.ensures.sent c.sent-question.ensures c.serve.new.buf.bytes c.serve.ensures.sent;
 }
+
+pub pack-requires-clause-few : goal.pack-requires-clause-few
+pack-requires-clause-few c = frame_few _ _ _ c.ask.ensures.sent
+
+pub pack-requires-2-clause-few : goal.pack-requires-2-clause-few
+pack-requires-2-clause-few c = frame_few _ _ _ (exchange.answer_sent c.self.inside.ops c.args.own.now c.args.above.now c.args.node c.args.page c.args.what c.ask.new.buf.bytes c.sent-question.result c.requires.pair c.requires.may c.requires.serves c.ask.ensures.sent c.sent-question.ensures c.serve.new.buf.bytes c.serve.ensures.sent)

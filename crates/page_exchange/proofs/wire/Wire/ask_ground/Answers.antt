@@ -1,6 +1,7 @@
 use Rattle.std.proofs.Common.{◌∙◌, sym}
 use Rattle.page_exchange.proofs.Exchanges.{on-err}
 use Rattle.page_exchange.proofs.Grounds as grounds
+use Rattle.page_exchange.proofs.PacketLaws.{frame_few}
 use Rattle.page_exchange.proofs.wire.Wire.ask_ground.Goals as goal
 
 pub write_for-requires-clause-size : goal.write_for-requires-clause-size
@@ -29,7 +30,7 @@ returns-in_err-take-clause-call g c =
 
 pub returns-clause-own : goal.returns-clause-own
 returns-clause-own g c =
-    grounds.ground_answered c.self.inside.ops c.args.own.now c.args.page c.args.what c.ask.new.buf.bytes c.sent-question.result c.requires.may c.ask.ensures.sent c.sent-question.ensures c.read_for.new.scratch c.answer_of_ground.new.buf.bytes c.sent-answer.result (grounds.answer_of_own c.self.inside.ops c.args.own.now c.args.page c.args.what c.read_for.new.scratch c.answer_of_ground.new.buf.bytes c.file.result c.right.result c.file.ensures.file c.right.ensures c.answer_of_ground.ensures.sent) c.sent-answer.ensures _ c.take.new.self c.in_ok-read_for.ensures.size c.in_ok-read_for.ensures.ok c.in_ok-take.ensures.ok
+    grounds.ground_answered c.self.inside.ops c.args.own.now c.args.page c.args.what c.ask.new.buf.bytes c.sent-question.result c.requires.may c.ask.ensures.sent c.sent-question.ensures c.read_for.new.scratch c.answer_of_ground.new.buf.bytes c.sent-answer.result (grounds.answer_of_own c.self.inside.ops c.args.own.now c.args.page c.args.what c.read_for.new.scratch c.answer_of_ground.new.buf.bytes c.file.result c.right.result c.file.ensures.file c.right.ensures c.answer_of_ground.ensures.sent) c.sent-answer.ensures _ c.take.new.self _ _ c.in_ok-read_for.ensures.size c.in_ok-read_for.ensures.ok c.in_ok-take.ensures.ok
 
 pub returns-clause-ground : goal.returns-clause-ground
 returns-clause-ground g c =
@@ -58,3 +59,9 @@ returns-in_err-take-clause-idle g c =
 pub returns-clause-idle : goal.returns-clause-idle
 returns-clause-idle g c =
     grounds.asked_idle c.self.inside.ops c.args.own.now c.args.page c.args.what c.ask.new.buf.bytes c.sent-question.result c.requires.may c.ask.ensures.sent c.sent-question.ensures _ _ _ c.in_ok-read_for.ensures.idle c.in_ok-write_for.ensures.idle
+
+pub pack-requires-clause-few : goal.pack-requires-clause-few
+pack-requires-clause-few g c = frame_few _ _ _ c.ask.ensures.sent
+
+pub pack-requires-2-clause-few : goal.pack-requires-2-clause-few
+pack-requires-2-clause-few g c = frame_few _ _ _ c.answer_of_ground.ensures.sent

@@ -1,12 +1,13 @@
 use Rattle.page_exchange.proofs.Exchanges as exchange
+use Rattle.page_exchange.proofs.PacketLaws.{frame_few}
 use Rattle.page_exchange.proofs.wire.Wire.call_below.Goals as goal
 
 pub obey-requires-clause-allowed : goal.obey-requires-clause-allowed
 obey-requires-clause-allowed c =
     exchange.obeyed c.self.inside.ops c.args.own.now c.args.above.now c.args.node c.args.page c.args.what c.call.new.buf.bytes c.sent-order.result c.requires.pair c.requires.may c.requires.obeys c.call.ensures.sent c.sent-order.ensures
 
-pub sent-reply-requires : goal.sent-reply-requires
-sent-reply-requires c =
+pub sent-reply-requires-clause-sent : goal.sent-reply-requires-clause-sent
+sent-reply-requires-clause-sent c =
     (_, exchange.reply_sent c.self.inside.ops c.args.own.now c.args.above.now c.args.node c.args.page c.args.what c.call.new.buf.bytes c.sent-order.result c.requires.pair c.requires.may c.requires.obeys c.call.ensures.sent c.sent-order.ensures c.obey.new.buf.bytes c.obey.ensures.sent)
 
 pub hear-requires-clause-allowed : goal.hear-requires-clause-allowed
@@ -34,3 +35,9 @@ returns-clause-went c = record {
   asks = exchange.order_sent c.self.inside.ops c.args.own.now c.args.above.now c.args.node c.args.page c.args.what c.call.new.buf.bytes c.sent-order.result c.requires.pair c.requires.may c.requires.obeys c.call.ensures.sent c.sent-order.ensures;
   answers = exchange.reply_sent c.self.inside.ops c.args.own.now c.args.above.now c.args.node c.args.page c.args.what c.call.new.buf.bytes c.sent-order.result c.requires.pair c.requires.may c.requires.obeys c.call.ensures.sent c.sent-order.ensures c.obey.new.buf.bytes c.obey.ensures.sent;
 }
+
+pub pack-requires-clause-few : goal.pack-requires-clause-few
+pack-requires-clause-few c = frame_few _ _ _ c.call.ensures.sent
+
+pub pack-requires-2-clause-few : goal.pack-requires-2-clause-few
+pack-requires-2-clause-few c = frame_few _ _ _ (exchange.reply_sent c.self.inside.ops c.args.own.now c.args.above.now c.args.node c.args.page c.args.what c.call.new.buf.bytes c.sent-order.result c.requires.pair c.requires.may c.requires.obeys c.call.ensures.sent c.sent-order.ensures c.obey.new.buf.bytes c.obey.ensures.sent)

@@ -6,6 +6,7 @@ use Rattle.page_messages.specs.declared.paged.PagedFile.{PagedFile}
 use Rattle.stack_engine.specs.Engine.{events_in, log_in}
 use Rattle.stack_engine.specs.Plans.{SyncNeedsDisks}
 use Rattle.stack_engine.specs.Tower.{AdvancesSync, Fails}
+use Rattle.stack_engine.specs.Turns.{pushed_as}
 use Rattle.spr_volume.specs.TowerCalls.{Tries, sync_of}
 use Rattle.spr_volume.specs.TowerShared.{SharedSeen, log_of}
 use Rattle.spr_volume.proofs.Sharing.{asked_now}
@@ -42,4 +43,4 @@ pub returns-clause-fails : goal.returns-clause-fails
 returns-clause-fails g c = subst (λ (s : SharedSeen). IfErr c.advance_sync-result.result (Fails c.args.caller s.tower c.advance_sync-result.new.self)) c.self.view_is c.advance_sync-result.ensures.fails
 
 pub returns-clause-idle : goal.returns-clause-idle
-returns-clause-idle g c = subst (λ (s : SharedSeen). (SyncNeedsDisks s.tower.engine c.args.node c.args.from c.args.keep → ⊥) → c.advance_sync-result.new.self.engine.ground ≡ s.tower.engine.ground) c.self.view_is c.advance_sync-result.ensures.idle
+returns-clause-idle g c = subst (λ (s : SharedSeen). (SyncNeedsDisks s.tower.engine c.args.node c.args.from (λ page. pushed_as c.args.caller page c.args.keep s.tower.turns) → ⊥) → c.advance_sync-result.new.self.engine.ground ≡ s.tower.engine.ground) c.self.view_is c.advance_sync-result.ensures.idle

@@ -23,7 +23,7 @@ enter-requires-clause-count g c = rooms.counted _ c.self.inside.book.sheet c.sel
 pub invariant_of-self : goal.invariant_of-self
 invariant_of-self g c = making.made_engine _ _ (making.entry_of (events.Access c.args.at.caller c.args.at.number c.args.at.node c.args.at.life c.args.op.now) (Some c.args.answer) []) c.args.at.caller 0 Untouched None c.self.invariant.sound
     (making.made_of c.args.self.now _ _ c.make_room.new.self.trail.room (c.self.view_is ∙ c.make_room.ensures.same) (making.entry_of c.event.result (Some c.args.answer) c.from_vec.result) (making.entry_of (events.Access c.args.at.caller c.args.at.number c.args.at.node c.args.at.life c.args.op.now) (Some c.args.answer) []) (making.entry_is _ _ _ _ _ (c.event.ensures ∙ ap (λ (op : Op). events.Access c.args.at.caller c.args.at.number c.args.at.node c.args.at.life op) c.in_ok-copy.ensures) (c.from_vec.ensures ∙ c.new.ensures.items)) c.args.at.caller 0 Untouched None
-    (record { tree = refl; file = refl; ops = refl }) (inl refl) (making.still_sent _ _ _ _ _ (λ p m. refl)) (λ leaf some. refl) c.enter.ensures.log (ap (λ (t : TrailSeen). t.page_size) c.enter.ensures.trail) c.in_ok-make_room.ensures.few c.requires.next refl c.requires.number (making.still_on (tree_in c.args.self.now) (events_in c.args.self.now) c.args.at.caller c.args.at.number c.args.at.node c.args.at.life c.args.op.now (making.still_kind c.args.self.now c.args.at.node c.args.at.life c.args.op.now c.args.answer c.requires.still)))
+    (record { tree = refl; file = refl; machines = refl; ops = refl }) (inl refl) (making.still_sent _ _ _ _ _ (λ p m. refl)) (λ leaf some. refl) c.enter.ensures.log (ap (λ (t : TrailSeen). t.page_size) c.enter.ensures.trail) c.in_ok-make_room.ensures.few c.requires.next refl c.requires.number (making.still_on (tree_in c.args.self.now) (events_in c.args.self.now) c.args.at.caller c.args.at.number c.args.at.node c.args.at.life c.args.op.now (making.still_kind c.args.self.now c.args.at.node c.args.at.life c.args.op.now c.args.answer c.requires.still)))
     (making.still_tells _ c.args.at.caller c.args.at.number c.args.at.node c.args.at.life c.args.op.now c.args.answer (making.still_room c.args.self.now _ c.make_room.new.self.trail.room (c.self.view_is ∙ c.make_room.ensures.same) c.args.at.node c.args.at.life c.args.op.now c.args.answer c.requires.still) (subst (λ (e : EngineSeen). IsNext e (events.Access c.args.at.caller c.args.at.number c.args.at.node c.args.at.life c.args.op.now)) (sym (c.self.view_is ∙ c.make_room.ensures.same)) c.requires.next))
     c.self.inside.book.sheet c.enter.new.self.sheet c.self.invariant
     (making.booked _ c.tree.result.now c.self.inside.book.sheet c.enter.new.self.sheet
@@ -33,4 +33,4 @@ pub returns-clause-makes : goal.returns-clause-makes
 returns-clause-makes g c = rooms.makes_room c.args.self.now _ _ c.make_room.new.self.trail.room (c.self.view_is ∙ c.make_room.ensures.same) c.args.at.caller c.args.at.number c.args.at.node c.args.at.life c.args.op.now c.args.answer
     (making.still_makes _ _ c.self.invariant.sound c.args.at.caller c.args.at.number c.args.at.node c.args.at.life refl c.args.op.now c.args.answer (making.still_room c.args.self.now _ c.make_room.new.self.trail.room (c.self.view_is ∙ c.make_room.ensures.same) c.args.at.node c.args.at.life c.args.op.now c.args.answer c.requires.still)
     (making.made_of c.args.self.now _ _ c.make_room.new.self.trail.room (c.self.view_is ∙ c.make_room.ensures.same) (making.entry_of c.event.result (Some c.args.answer) c.from_vec.result) (making.entry_of (events.Access c.args.at.caller c.args.at.number c.args.at.node c.args.at.life c.args.op.now) (Some c.args.answer) []) (making.entry_is _ _ _ _ _ (c.event.ensures ∙ ap (λ (op : Op). events.Access c.args.at.caller c.args.at.number c.args.at.node c.args.at.life op) c.in_ok-copy.ensures) (c.from_vec.ensures ∙ c.new.ensures.items)) c.args.at.caller 0 Untouched None
-    (record { tree = refl; file = refl; ops = refl }) (inl refl) (making.still_sent _ _ _ _ _ (λ p m. refl)) (λ leaf some. refl) c.enter.ensures.log (ap (λ (t : TrailSeen). t.page_size) c.enter.ensures.trail) c.in_ok-make_room.ensures.few c.requires.next refl c.requires.number (making.still_on (tree_in c.args.self.now) (events_in c.args.self.now) c.args.at.caller c.args.at.number c.args.at.node c.args.at.life c.args.op.now (making.still_kind c.args.self.now c.args.at.node c.args.at.life c.args.op.now c.args.answer c.requires.still))))
+    (record { tree = refl; file = refl; machines = refl; ops = refl }) (inl refl) (making.still_sent _ _ _ _ _ (λ p m. refl)) (λ leaf some. refl) c.enter.ensures.log (ap (λ (t : TrailSeen). t.page_size) c.enter.ensures.trail) c.in_ok-make_room.ensures.few c.requires.next refl c.requires.number (making.still_on (tree_in c.args.self.now) (events_in c.args.self.now) c.args.at.caller c.args.at.number c.args.at.node c.args.at.life c.args.op.now (making.still_kind c.args.self.now c.args.at.node c.args.at.life c.args.op.now c.args.answer c.requires.still))))

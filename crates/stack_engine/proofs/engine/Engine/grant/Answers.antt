@@ -2,7 +2,6 @@ use Rattle.std.proofs.Common.{◌<◌, ℕ, None, ap, subst, sym, ◌∙◌}
 use Rattle.hist_plain.specs.declared.TheConstants.{MAX_EVENTS}
 use Rattle.hist_plain.specs.declared.event.Event.{Event}
 use Rattle.hist_plain.specs.declared.event.Event.TheVariants as events
-use Rattle.tower_core.specs.declared.step.Step.TheVariants.{Grants}
 use Rattle.tower_core.specs.Sheet.{pages_of, seen}
 use Rattle.tower_core.specs.Trail.{IsAllowed, State}
 use Rattle.tower_core.specs.TreeShape.{TreeShape}
@@ -84,7 +83,7 @@ returns-clause-sends g c = rooms.sends_room c.args.self.now _ _ c.make_room.new.
     (λ z. ((granting.found_zeros _ c.self.invariant.sound c.args.node c.args.page c.args.write (subst (λ (e : EngineSeen). IsNext e (events.PageIn c.args.node c.args.page c.args.write)) (sym (c.self.view_is ∙ c.make_room.ensures.same)) c.requires.next) (record { ground = g.G.Ground.seen c.ask.new.ground; tables = c.ask.new.self; trail = c.enter.new.self.trail }) _ c.ask.ensures.same.file c.right-had.result c.right-had.ensures c.finds_zeros-zeros.result c.finds_zeros-zeros.ensures) z).nothing))
     (granting.found_zeros _ c.self.invariant.sound c.args.node c.args.page c.args.write (subst (λ (e : EngineSeen). IsNext e (events.PageIn c.args.node c.args.page c.args.write)) (sym (c.self.view_is ∙ c.make_room.ensures.same)) c.requires.next) (record { ground = g.G.Ground.seen c.ask.new.ground; tables = c.ask.new.self; trail = c.enter.new.self.trail }) _ c.ask.ensures.same.file c.right-had.result c.right-had.ensures c.finds_zeros-zeros.result c.finds_zeros-zeros.ensures) (granting.found_others _ c.self.invariant.sound c.args.node c.args.page c.args.write (subst (λ (e : EngineSeen). IsNext e (events.PageIn c.args.node c.args.page c.args.write)) (sym (c.self.view_is ∙ c.make_room.ensures.same)) c.requires.next) (record { ground = g.G.Ground.seen c.ask.new.ground; tables = c.ask.new.self; trail = c.enter.new.self.trail }) _ c.ask.ensures.same.file c.right-had.result c.right-had.ensures c.finds_zeros-zeros.result c.finds_zeros-zeros.ensures) (granting.kept_are _ c.self.invariant.sound c.args.node c.args.page c.args.write (subst (λ (e : EngineSeen). IsNext e (events.PageIn c.args.node c.args.page c.args.write)) (sym (c.self.view_is ∙ c.make_room.ensures.same)) c.requires.next) (record { ground = g.G.Ground.seen c.ask.new.ground; tables = c.ask.new.self; trail = c.enter.new.self.trail }) _ c.in_ok-room.room.items c.keep_page-bytes.result (ap (λ (f : PagedFile). f.page_size) c.ask.ensures.same.file) (c.in_ok-room.ensures ∙ ap (λ (e : EngineSeen). kept_size e c.args.node c.args.page) (sym c.self.view_is)) c.keep_page-bytes.ensures.none c.keep_page-bytes.ensures.kept) c.event_granted-2.result c.event_granted-2.ensures (ap (λ (t : TrailSeen). t.spare) c.enter.ensures.trail)
     (λ needless. c.ask.ensures.idle (λ n. needless (needs.grant_needs (record { ground = g.G.Ground.seen c.self.inside.ground; tables = c.self.inside.tables; trail = c.self.inside.book.trail }) c.args.node c.args.page c.args.write c.grant_asked.result c.grant_asked.ensures n)))
-    (overs.grant_over (record { ground = g.G.Ground.seen c.self.inside.ground; tables = c.self.inside.tables; trail = c.self.inside.book.trail }) (record { ground = g.G.Ground.seen c.ask.new.ground; tables = c.ask.new.self; trail = c.enter.new.self.trail }) c.self.invariant.sound c.args.node c.args.page c.args.write (subst (λ (e : EngineSeen). IsNext e (events.PageIn c.args.node c.args.page c.args.write)) (sym (c.self.view_is ∙ c.make_room.ensures.same)) c.requires.next) c.grant_asked.result c.grant_asked.ensures c.in-Ok.ensures.went
+    (overs.grant_over (record { ground = g.G.Ground.seen c.self.inside.ground; tables = c.self.inside.tables; trail = c.self.inside.book.trail }) (record { ground = g.G.Ground.seen c.ask.new.ground; tables = c.ask.new.self; trail = c.enter.new.self.trail }) c.self.invariant.sound c.args.node c.args.page c.args.write (subst (λ (e : EngineSeen). IsNext e (events.PageIn c.args.node c.args.page c.args.write)) (sym (c.self.view_is ∙ c.make_room.ensures.same)) c.requires.next) c.grant_asked.result c.grant_asked.ensures c.in-Ok.ensures.went c.in-Ok.ensures.carried
     (copies.copy_long c.ask.new.self.tree c.ask.new.self.file c.ask.new.self.nodes.items c.ask.new.self.tables c.args.page c.args.node (granting.grant_reads _ c.self.invariant.sound c.args.node c.args.page c.args.write (subst (λ (e : EngineSeen). IsNext e (events.PageIn c.args.node c.args.page c.args.write)) (sym (c.self.view_is ∙ c.make_room.ensures.same)) c.requires.next) _ _ _ c.grant_asked.ensures c.in-Ok.ensures.sent).right ∙ ap (λ (f : PagedFile). f.page_size) c.ask.ensures.same.file)
     c.finds_zeros-zeros.result (granting.found_zeros _ c.self.invariant.sound c.args.node c.args.page c.args.write (subst (λ (e : EngineSeen). IsNext e (events.PageIn c.args.node c.args.page c.args.write)) (sym (c.self.view_is ∙ c.make_room.ensures.same)) c.requires.next) (record { ground = g.G.Ground.seen c.ask.new.ground; tables = c.ask.new.self; trail = c.enter.new.self.trail }) _ c.ask.ensures.same.file c.right-had.result c.right-had.ensures c.finds_zeros-zeros.result c.finds_zeros-zeros.ensures) (granting.found_others _ c.self.invariant.sound c.args.node c.args.page c.args.write (subst (λ (e : EngineSeen). IsNext e (events.PageIn c.args.node c.args.page c.args.write)) (sym (c.self.view_is ∙ c.make_room.ensures.same)) c.requires.next) (record { ground = g.G.Ground.seen c.ask.new.ground; tables = c.ask.new.self; trail = c.enter.new.self.trail }) _ c.ask.ensures.same.file c.right-had.result c.right-had.ensures c.finds_zeros-zeros.result c.finds_zeros-zeros.ensures)))
 

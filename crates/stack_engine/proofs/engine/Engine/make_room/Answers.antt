@@ -1,4 +1,4 @@
-use Rattle.std.proofs.Common.{◌≡◌, ap, sym, ◌∙◌}
+use Rattle.std.proofs.Common.{ap}
 use Rattle.tower_log.specs.Trail.{TrailSeen}
 use Rattle.stack_engine.specs.Engine.{EngineSeen}
 use Rattle.stack_engine.proofs.Rooms.{engine_room}

@@ -44,7 +44,7 @@ returns-clause-sends g c = rooms.sends_room c.args.self.now _ _ c.make_room.new.
     (sending.plain_sends _ _ (event_called c.args.what c.args.node c.args.page) c.args.page (step_called c.args.what c.args.node) c.self.invariant.sound (sending.order_plain c.args.what c.args.node c.args.page c.requires.about_page)
     (sending.message_of c.args.self.now _ _ c.make_room.new.self.trail.room (c.self.view_is ∙ c.make_room.ensures.same) _ c.plain_entry-entry.result (c.plain_entry-entry.ensures ∙ ap (λ (x : Event). making.entry_of x None []) c.event_called.ensures) c.args.page _ c.order.ensures.same c.order.ensures.call c.in-Ok.ensures.calm c.in-Ok.ensures.sent c.in-Ok.ensures.follows c.in-Ok.ensures.ground c.enter.ensures.log (ap (λ (t : TrailSeen). t.page_size) c.enter.ensures.trail) c.in_ok-make_room.ensures.few c.requires.next (sending.order_plain c.args.what c.args.node c.args.page c.requires.about_page) (asking.order_step (tree_in c.args.self.now) (events_in c.args.self.now) c.args.what c.args.node c.args.page c.requires.about_page) (sending.order_brings c.args.what c.args.node)) c.event_called-2.result c.event_called-2.ensures (ap (λ (t : TrailSeen). t.spare) c.enter.ensures.trail)
     (λ needless. c.order.ensures.idle (λ n. needless (needs.order_needs (record { ground = g.G.Ground.seen c.self.inside.ground; tables = c.self.inside.tables; trail = c.self.inside.book.trail }) c.args.node c.args.page c.args.what c.requires.about_page n)))
-    (overs.order_over (record { ground = g.G.Ground.seen c.self.inside.ground; tables = c.self.inside.tables; trail = c.self.inside.book.trail }) (record { ground = g.G.Ground.seen c.order.new.ground; tables = c.order.new.self; trail = c.enter.new.self.trail }) c.self.invariant.sound c.args.node c.args.page c.args.what c.requires.about_page (subst (λ (e : EngineSeen). IsNext e (event_called c.args.what c.args.node c.args.page)) (sym (c.self.view_is ∙ c.make_room.ensures.same)) c.requires.next) c.in-Ok.ensures.went))
+    (overs.order_over (record { ground = g.G.Ground.seen c.self.inside.ground; tables = c.self.inside.tables; trail = c.self.inside.book.trail }) (record { ground = g.G.Ground.seen c.order.new.ground; tables = c.order.new.self; trail = c.enter.new.self.trail }) c.self.invariant.sound c.args.node c.args.page c.args.what c.requires.about_page (subst (λ (e : EngineSeen). IsNext e (event_called c.args.what c.args.node c.args.page)) (sym (c.self.view_is ∙ c.make_room.ensures.same)) c.requires.next) c.in-Ok.ensures.went c.in-Ok.ensures.carried))
 
 pub returns-in-Err-clause-idle : goal.returns-in-Err-clause-idle
 returns-in-Err-clause-idle g c = rooms.idle_room c.args.self.now _ c.args.self.now c.make_room.new.self.trail.room (c.self.view_is ∙ c.make_room.ensures.same) (event_called c.args.what c.args.node c.args.page) (g.G.Ground.seen c.order.new.ground)

@@ -57,7 +57,7 @@ returns-clause-sends g c = rooms.sends_room c.args.self.now _ _ c.make_room.new.
     (sending.plain_sends _ _ (event_asked c.args.what c.args.node c.args.page) c.args.page (step_asked c.args.what c.args.node) c.self.invariant.sound (sending.push_plain c.args.what c.args.node c.args.page c.requires.push)
     (sending.message_of c.args.self.now _ _ c.make_room.new.self.trail.room (c.self.view_is ∙ c.make_room.ensures.same) _ c.plain_entry-entry.result (c.plain_entry-entry.ensures ∙ ap (λ (x : Event). making.entry_of x None []) c.event_asked.ensures) c.args.page _ c.ask.ensures.same c.ask.ensures.call c.in-Ok.ensures.calm c.in-Ok.ensures.sent c.in-Ok.ensures.follows c.in-Ok.ensures.ground c.enter.ensures.log (ap (λ (t : TrailSeen). t.page_size) c.enter.ensures.trail) c.in_ok-make_room.ensures.few c.requires.next (sending.push_plain c.args.what c.args.node c.args.page c.requires.push) (asking.push_step (tree_in c.args.self.now) (events_in c.args.self.now) c.args.what c.args.node c.args.page c.requires.push) (sending.push_brings c.args.what c.args.node c.requires.push)) c.event_asked-2.result c.event_asked-2.ensures (ap (λ (t : TrailSeen). t.spare) c.enter.ensures.trail)
     (λ needless. c.ask.ensures.idle (λ n. needless (needs.push_needs (record { ground = g.G.Ground.seen c.self.inside.ground; tables = c.self.inside.tables; trail = c.self.inside.book.trail }) c.args.node c.args.page c.args.what c.requires.push n)))
-    (overs.push_over (record { ground = g.G.Ground.seen c.self.inside.ground; tables = c.self.inside.tables; trail = c.self.inside.book.trail }) (record { ground = g.G.Ground.seen c.ask.new.ground; tables = c.ask.new.self; trail = c.enter.new.self.trail }) c.self.invariant.sound c.args.node c.args.page c.args.what c.requires.push (subst (λ (e : EngineSeen). IsNext e (event_asked c.args.what c.args.node c.args.page)) (sym (c.self.view_is ∙ c.make_room.ensures.same)) c.requires.next) c.in-Ok.ensures.went))
+    (overs.push_over (record { ground = g.G.Ground.seen c.self.inside.ground; tables = c.self.inside.tables; trail = c.self.inside.book.trail }) (record { ground = g.G.Ground.seen c.ask.new.ground; tables = c.ask.new.self; trail = c.enter.new.self.trail }) c.self.invariant.sound c.args.node c.args.page c.args.what c.requires.push (subst (λ (e : EngineSeen). IsNext e (event_asked c.args.what c.args.node c.args.page)) (sym (c.self.view_is ∙ c.make_room.ensures.same)) c.requires.next) c.in-Ok.ensures.went c.in-Ok.ensures.carried))
 
 pub returns-in-Err-clause-idle : goal.returns-in-Err-clause-idle
 returns-in-Err-clause-idle g c = rooms.idle_room c.args.self.now _ c.args.self.now c.make_room.new.self.trail.room (c.self.view_is ∙ c.make_room.ensures.same) (event_asked c.args.what c.args.node c.args.page) (g.G.Ground.seen c.ask.new.ground)

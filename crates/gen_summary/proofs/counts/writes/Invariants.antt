@@ -1,0 +1,6 @@
+use Rattle.std.proofs.Common.{◌≡◌, take, map}
+use Rattle.gen_summary.specs.Summary.{is_write, answered}
+use Rattle.gen_summary.proofs.counts.writes.Given as goal
+
+abbrev pub invariant-loop-one : goal.invariant-loop-one
+invariant-loop-one l = l.total ≡ answered is_write l.lines (map (λ v. v.items) (take l.one-index l.said))

@@ -1,0 +1,7 @@
+pub mod ShapeLaws
+pub mod AimLaws
+pub mod NameLaws
+pub mod CallLaws
+pub mod PhaseLaws
+pub mod ScriptLaws
+pub mod DrawLaws
