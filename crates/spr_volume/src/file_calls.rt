@@ -53,10 +53,7 @@ pub(crate) fn access<G: Ground, R: Wait, T: Gate>(
                 let place = hold.place;
                 return Ok(Answered { answer, place });
             }
-            Moved::Stepped { event } => {
-                gate.between(caller, file, &event);
-                patience.step(hold.nodes);
-            }
+            Moved::Stepped { event } => gate.between(caller, file, &event),
             Moved::Busy { .. } => patience.pause(),
         }
     }
@@ -92,10 +89,7 @@ pub(crate) fn sync<G: Ground, R: Wait, T: Gate>(
                 let place = hold.place;
                 return Ok(Answered { answer, place });
             }
-            Moved::Stepped { event } => {
-                gate.between(caller, file, &event);
-                patience.step(hold.nodes);
-            }
+            Moved::Stepped { event } => gate.between(caller, file, &event),
             Moved::Busy { .. } => patience.pause(),
         }
     }
@@ -130,10 +124,7 @@ pub(crate) fn end<G: Ground, R: Wait, T: Gate>(
                 let place = hold.place;
                 return Ok(Answered { answer, place });
             }
-            Moved::Stepped { event } => {
-                gate.between(caller, file, &event);
-                patience.step(hold.nodes);
-            }
+            Moved::Stepped { event } => gate.between(caller, file, &event),
             Moved::Busy { .. } => patience.pause(),
         }
     }

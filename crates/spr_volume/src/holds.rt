@@ -26,8 +26,6 @@ use std::sync::Wait;
 pub(crate) struct Hold {
     /// How many events there were when the hold began.
     pub(crate) place: u64,
-    /// How many nodes the tree of the layers has.
-    pub(crate) nodes: u32,
     /// How far the call got.
     pub(crate) moved: Result<Moved, StepErr>,
 }
@@ -55,16 +53,11 @@ pub(crate) fn hold_access<G: Ground, R: Wait>(
 {
     let mut file = lock.take(rt, seat);
     let place = file.place();
-    let nodes = file.nodes();
     let moved = file.try_access(caller, node, life, op, out);
     // The proof reads here that the answers are the plain file's, and that the messages are needed.
     file.sound();
     lock.give(seat, file);
-    Hold {
-        place,
-        nodes,
-        moved,
-    }
+    Hold { place, moved }
 }
 
 /// Tries a sync of a caller from a place on, in one hold.
@@ -89,16 +82,11 @@ pub(crate) fn hold_sync<G: Ground, R: Wait>(
 {
     let mut file = lock.take(rt, seat);
     let place = file.place();
-    let nodes = file.nodes();
     let moved = file.try_sync(caller, node, from, keep);
     // The proof reads here that the answers are the plain file's, and that the messages are needed.
     file.sound();
     lock.give(seat, file);
-    Hold {
-        place,
-        nodes,
-        moved,
-    }
+    Hold { place, moved }
 }
 
 /// Tries the end of a layer's channels for a caller, in one hold.
@@ -121,16 +109,11 @@ pub(crate) fn hold_end<G: Ground, R: Wait>(
 {
     let mut file = lock.take(rt, seat);
     let place = file.place();
-    let nodes = file.nodes();
     let moved = file.try_end(caller, node, end);
     // The proof reads here that the answers are the plain file's, and that the messages are needed.
     file.sound();
     lock.give(seat, file);
-    Hold {
-        place,
-        nodes,
-        moved,
-    }
+    Hold { place, moved }
 }
 
 /// Tells how many events there are, in a hold that enters none.
