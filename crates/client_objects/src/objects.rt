@@ -1,12 +1,12 @@
 //! A client's open objects.
 
-ghost use Rattle.std.specs.Prelude.{◌≡◌, ◌<◌, ℕ, List, [], Some, IsSome, IfSome, IfOk, IfErr, OnOk, OnErr, length};
+ghost use Rattle.std.specs.Prelude.{◌≡◌, ◌<◌, ℕ, List, [], Some, IsSome, IfSome, IfOk, IfErr, IsTrue, OnOk, OnErr, length};
 ghost use Rattle.std.specs.List.{AllByRecursion};
 ghost use Rattle.std.specs.Option.{option_map};
 ghost use Rattle.client_objects.specs.declared.target.Target.{Target};
 ghost use Rattle.name_context.specs.Names.{kept_object};
 ghost use Rattle.client_objects.specs.Objects.{OpenObject, IsOnStack, object_of, with_object, with_target, without, word_of};
-ghost use Rattle.text_words.specs.Words.{path_of};
+ghost use Rattle.text_words.specs.Words.{is_path_word, path_of};
 ghost use Rattle.client_objects.specs.Reconnected.{IsReconnectable, reconnected};
 ghost use Rattle.client_objects.specs.Stored.{received, received_word};
 ghost use Rattle.client_objects.specs.Found.{found_on, IsChosen};
@@ -42,6 +42,18 @@ impl Model for Objects {
     ghost view = { λ o. seen o.domain o.entries.items };
 
     ghost invariant = { λ o. AreHeld o.domain o.entries.items };
+}
+
+/// The path that a path's word is. An error is that memory ran out.
+#[tactic(auto, unfolding(text_words::specs::Words::path_of))]
+fn path_in(alloc: Global, word: &[u8]) -> Result<Path, AllocError>
+    requires { IsTrue (is_path_word word.now) }
+    ensures { IfOk result (λ path. path_of word.now ≡ Some path) }
+{
+    match read_path(alloc, word)? {
+        Some(path) => Ok(path),
+        None => unreachable!(),
+    }
 }
 
 impl Objects {
@@ -99,14 +111,14 @@ impl Objects {
     }
 
     /// The path that the reconnectable object of a name was bound under. An error is that memory ran out.
-    pub fn path(&self, alloc: Global, name: &Text) -> Result<Option<Path>, AllocError>
-        requires { IsSome (object_of name.now self.now) }
-        ensures { IfOk result (λ path. path ≡ path_of (word_of name.now self.now)) }
+    pub fn path(&self, alloc: Global, name: &Text) -> Result<Path, AllocError>
+        requires { IsReconnectable (object_of name.now self.now) }
+        ensures { IfOk result (λ path. path_of (word_of name.now self.now) ≡ Some path) }
     {
         let Some(place) = place_of(&self.entries, name) else {
             unreachable!();
         };
-        read_path(alloc, self.entries[place].object.name.as_str().as_bytes())
+        path_in(alloc, self.entries[place].object.name.as_str().as_bytes())
     }
 
     /// Lets the reconnectable object of a name lead to another view and file, of this life. Its identifier stays, and it takes no

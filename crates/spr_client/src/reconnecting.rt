@@ -237,7 +237,7 @@ pub(crate) fn reconnecting<R: Wait, G: Ground, T: Gate>(
     ensures on { IsOnMachine common.now.mount.now client.new.state }
     ensures same { client.new ≡ record client.old { state = client.new.state } }
 {
-    let Ok(Some(path)) = client.state.objects.path(alloc, name) else {
+    let Ok(path) = client.state.objects.path(alloc, name) else {
         return Reply::Memory;
     };
     tried(
