@@ -1,5 +1,5 @@
 -- The text of a generated run, without the lines of the stores that are lost and of the status.
-use Rattle.std.specs.Prelude.{ℕ, ◌-◌, ◌&&◌, nat_le, List, [], ◌∷◌, ◌++◌, length, codes, count_by, sum, sum_by, slice_get, Bool, true, false, if◌then◌else◌, Option, Some, None}
+use Rattle.std.specs.Prelude.{ℕ, ◌-◌, ◌&&◌, nat_le, List, [], ◌∷◌, ◌++◌, length, codes, count_by, sum, sum_by, slice_get, Bool, true, false, if◌then◌else◌, Option, None}
 use Rattle.std.specs.Option.{option_map_or}
 use Rattle.std.specs.Fmt.{decimal}
 use Rattle.hist_plain.specs.File.{Counted}

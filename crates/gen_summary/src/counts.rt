@@ -1,6 +1,6 @@
 //! How many calls were answered.
 
-ghost use Rattle.std.specs.Prelude.{◌≡◌, ◌<◌, ◌^◌, count_by, map};
+ghost use Rattle.std.specs.Prelude.{◌≡◌, count_by, map};
 ghost use Rattle.std.specs.Option.{option_copied};
 ghost use Rattle.gen_summary.specs.Summary.{is_read, is_write, is_answered, first_of, line_numbered, answers, answered};
 
@@ -85,25 +85,23 @@ fn writes_of(lines: &[CallLine], said: &[Said]) -> usize
 }
 
 /// How many reads of a phase were answered.
-pub(crate) fn reads(lines: &[CallLine], said: &[Vec<Said>]) -> u64
-    requires { answered is_read lines.now (map (λ v. v.items) said.now) < 2 ^ 64 }
+pub(crate) fn reads(lines: &[CallLine], said: &[Vec<Said>]) -> u128
     ensures { result ≡ answered is_read lines.now (map (λ v. v.items) said.now) }
 {
     let mut total = 0;
     for one in said {
-        total += reads_of(lines, one) as u64;
+        total += reads_of(lines, one) as u128;
     }
     total
 }
 
 /// How many writes of a phase were answered.
-pub(crate) fn writes(lines: &[CallLine], said: &[Vec<Said>]) -> u64
-    requires { answered is_write lines.now (map (λ v. v.items) said.now) < 2 ^ 64 }
+pub(crate) fn writes(lines: &[CallLine], said: &[Vec<Said>]) -> u128
     ensures { result ≡ answered is_write lines.now (map (λ v. v.items) said.now) }
 {
     let mut total = 0;
     for one in said {
-        total += writes_of(lines, one) as u64;
+        total += writes_of(lines, one) as u128;
     }
     total
 }

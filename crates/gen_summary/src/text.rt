@@ -1,9 +1,9 @@
 //! The text.
 
-ghost use Rattle.std.specs.Prelude.{◌≡◌, ◌<◌, ◌^◌, ◌∷◌, ◌++◌, [], IfOk, OnOk, map};
+ghost use Rattle.std.specs.Prelude.{◌≡◌, ◌<◌, ◌^◌, ◌∷◌, ◌++◌, [], IfOk, OnOk, length, map};
 ghost use Rattle.std.specs.Fmt.{decimal};
 ghost use Rattle.text_words.specs.Lines.{line_of};
-ghost use Rattle.gen_summary.specs.Summary.{is_read, is_write, answered, sum_of, summary};
+ghost use Rattle.gen_summary.specs.Summary.{summary};
 
 use crate::bytes::sum_of;
 use crate::counts::{reads, writes};
@@ -14,7 +14,7 @@ use std::alloc::{AllocError, Global};
 use text_words::put_line;
 
 /// Appends a line of a word and a number.
-fn put_count(out: &mut Vec<u8>, word: &[u8], count: u64) -> Result<(), AllocError>
+fn put_count(out: &mut Vec<u8>, word: &[u8], count: u128) -> Result<(), AllocError>
     ensures { OnOk result (out.new.items ≡ out.old.items ++ line_of (word.now ∷ decimal count ∷ [])) }
 {
     let mut buffer = Buffer::new();
@@ -30,13 +30,11 @@ pub fn summary(
     said: &[Vec<Said>],
     files: &[Plain],
 ) -> Result<Vec<u8>, AllocError>
-    requires bytes { sum_of files.now < 2 ^ 64 }
-    requires reads { answered is_read calls.now (map (λ v. v.items) said.now) < 2 ^ 64 }
-    requires writes { answered is_write calls.now (map (λ v. v.items) said.now) < 2 ^ 64 }
+    requires { length files.now < 2 ^ 32 }
     ensures { IfOk result (λ text. text.items ≡ summary calls.now (map (λ v. v.items) said.now) files.now) }
 {
     let mut out = Vec::new(alloc);
-    put_count(&mut out, b"calls", calls.len() as u64)?;
+    put_count(&mut out, b"calls", calls.len() as u128)?;
     put_count(&mut out, b"reads", reads(calls, said))?;
     put_count(&mut out, b"writes", writes(calls, said))?;
     put_count(&mut out, b"bytes", sum_of(files))?;

@@ -2,3 +2,4 @@ pub mod OpsCauses
 pub mod OwnNumbers
 pub mod Missing
 pub mod SoFar
+pub mod GeneratedLaws

@@ -6,9 +6,11 @@ use Rattle.spr_io.specs.Texts.{ShelfSeen}
 use Rattle.run_texts.specs.declared.interfaces.TheConstants.{IDL_LIMIT}
 use Rattle.run_texts.specs.declared.refusal.Refusal.{Refusal}
 use Rattle.run_texts.specs.declared.refusal.Refusal.TheVariants as refusals
-use Rattle.run_texts.specs.Stacks.{IsText, SameTexts}
+use Rattle.stack_accept.specs.Mount.{Mount}
+use Rattle.run_texts.specs.Stacks.{IsText, IsMounted, SameTexts}
 use Rattle.run_texts.specs.Interfaces.{HasInterfaces, RefusesOps, IsOpsCause}
-use Rattle.run_texts.specs.Refusal.{Names, IsRunCause, IsCause}
+use Rattle.run_texts.specs.Refusal.{Names, IsStackCause, IsRunCause, IsCause}
+use Rattle.run_texts.specs.Generated.{Generation, IsGenerationCause}
 
 module _ (before after : ShelfSeen) (idl text : List ℕ) (calm : after.faults ≡ before.faults) (is : IsText before IDL_LIMIT idl text) where
   ops-cause : (why : Refusal) → RefusesOps text why → IsOpsCause before after idl why
@@ -47,3 +49,21 @@ pub behind-interfaces : (before mid after : ShelfSeen) (names : Names) (ops : Op
     → IsRunCause mid after names.stack names.script why → IsCause before after names why
 behind-interfaces before mid after names ops has same calm why h =
     behind before after names ops has why (subst (λ (s : ShelfSeen). IsRunCause s after names.stack names.script why) (same-shelf before mid same calm) h)
+
+-- where the script is made, it is that of the stack
+stack-behind : (before after : ShelfSeen) (asked : Generation) (ops : Ops) → HasInterfaces before asked.idl ops → (why : Refusal) → IsStackCause before after asked.stack why → IsGenerationCause before after asked why
+stack-behind before after asked ops has (refusals.Idl place why) h = absurd h.1.2
+stack-behind before after asked ops has (refusals.IdlUnfit place why) h = absurd h.1.2
+stack-behind before after asked ops has (refusals.IdlMissing which) h = absurd h.1.2
+stack-behind before after asked ops has refusals.IdlShelf h = absurd h.1.2
+stack-behind before after asked ops has refusals.Memory h = h
+stack-behind before after asked ops has refusal h = ((ops, has), h)
+
+pub stack-behind-interfaces : (before mid after : ShelfSeen) (asked : Generation) (ops : Ops) → HasInterfaces before asked.idl ops → SameTexts before mid → mid.faults ≡ before.faults → (why : Refusal)
+    → IsStackCause mid after asked.stack why → IsGenerationCause before after asked why
+stack-behind-interfaces before mid after asked ops has same calm why h =
+    stack-behind before after asked ops has why (subst (λ (s : ShelfSeen). IsStackCause s after asked.stack why) (same-shelf before mid same calm) h)
+
+-- the stack is the one that the shelf had first
+pub mounted-before : (before mid : ShelfSeen) (name : List ℕ) (mount : Mount) → SameTexts before mid → mid.faults ≡ before.faults → IsMounted mid name mount → IsMounted before name mount
+mounted-before before mid name mount same calm is = subst (λ (s : ShelfSeen). IsMounted s name mount) (same-shelf before mid same calm) is

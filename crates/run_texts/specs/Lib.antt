@@ -5,3 +5,4 @@ pub mod Refusal
 pub mod OperationNames
 pub mod Order
 pub mod Found
+pub mod Generated

@@ -2,6 +2,7 @@
 //! and why a text is refused.
 #![tactic(auto)]
 
+mod generated;
 mod interfaces;
 mod known;
 mod operation_names;
@@ -10,6 +11,7 @@ mod refusal;
 mod stacks;
 mod texts;
 
+pub use generated::read_generated;
 pub use interfaces::{IDL_LIMIT, read_tables};
 pub use known::unknown_line;
 pub use operation_names::operation_name;

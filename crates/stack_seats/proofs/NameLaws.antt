@@ -1,6 +1,6 @@
 -- What the lines of a text mount has names that are names.
-use Rattle.std.proofs.Common.{◌≡◌, ℕ, ◌&&◌, List, [], ◌∷◌, ◌++◌, map, Bool, true, false, cond, Option, Some, None, refl}
-use Rattle.std.specs.List.{AllByRecursion, filter, filter_map, find, fold, list_any}
+use Rattle.std.proofs.Common.{ℕ, ◌&&◌, List, [], ◌∷◌, ◌++◌, Bool, true, false, cond, Some}
+use Rattle.std.specs.List.{AllByRecursion, filter, filter_map, fold, list_any}
 use Rattle.std.specs.Option.{option_to_list}
 use Rattle.std.specs.Str.{bytes_eq}
 use Rattle.text_words.specs.Words.{IsName}
@@ -9,7 +9,7 @@ use Rattle.stack_text.specs.declared.stack.StackLine.TheVariants.{Page, File, La
 use Rattle.stack_text.specs.Grammar.{IsStackLine}
 use Rattle.stack_accept.specs.Lines.{machine_of, is_named, is_storage}
 use Rattle.stack_accept.specs.Rules.{is_node}
-use Rattle.stack_accept.specs.Mount.{file_of, node_of, nodes_of, node_lines, ground_line, ground_name, machines_of, with_machine, mounted}
+use Rattle.stack_accept.specs.Mount.{file_of, node_of, node_lines, ground_line, ground_name, machines_of, with_machine, mounted}
 use Rattle.stack_seats.specs.Seats.{AreNames}
 use Rattle.stack_seats.proofs.Lists.{all-append, all-filter, all-found}
 

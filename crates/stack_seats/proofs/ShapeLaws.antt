@@ -1,20 +1,17 @@
 -- The shape of a mounted stack is within the limits.
-use Rattle.std.proofs.Common.{◌≡◌, ℕ, zero, suc, ◌+◌, ◌<◌, ◌≤◌, List, [], ◌∷◌, length, map, drop, get_or, Bool, true, false, cond, Option, Some, None, refl, sym, ap, subst, ◌∙◌, arith, rules}
-use Rattle.std.specs.Prelude.{slice_get}
+use Rattle.std.proofs.Common.{◌≡◌, ℕ, zero, suc, ◌<◌, ◌≤◌, List, [], ◌∷◌, length, map, drop, get_or, Bool, true, false, cond, refl, sym, subst, arith}
+use Rattle.std.specs.Prelude.{Contains}
 use Rattle.std.specs.List.{AllByRecursion}
 use Rattle.std.proofs.lemmas.List.{length-map}
 use Rattle.text_words.specs.Words.{IsName}
-use Rattle.script_gen.specs.declared.shape.ShapeFile.{ShapeFile}
-use Rattle.script_gen.specs.declared.shape.ShapeSeat.{ShapeSeat}
 use Rattle.script_gen.specs.Shape.{IsShape, IsFile, IsSeat}
-use Rattle.stack_accept.specs.declared.entries.Kind.{Kind}
 use Rattle.stack_accept.specs.declared.entries.Kind.TheVariants as kinds
 use Rattle.stack_accept.specs.declared.entries.FileEntry.{FileEntry}
 use Rattle.stack_accept.specs.declared.entries.NodeEntry.{NodeEntry}
 use Rattle.stack_accept.specs.Mount.{Mount}
 use Rattle.stack_accept.specs.Sound.{IsMount, IsInLimits}
 use Rattle.stack_accept.specs.Check.{machine_name}
-use Rattle.stack_seats.specs.Seats.{AreNames, is_manager, node_name, view_name, seat_of, seats_of, file_of, shape_of}
+use Rattle.stack_seats.specs.Seats.{AreNames, AreOnMachines, is_manager, node_name, seat_of, seats_of, file_of, shape_of}
 use Rattle.stack_seats.proofs.Lists.{all-from}
 
 files-are : (files : List FileEntry) → AllByRecursion (λ file. IsInLimits file.pages) files → AllByRecursion (λ file. IsName file.name) files → AllByRecursion IsFile (map file_of files)
@@ -95,3 +92,22 @@ shape-is mount is names =
       some_seat = omega arith;
       seats = seats-good mount (drop 1 mount.nodes) names (placed mount is names);
     }
+
+machine-in : (machines : List (List ℕ)) (number : ℕ) → number < length machines → Contains machines (machine_name machines number)
+machine-in [] number lt = absurd (omega arith)
+machine-in (m ∷ machines) zero lt = (0, omega arith, refl)
+machine-in (m ∷ machines) (suc number) lt =
+    let rest = machine-in machines number (omega arith) in
+    let low = rest.1 in
+    (suc rest.0, omega arith, rest.2)
+
+all-on : (mount : Mount) (nodes : List NodeEntry) → AllByRecursion (λ node. node.machine < length mount.machines) nodes → AreOnMachines mount (map (λ node. seat_of mount node) nodes)
+all-on mount [] all = tt
+all-on mount (node ∷ nodes) all = (machine-in mount.machines node.machine all.0, all-on mount nodes all.1)
+
+-- the seats are on the machines of the layers
+pub seats-on : (mount : Mount) → IsMount mount → AreOnMachines mount (seats_of mount)
+seats-on mount is = all-on mount (drop 1 mount.nodes) (all-from (λ node. node.machine < length mount.machines) (drop 1 mount.nodes) nobody (λ i lt.
+    let many = dropped-many mount.nodes is.some_layer in
+    let layer = is.layer_node (suc i) nobody (omega arith) (omega arith) in
+    subst (λ (n : NodeEntry). n.machine < length mount.machines) (sym (dropped mount.nodes i nobody)) layer.machine))

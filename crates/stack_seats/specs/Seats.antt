@@ -1,5 +1,5 @@
 -- The seats of a mounted stack, and its shape.
-use Rattle.std.specs.Prelude.{ℕ, List, [], drop, map, slice_get, Bool, true, false, if◌then◌else◌}
+use Rattle.std.specs.Prelude.{ℕ, List, [], drop, map, slice_get, Bool, true, false, if◌then◌else◌, Contains}
 use Rattle.std.specs.List.{AllByRecursion}
 use Rattle.std.specs.Option.{option_map_or}
 use Rattle.text_words.specs.Words.{IsName}
@@ -45,3 +45,7 @@ pub record AreNames (mount : Mount) : Type 0 where
   pub files : AllByRecursion (λ file. IsName file.name) mount.files
   pub nodes : AllByRecursion (λ node. IsName node.name) mount.nodes
   pub machines : AllByRecursion IsName mount.machines
+
+-- each seat is on a machine of the stack
+abbrev pub AreOnMachines : Mount → List ShapeSeat → Type 0
+AreOnMachines mount seats = AllByRecursion (λ seat. Contains mount.machines seat.machine) seats

@@ -3,7 +3,7 @@
 ghost use Rattle.std.specs.Prelude.{◌≡◌, IfOk, drop, map};
 ghost use Rattle.script_gen.specs.Shape.{IsShape};
 ghost use Rattle.stack_accept.specs.Check.{machine_name};
-ghost use Rattle.stack_seats.specs.Seats.{AreNames, is_manager, node_name, view_name, seat_of, seats_of, file_of, shape_of};
+ghost use Rattle.stack_seats.specs.Seats.{AreNames, AreOnMachines, is_manager, node_name, view_name, seat_of, seats_of, file_of, shape_of};
 
 use script_gen::{Shape, ShapeFile, ShapeSeat};
 use seen_values::{Items, Text};
@@ -105,6 +105,7 @@ pub fn shape_of(alloc: Global, mount: &Mounted) -> Result<Shape, AllocError>
     ensures value { IfOk result (λ shape. shape ≡ shape_of mount.now) }
     // It is within the limits, if the stack's names are names.
     ensures shape { AreNames mount.now → IfOk result (λ shape. IsShape shape) }
+    ensures machines { IfOk result (λ shape. AreOnMachines mount.now shape.seats) }
 {
     Ok(Shape {
         page_size: mount.page_size(),
