@@ -1,12 +1,13 @@
 -- A call that a store ended, or want of memory: what is left as it was.
-use Rattle.std.proofs.Common.{◌≡◌, ℕ, ◌<◌, List, [], ◌∷◌, ◌++◌, Err, sym, ap, subst, ◌∙◌}
+use Rattle.std.proofs.Common.{◌≡◌, inr, ℕ, ◌<◌, List, [], ◌∷◌, ◌++◌, Err, refl, sym, ap, subst, ◌∙◌}
 use Rattle.hist_plain.specs.declared.TheConstants.{MAX_EVENTS}
-use Rattle.page_ground.specs.Seen.{IsFault}
+use Rattle.page_ground.specs.Seen.{IsCalm, IsFault, Keeps, ReadsPage, Seen}
 use Rattle.tower_core.specs.declared.sheet.Sheet.{Sheet}
 use Rattle.layer_laws.specs.Side.{Side}
 use Rattle.page_exchange.specs.declared.ground.GroundErr.{GroundErr}
 use Rattle.page_exchange.specs.declared.ground.GroundErr.TheVariants as causes
 use Rattle.page_exchange.specs.Ground.{IsCalmCall, IsOneCall, UnlessFault}
+use Rattle.page_exchange.specs.declared.tables.Tables.{Tables}
 use Rattle.page_exchange.specs.Tables.{AreLeft, IsCause, IsSameFile}
 use Rattle.tower_log.specs.declared.logged.Logged.{Logged}
 use Rattle.tower_log.specs.declared.logged.Logged.TheVariants.{Noted}
@@ -14,10 +15,12 @@ use Rattle.tower_log.specs.Log.{entries_of, kept_in, place_of, trail_of}
 use Rattle.tower_log.specs.Trail.{TrailSeen}
 use Rattle.stack_engine.specs.declared.refusal.StepErr.{StepErr}
 use Rattle.stack_engine.specs.declared.refusal.StepErr.TheVariants as errors
+use Rattle.stack_engine.specs.Beside.{ReadsGround}
 use Rattle.stack_engine.specs.Engine.{EngineSeen, IsEngine, IsSound, NotesRise, events_in, log_in}
 use Rattle.stack_engine.specs.Messages.{Refuses}
 use Rattle.stack_engine.specs.Moves.{IsRefused}
 use Rattle.stack_engine.proofs.Entering.{notes_noted, notes_same, of_left, sheet_left, sound_left}
+use Rattle.stack_engine.proofs.Rooms.{refused_room, roomy}
 use Rattle.stack_engine.proofs.Logs.{entries_of-noted, kept_in-noted, trail_of-noted}
 
 -- nothing was done but one call of the ground at most
@@ -93,3 +96,26 @@ module _ (caller : ℕ) (old new : EngineSeen) (undone : IsUndone old new) (s : 
       → UnlessFault {A = Unit {0}} (Err cause) (IsCalmCall old.ground new.ground) → IsRefused caller old new err
   ground_refused (causes.Store fault) err h fails sound few calm = subst (IsRefused caller old new) (sym h.0) (noted_refused caller fault.disk fault.count old new undone h.1 (ap (λ (t : TrailSeen). t.page_size) h.2) fails sound (ap (λ (t : TrailSeen). t.spare) h.2))
   ground_refused causes.Memory err h lacks sound few calm = subst (IsRefused caller old new) (sym h.0) (lacking_refused caller old new undone h.1 sound few calm)
+
+-- A LOOK AT THE GROUND
+pub looked : (caller page : ℕ) (bytes : List ℕ) (old mid new : EngineSeen) (r : ℕ) → mid ≡ roomy old r → IsSound mid → place_of (log_in old) < MAX_EVENTS → Keeps mid.ground new.ground → new.tables ≡ mid.tables → new.trail ≡ mid.trail
+    → new.ground.pages ≡ mid.ground.pages → ReadsPage mid.ground.pages page bytes → IsCalm mid.ground new.ground → ReadsGround page bytes old new
+looked caller page bytes old mid new r is sound few keeps tables trail pages read calm =
+    let undone : IsUndone mid new = record { file = at_same_tables; left = left_tables; call = inr keeps; pages = pages } in
+    let refused : IsRefused caller old new errors.Memory = refused_room old mid new r is caller errors.Memory (lacking_refused caller mid new undone trail sound (subst (λ (e : EngineSeen). place_of (log_in e) < MAX_EVENTS) (sym is) few) (inr calm)) in
+    let ground : mid.ground ≡ old.ground = ap (λ (e : EngineSeen). e.ground) is in
+    record {
+      goes = refused.goes;
+      tables = tables ∙ ap (λ (e : EngineSeen). e.tables) is;
+      log = refused.why.0;
+      spare = refused.spare;
+      pages = refused.pages;
+      read = subst (λ (s : Seen). ReadsPage s.pages page bytes) ground read;
+      calm = subst (λ (s : Seen). IsCalm s new.ground) ground calm;
+    }
+  where
+    at_same_tables : IsSameFile mid.tables new.tables
+    at_same_tables = subst (λ (t : Tables). IsSameFile mid.tables t) (sym tables) (record { tree = refl; file = refl; machines = refl; ops = refl })
+
+    left_tables : AreLeft mid.tables new.tables
+    left_tables = subst (λ (t : Tables). AreLeft mid.tables t) (sym tables) (record { sides = λ page node. refl; uses = λ node. refl })

@@ -11,3 +11,4 @@ pub mod Turns
 pub mod Tower
 pub mod Ends
 pub mod Sight
+pub mod Beside

@@ -4,6 +4,7 @@
 #![tactic(auto)]
 
 mod accesses;
+mod beside;
 mod book;
 mod ending;
 mod ends;

@@ -15,6 +15,7 @@ ghost use Rattle.tower_shows.specs.Began.{ArePagesOf};
 ghost use Rattle.page_exchange.specs.Tables.{IsUnderFile};
 ghost use Rattle.tower_core.specs.Trail.{IsSettled};
 ghost use Rattle.stack_engine.specs.Accesses.{SparesRead, SparesTry};
+ghost use Rattle.stack_engine.specs.Beside.{ReadsGround};
 ghost use Rattle.stack_engine.specs.Engine.{IsNext, IsSound, column_in, events_in, file_in, log_in, machines_in, sides_in, state_in, tree_in, uses_in, wire_in};
 ghost use Rattle.stack_engine.specs.Messages.{NeedsDisks};
 ghost use Rattle.stack_engine.specs.Moves.{IsRefused, bytes_to};
@@ -198,6 +199,22 @@ impl<G: Ground> Tower<G> {
         ensures { self.new ≡ record self.old { turns = without_turns caller self.old.turns } }
     {
         give_up_turns(caller, &mut self.turns);
+    }
+
+    /// Reads a page from the ground for a caller: the page as the ground has it, whatever the layers have of it. Nothing is
+    /// entered. A store's failure is noted, and gives up the caller's turns, as in each call.
+    pub fn read_ground(&mut self, caller: u32, page: u32, out: &mut [u8]) -> Result<(), StepErr>
+        requires page { page < (file_in self.old.engine).pages }
+        requires size { length out.old ≡ (file_in self.old.engine).page_size }
+        ensures reads { OnOk result (ReadsGround page out.new self.old.engine self.new.engine) }
+        ensures turns { OnOk result (self.new.turns ≡ self.old.turns) }
+        ensures fails { IfErr result (Fails caller self.old self.new) }
+    {
+        let result = self.engine.read_ground(caller, page, out);
+        if result.is_err() {
+            give_up_turns(caller, &mut self.turns);
+        }
+        result
     }
 
     /// Enters one event that is allowed, for a caller: a page message, an access, the end of a sync, or the end of channels.
