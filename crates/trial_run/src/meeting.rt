@@ -1,17 +1,28 @@
-//! A gate that shows that two clients run at once.
+//! Gates at which two clients that run at once wait for each other.
 
 use hist_plain::{Event, Gate};
-use std::sync::atomic::{AtomicBool, Ordering};
+use std::sync::atomic::{AtomicBool, AtomicU32, Ordering};
 use std::thread::yield_now;
 
 /// How often a client looks at most for what another does.
 const LOOKS: u32 = 10_000_000;
 
+/// Waits until a count is that high, and tells whether it was in time.
+fn comes_in_time(count: &AtomicU32, wanted: u32) -> bool {
+    for _look in 0..LOOKS {
+        if count.load(Ordering::SeqCst) >= wanted {
+            return true;
+        }
+        yield_now();
+    }
+    false
+}
+
 /// A gate that holds the first client in its miss until the second one is in its own.
 #[derive(Drop)]
 pub struct MeetingGate {
-    /// The second client is in a miss.
-    second: AtomicBool,
+    /// How many messages the second client sent.
+    second: AtomicU32,
     /// It was not in time.
     late: AtomicBool,
 }
@@ -20,7 +31,7 @@ impl MeetingGate {
     /// A gate that nobody has come to.
     pub fn new() -> MeetingGate {
         MeetingGate {
-            second: AtomicBool::new(false),
+            second: AtomicU32::new(0),
             late: AtomicBool::new(false),
         }
     }
@@ -29,25 +40,65 @@ impl MeetingGate {
     pub fn is_late(&self) -> bool {
         self.late.load(Ordering::SeqCst)
     }
-
-    /// Waits until the second client is in a miss, and tells whether it was in time.
-    fn meets_in_time(&self) -> bool {
-        for _look in 0..LOOKS {
-            if self.second.load(Ordering::SeqCst) {
-                return true;
-            }
-            yield_now();
-        }
-        false
-    }
 }
 
 impl Gate for MeetingGate {
     fn between(&self, caller: u32, _file: u32, _event: &Event) {
         if caller == 1 {
-            self.second.store(true, Ordering::SeqCst);
+            self.second.fetch_add(1, Ordering::SeqCst);
         }
-        if caller == 0 && !self.meets_in_time() {
+        if caller == 0 && !comes_in_time(&self.second, 1) {
+            self.late.store(true, Ordering::SeqCst);
+        }
+    }
+}
+
+/// A gate of so many rounds. In each one the second client, which was granted a page, is held until the first one was granted one
+/// too; and that is held until the second one was granted its next, so that what the second one does between two misses is done in
+/// the first one's miss.
+#[derive(Drop)]
+pub struct RoundsGate {
+    rounds: u32,
+    /// How many grants the first client had.
+    first: AtomicU32,
+    /// How many grants the second client had.
+    second: AtomicU32,
+    /// One of them was not in time.
+    late: AtomicBool,
+}
+
+impl RoundsGate {
+    /// A gate of so many rounds, to which nobody has come.
+    pub fn new(rounds: u32) -> RoundsGate {
+        RoundsGate {
+            rounds,
+            first: AtomicU32::new(0),
+            second: AtomicU32::new(0),
+            late: AtomicBool::new(false),
+        }
+    }
+
+    /// Whether one client waited for the other in vain.
+    pub fn is_late(&self) -> bool {
+        self.late.load(Ordering::SeqCst)
+    }
+
+    /// Counts a client's grant, and holds the client. Tells whether the other was in time.
+    fn meets_in_time(&self, caller: u32) -> bool {
+        let (own, other, ahead) = match caller {
+            0 => (&self.first, &self.second, 2),
+            1 => (&self.second, &self.first, 1),
+            _ => return true,
+        };
+        let round = own.fetch_add(1, Ordering::SeqCst);
+        round >= self.rounds || comes_in_time(other, round.saturating_add(ahead))
+    }
+}
+
+impl Gate for RoundsGate {
+    fn between(&self, caller: u32, _file: u32, event: &Event) {
+        let is_grant = matches!(event, Event::PageIn { .. } | Event::ZeroFill { .. });
+        if is_grant && !self.meets_in_time(caller) {
             self.late.store(true, Ordering::SeqCst);
         }
     }

@@ -1,6 +1,6 @@
 //! The steps of a case: its texts and stores, the commands over them, and what these wrote.
 
-use crate::meeting::MeetingGate;
+use crate::meeting::{MeetingGate, RoundsGate};
 use crate::sinks::SinkCase;
 use crate::stores::{count_faults, look, put_store};
 use crate::texts::Texts;
@@ -88,8 +88,9 @@ impl Runs {
                 Ok(writeln!(answer, "status {status}")?)
             }
             ("meeting", words) => self.meeting(rt, words, answer),
+            ("rounds", [rounds, words @ ..]) => self.rounds(rt, rounds, words, answer),
             ("notices", []) => self.say_told(&self.notices, answer),
-            ("next" | "end" | "times" | "some" | "later" | "digits", words) => {
+            ("next" | "end" | "times" | "some" | "later" | "digits" | "answered", words) => {
                 self.looked(what, words, body, answer)
             }
             _ => self.prepared(what, words, body, answer),
@@ -116,6 +117,10 @@ impl Runs {
                 };
                 self.set_text("later", later.as_bytes())
             }
+            ("answered", [client]) => match self.written.answered(client)? {
+                Some(lines) => Ok(writeln!(answer, "{lines}")?),
+                None => Ok(writeln!(answer, "other")?),
+            },
             ("digits", [most]) => {
                 let most = number(most)? as usize;
                 Ok(say_whether(answer, self.written.has_digits(body, most))?)
@@ -256,6 +261,23 @@ impl Runs {
         let status = self.command(rt, words, &gate)?;
         let when = if gate.is_late() { "late" } else { "in time" };
         writeln!(answer, "status {status}, {when}")?;
+        Ok(())
+    }
+
+    /// `rounds N WORD ..`: what the command writes, and whether two of its clients wait for each other in so many rounds.
+    fn rounds<R: Threads + Wait + Sync>(
+        &mut self,
+        rt: &R,
+        rounds: &str,
+        words: &[&str],
+        answer: &mut String,
+    ) -> Result<(), Halt> {
+        let gate = RoundsGate::new(number(rounds)?);
+        let status = self.command(rt, words, &gate)?;
+        self.say_told(self.written.text(), answer)?;
+        self.say_status(status, answer)?;
+        let when = if gate.is_late() { "late" } else { "in time" };
+        writeln!(answer, "{when}")?;
         Ok(())
     }
 

@@ -37,6 +37,25 @@ fn digits(text: &[u8]) -> usize {
     text.iter().take_while(|byte| byte.is_ascii_digit()).count()
 }
 
+/// Whether a word is bytes in hexadecimal digits.
+fn is_bytes(word: &str) -> bool {
+    let digits = word.as_bytes();
+    !digits.is_empty()
+        && digits.len() % 2 == 0
+        && digits
+            .iter()
+            .all(|byte| matches!(byte, b'0'..=b'9' | b'a'..=b'f'))
+}
+
+/// Whether a call of this line was answered with bytes, with `done`, with a life, or with that of a life that is over.
+fn is_answered(line: &str) -> bool {
+    match line.split(' ').nth(1) {
+        Some("done" | "life" | "revoked") => true,
+        Some(word) => is_bytes(word),
+        None => false,
+    }
+}
+
 impl Written {
     /// Nothing.
     pub fn new(alloc: Global) -> Written {
@@ -82,6 +101,24 @@ impl Written {
             }
         }
         count
+    }
+
+    /// How many lines the part of a client has, if each was answered with bytes, with `done`, with a life, or with that of a life that
+    /// is over.
+    pub fn answered(&self, client: &str) -> Result<Option<usize>, AllocError> {
+        let text = String::from_utf8_lossy(self.alloc, &self.text)?;
+        let head = format!(in self.alloc; "client {client}")?;
+        let mut count = None;
+        for line in text.as_str().lines() {
+            match count {
+                None if line == head.as_str() => count = Some(0usize),
+                None => (),
+                Some(_) if line.starts_with("client ") || line.starts_with("file ") => break,
+                Some(lines) if is_answered(line) => count = Some(lines.saturating_add(1)),
+                Some(_) => return Ok(None),
+            }
+        }
+        Ok(count)
     }
 
     /// The one of two parts that stands later in the text, if both stand there.
