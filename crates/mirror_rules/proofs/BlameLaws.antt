@@ -4,7 +4,7 @@ use Rattle.std.proofs.Math.Nat.{eq-or-lt_of_le}
 use Rattle.mirror_rules.specs.Tree.{Image, Cell, Store, Blank, Down, Seat, In, Out}
 use Rattle.mirror_rules.specs.Claims.{Pairs, pairs_none, pairs_more}
 use Rattle.mirror_rules.specs.Steps.{Says, Done, Fault, faulted, written, Looked, looked_out, looked_stale, looked_same, looked_refused, Named, named_here, named_later}
-use Rattle.mirror_rules.specs.Opening.{Meets, meets_good, meets_blank, meets_bad, meets_down, Wins, wins_here, wins_later, wins_out, Only, only_here, only_later, settled, Copies, copy_same, copy_differs, copy_left, copy_gone, copy_even, copy_settled, copy_unflushed, copy_unraised, Enters, enter_end, enter_next, enter_joins, enter_gone, Fills, fill_end, fill_next, fill_gone, Makes, Unmade, unmade_blank, unmade_whole, Begun, begun, Renews, renew_next, renew_made, renew_left, renew_gone, all_but_bad, Good, Lost, LastDown, last_here, last_later, Opens, open_down, open_gone, open_unrenewed, open_again}
+use Rattle.mirror_rules.specs.Opening.{Meets, meets_good, meets_blank, meets_bad, meets_down, Wins, wins_here, wins_later, wins_out, Only, only_here, only_later, settled, Copies, copy_same, copy_differs, copy_left, copy_gone, copy_even, copy_settled, copy_unflushed, copy_unraised, Enters, enter_end, enter_next, enter_joins, enter_gone, Fills, fill_end, fill_next, fill_gone, Makes, Unmade, unmade_blank, unmade_whole, Begun, begun, Renews, renew_next, renew_made, renew_left, renew_gone, renew_end, all_but_bad, Good, Lost, LastDown, last_here, last_later, Opens, open_down, open_good, open_gone, open_unrenewed, open_again}
 use Rattle.mirror_rules.specs.Fates.{Fate, fate_old, fate_new, fate_made, faults_of, disk_of, Excused, excused_live, excused_left, excused_bad, Blamed, blamed_here, blamed_later, Calmly, calmly, Behind, behind_pages, behind_lower, behind_level}
 use Rattle.mirror_rules.proofs.PageLaws.{pairs-then}
 use Rattle.mirror_rules.proofs.RoundLaws.{pairs-map, refuses-fault}
@@ -12,8 +12,8 @@ use Rattle.mirror_rules.proofs.OpenLaws.{only-pairs}
 use Rattle.mirror_rules.proofs.GivesLaws.{way-meets}
 use Rattle.mirror_rules.proofs.LeftLaws.{opens-excused}
 
--- counts do not fall
-data Counts (s : Store) (x : Seat) : Type 0 where
+-- a disk after a store: its number, and no fewer faults
+pub data Counts (s : Store) (x : Seat) : Type 0 where
   counts : disk_of x ≡ s.disk → s.faults ≤ faults_of x → Counts s x
 
 look-counts : {a : Says} {s : Store} {x y : Seat} → Counts s x → Looked a x y → Counts s y
@@ -122,6 +122,18 @@ opens-blame (open_down h l) m = down-blame m l
 opens-blame (open_gone w e y) m = enters-blame e (wins-count w (pairs-map (λ s x. met-count) m))
 opens-blame (open_unrenewed w e r) m = renews-blame r (enters-count e (wins-count w (pairs-map (λ s x. met-count) m)))
 opens-blame (open_again w e y r) m = opens-blame r (way-meets m y.way)
+
+renews-count : {told : Bool} {g n i m : ℕ} {s : Says} {ss : List Store} {xs ys : List Seat} → Renews told g n i m xs s ys → Pairs Counts ss xs → Pairs Counts ss ys
+renews-count renew_end f = f
+renews-count (renew_next h p r) f = renews-count r f
+renews-count (renew_made h c k r) f = renews-count r (only-pairs k (λ s. make-count c) (fills-count h f))
+renews-count (renew_left q h u k r) f = renews-count r (only-pairs k (λ s. unmade-count u) (fills-count h f))
+renews-count (renew_gone h b k) f = only-pairs k (λ s. begun-count b) (fills-count h f)
+
+-- no count falls in an opening
+pub opens-count : {told : Bool} {n g : ℕ} {owed : Bool} {ss : List Store} {xs us : List Seat} → Opens told n xs (Good owed g) us → Pairs Meets ss xs → Pairs Counts ss us
+opens-count (open_good w e r) m = renews-count r (enters-count e (wins-count w (pairs-map (λ s x. met-count) m)))
+opens-count (open_again w e y r) m = opens-count r (way-meets m y.way)
 
 -- an opening in which no store refused a call leaves no disk out but those that were found bad
 calm-all : {ss : List Store} {us : List Seat} → Pairs Excused ss us → Pairs Calmly ss us → all_but_bad us ≡ true
