@@ -9,10 +9,9 @@ ghost use Rattle.run_phases.specs.Phases.{IsReady, PhaseDone};
 ghost use Rattle.run_phases.specs.Workers.{AreReady, HaveRoom};
 
 use crate::worker::Worker;
-use hist_plain::Gate;
 use page_ground::Ground;
 use script_text::CallLine;
-use spr_client::{Common, do_lines};
+use spr_client::{Common, LineGate, do_lines};
 use spr_volume::{Pass, Volume};
 use std::alloc::Global;
 use std::mem::replace;
@@ -27,7 +26,7 @@ pub(crate) struct Part<G: Ground> {
 }
 
 /// Does a client's lines of a phase.
-fn run_worker<R: Wait, G: Ground, T: Gate>(
+fn run_worker<R: Wait, G: Ground, T: LineGate>(
     rt: &R,
     alloc: Global,
     common: &Common<'_, G, T>,
@@ -54,7 +53,7 @@ fn run_worker<R: Wait, G: Ground, T: Gate>(
 
 /// Does the lines of a phase for clients that take turns with one pass: those of the first client, and then those of the others. Their
 /// numbers begin with `first`.
-fn run_in_turn<R: Wait, G: Ground, T: Gate>(
+fn run_in_turn<R: Wait, G: Ground, T: LineGate>(
     rt: &R,
     alloc: Global,
     common: &Common<'_, G, T>,
@@ -168,7 +167,7 @@ fn rejoin<G: Ground>(volume: &Volume<G>, low: Part<G>, high: Part<G>) -> Part<G>
 
 /// Does the lines of a phase for the part in a slot.
 #[cycle(parts)]
-fn run_slot<R: Threads + Wait + Sync, G: Ground + Send, T: Gate>(
+fn run_slot<R: Threads + Wait + Sync, G: Ground + Send, T: LineGate>(
     rt: &R,
     alloc: Global,
     common: &Common<'_, G, T>,
@@ -191,7 +190,7 @@ fn run_slot<R: Threads + Wait + Sync, G: Ground + Send, T: Gate>(
 
 /// Does the lines of a phase for two parts, each on a thread of its own.
 #[cycle(parts)]
-fn run_halves<R: Threads + Wait + Sync, G: Ground + Send, T: Gate>(
+fn run_halves<R: Threads + Wait + Sync, G: Ground + Send, T: LineGate>(
     rt: &R,
     alloc: Global,
     common: &Common<'_, G, T>,
@@ -221,7 +220,7 @@ fn run_halves<R: Threads + Wait + Sync, G: Ground + Send, T: Gate>(
 
 /// Does the lines of a phase for the clients of a part, at once. If memory runs out for their passes, they take turns.
 #[cycle(parts)]
-pub(crate) fn run_part<R: Threads + Wait + Sync, G: Ground + Send, T: Gate>(
+pub(crate) fn run_part<R: Threads + Wait + Sync, G: Ground + Send, T: LineGate>(
     rt: &R,
     alloc: Global,
     common: &Common<'_, G, T>,

@@ -8,11 +8,10 @@ ghost use Rattle.run_phases.specs.Workers.{HaveRoom, IsSilent};
 
 use crate::parts::{Part, run_part};
 use crate::worker::Worker;
-use hist_plain::Gate;
 use page_ground::Ground;
 use script_text::CallLine;
 use seen_values::Items;
-use spr_client::Common;
+use spr_client::{Common, LineGate};
 use spr_volume::Pass;
 use std::alloc::Global;
 use std::sync::Wait;
@@ -20,7 +19,7 @@ use std::thread::Threads;
 
 /// Does all phases of a script, one after another, for the clients from 0 on, with the pass of all callers, which comes back. The room for the
 /// answers is there, so each line gets its answer: one for which memory lacks is answered so.
-pub fn run_phases<R: Threads + Wait + Sync, G: Ground + Send, T: Gate>(
+pub fn run_phases<R: Threads + Wait + Sync, G: Ground + Send, T: LineGate>(
     rt: &R,
     alloc: Global,
     common: &Common<'_, G, T>,

@@ -8,6 +8,7 @@ mod calls;
 mod client;
 mod ending;
 mod files;
+mod gate;
 mod line;
 mod lines;
 mod mapping;
@@ -18,5 +19,6 @@ mod reconnecting;
 
 pub use calls::sync_at;
 pub use client::{Client, Common, perform};
+pub use gate::LineGate;
 pub use line::{refused, reply_to};
 pub use lines::{do_lines, lines_in, run_phase};

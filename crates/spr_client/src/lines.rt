@@ -6,7 +6,7 @@ ghost use Rattle.spr_client.specs.Calls.{MayCall};
 ghost use Rattle.spr_client.specs.Lines.{AreCalls, IsOnMachine, LinesDone};
 
 use crate::client::{Client, Common, perform};
-use hist_plain::Gate;
+use crate::gate::LineGate;
 use page_ground::Ground;
 use pager_channel::Ops;
 use script_text::{CallLine, Said};
@@ -17,7 +17,7 @@ use std::sync::Wait;
 
 /// Does a client's lines among those of a phase, in their order, and keeps the answers behind those that are there. The room for them
 /// is there, so no line goes without its answer: one for which memory lacks is answered so.
-pub fn do_lines<R: Wait, G: Ground, T: Gate>(
+pub fn do_lines<R: Wait, G: Ground, T: LineGate>(
     rt: &R,
     alloc: Global,
     common: &Common<'_, G, T>,
@@ -43,6 +43,7 @@ pub fn do_lines<R: Wait, G: Ground, T: Gate>(
                 line: line.line,
                 reply,
             });
+            common.gate.after_line(client.caller);
         }
     }
 }
@@ -56,7 +57,7 @@ pub fn lines_in(lines: &[CallLine], client: u32) -> usize
 
 /// Does a client's lines among those of a phase, in their order, over a volume of the stack's files and names, and gives the answers, one for each
 /// line. The room for the answers is made first: if memory runs out for it, the client does nothing.
-pub fn run_phase<R: Wait, G: Ground, T: Gate>(
+pub fn run_phase<R: Wait, G: Ground, T: LineGate>(
     rt: &R,
     alloc: Global,
     volume: &Volume<G>,
