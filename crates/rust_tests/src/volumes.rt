@@ -2,6 +2,8 @@
 //! volumes and their passes may cross threads.
 
 ghost use Rattle.std.specs.Prelude.{◌≡◌, ◌<◌, ◌≤◌, IfOk};
+ghost use Rattle.tower_core.specs.TreeShape.{IsUpper};
+ghost use Rattle.stack_engine.specs.Engine.{tree_in};
 ghost use Rattle.rust_tests.specs.Sample.{HasOne, IsFor, IsSmall};
 
 use hist_lock::{HistLock, Seat};
@@ -345,18 +347,25 @@ fn others_act_during_a_miss(rt: HostRuntime) -> Result<(), Fail> {
     Ok(())
 }
 
+/// The tower of the three layers, for callers to share.
+fn shared(alloc: Global) -> Result<SharedTower<Ram>, Fail>
+    ensures lower { IfOk result (λ s. IsUpper (tree_in s.began.engine) 1) }
+{
+    let tower = tower(alloc)?;
+    Ok(SharedTower::new(tower))
+}
+
 /// Tries an open of the lower layer.
 fn open(shared: &mut SharedTower<Ram>) -> Result<Moved, StepErr>
+    requires lower { IsUpper (tree_in shared.old.began.engine) 1 }
     ensures began { shared.new.began ≡ shared.old.began }
 {
-    if shared.nodes() <= LOWER {
-        return Err(StepErr::Memory);
-    }
     shared.try_access(0, LOWER, 0, &Op::Open, &mut [])
 }
 
 /// Tries so many opens, one at least, and gives how far the last one got.
 fn open_often(shared: &mut SharedTower<Ram>, times: u64) -> Result<Moved, StepErr>
+    requires lower { IsUpper (tree_in shared.old.began.engine) 1 }
     ensures began { shared.new.began ≡ shared.old.began }
 {
     for _time in 1..times {
@@ -378,7 +387,7 @@ fn is_opened(moved: &Result<Moved, StepErr>) -> bool {
 /// A trail that has all events that it may have takes none, and tells so.
 #[test]
 fn a_full_trail(rt: HostRuntime) -> Result<(), Fail> {
-    let mut shared = SharedTower::new(tower(rt.alloc())?);
+    let mut shared = shared(rt.alloc())?;
     let last = open_often(&mut shared, MAX_EVENTS);
     let more = open(&mut shared);
     let place = shared.place();

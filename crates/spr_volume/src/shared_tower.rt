@@ -5,7 +5,7 @@ ghost use Rattle.hist_plain.specs.declared.event.Answer.TheVariants.{Done as ADo
 ghost use Rattle.hist_plain.specs.Event.{fits_page};
 ghost use Rattle.hist_plain.specs.History.{mine};
 ghost use Rattle.hist_plain.specs.Plain.{asked_by};
-ghost use Rattle.tower_core.specs.TreeShape.{IsUpper, nodes};
+ghost use Rattle.tower_core.specs.TreeShape.{IsUpper};
 ghost use Rattle.tower_log.specs.Log.{place_of};
 ghost use Rattle.stack_engine.specs.Engine.{IsSound, events_in, file_in, tree_in};
 ghost use Rattle.stack_engine.specs.Ended.{EndNeedsDisks};
@@ -104,13 +104,6 @@ impl<G: Ground> SharedTower<G> {
         ensures { result ≡ place_of (log_of self.now) }
     {
         self.tower.len()
-    }
-
-    /// How many nodes the tree of the layers has, the ground among them.
-    pub fn nodes(&self) -> u32
-        ensures { result ≡ nodes (tree_in self.now.began.engine) }
-    {
-        self.tower.tree().nodes()
     }
 
     /// Tries an access of a caller at a layer, of a life of it, with the caller's next number. If it is allowed it is made, and

@@ -1,7 +1,7 @@
 //! A tower that callers share, over file 0 of pages of 64 bytes on disk 0: a step's lines are calls of several callers.
 
-ghost use Rattle.std.specs.Prelude.{◌≡◌, IsTrue};
-ghost use Rattle.tower_core.specs.TreeShape.{IsUpper};
+ghost use Rattle.std.specs.Prelude.{◌≡◌};
+ghost use Rattle.tower_core.specs.TreeShape.{IsUpper, nodes};
 ghost use Rattle.stack_engine.specs.Engine.{file_in, tree_in};
 
 use crate::calls::{Act, Call, call_of};
@@ -21,11 +21,11 @@ type Shared = SharedTower<Ram>;
 /// More tries than a call needs.
 const MANY: u32 = 9;
 
-/// Whether the node is a layer of the tower.
-fn has_layer(shared: &Shared, node: u32) -> bool
-    ensures { IsTrue result → IsUpper (tree_in shared.now.began.engine) node }
-{
-    0 < node && node < shared.nodes()
+/// The shape of a tower that callers share: its file, and how many nodes it has, the ground among them.
+#[derive(Clone, Copy)]
+struct Size {
+    file: PagedFile,
+    nodes: u32,
 }
 
 /// How many bytes a call reads.
@@ -39,20 +39,21 @@ fn asked_by(act: &Act) -> usize {
 /// One try of a call; a sync is from a place on.
 fn try_once(
     shared: &mut Shared,
-    file: PagedFile,
+    size: Size,
     call: &Call,
     from: u64,
     out: &mut [u8],
 ) -> Result<Result<Moved, StepErr>, Halt>
-    requires file { file_in shared.old.began.engine ≡ file }
+    requires file { file_in shared.old.began.engine ≡ size.file }
+    requires nodes { nodes (tree_in shared.old.began.engine) ≡ size.nodes }
     ensures began { shared.new.began ≡ shared.old.began }
 {
-    if !has_layer(shared, call.node) {
+    if call.node == 0 || call.node >= size.nodes {
         return Err(Halt::Impossible);
     }
     match &call.act {
         Act::Access { op, life } => {
-            if !fits(op, file.page_size, file.pages) || out.len() != asked(op) {
+            if !fits(op, size.file.page_size, size.file.pages) || out.len() != asked(op) {
                 return Err(Halt::Impossible);
             }
             Ok(shared.try_access(call.caller, call.node, *life, op, out))
@@ -69,33 +70,35 @@ fn try_once(
 /// Tries a call until it ends, or until another caller is before it, but at most so many times.
 fn tried(
     shared: &mut Shared,
-    file: PagedFile,
+    size: Size,
     call: &Call,
     tries: u32,
     out: &mut [u8],
 ) -> Result<Result<Moved, StepErr>, Halt>
-    requires file { file_in shared.old.began.engine ≡ file }
+    requires file { file_in shared.old.began.engine ≡ size.file }
+    requires nodes { nodes (tree_in shared.old.began.engine) ≡ size.nodes }
     ensures began { shared.new.began ≡ shared.old.began }
 {
     let from = shared.place();
     for _time in 1..tries {
-        match try_once(shared, file, call, from, out)? {
+        match try_once(shared, size, call, from, out)? {
             Ok(Moved::Stepped { .. }) => {}
             ended => return Ok(ended),
         }
     }
-    try_once(shared, file, call, from, out)
+    try_once(shared, size, call, from, out)
 }
 
 /// Does a line: `call CALL`, or `try CALL`, which is one try of it. Tells how far it got, and how many events there are then.
 fn do_line(
     alloc: Global,
     shared: &mut Shared,
-    file: PagedFile,
+    size: Size,
     line: &str,
     answer: &mut String,
 ) -> Result<(), Halt>
-    requires file { file_in shared.old.began.engine ≡ file }
+    requires file { file_in shared.old.began.engine ≡ size.file }
+    requires nodes { nodes (tree_in shared.old.began.engine) ≡ size.nodes }
     ensures began { shared.new.began ≡ shared.old.began }
 {
     let words = words_of(alloc, line)?;
@@ -106,7 +109,7 @@ fn do_line(
     };
     let call = call_of(alloc, call)?;
     let mut out = vec![in alloc; 0u8; asked_by(&call.act)]?;
-    let moved = tried(shared, file, &call, tries, &mut out)?;
+    let moved = tried(shared, size, &call, tries, &mut out)?;
     put_moved(alloc, &moved, &out, answer)?;
     Ok(writeln!(answer, ", {} events", shared.place())?)
 }
@@ -115,14 +118,15 @@ fn do_line(
 fn do_lines(
     alloc: Global,
     shared: &mut Shared,
-    file: PagedFile,
+    size: Size,
     text: &str,
     answer: &mut String,
 ) -> Result<(), Halt>
-    requires file { file_in shared.old.began.engine ≡ file }
+    requires file { file_in shared.old.began.engine ≡ size.file }
+    requires nodes { nodes (tree_in shared.old.began.engine) ≡ size.nodes }
 {
     for line in text.lines() {
-        do_line(alloc, shared, file, line, answer)?;
+        do_line(alloc, shared, size, line, answer)?;
     }
     Ok(())
 }
@@ -139,10 +143,13 @@ pub fn shared_step(
     let (fails_at, words) = refused_write(words)?;
     let (pages, tree) = pages_and_tree(words)?;
     let tower = tower_of(alloc, tree, pages, fails_at)?;
-    let file = tower.file();
+    let size = Size {
+        file: tower.file(),
+        nodes: tower.tree().nodes(),
+    };
     let mut shared = SharedTower::new(tower);
-    let done = do_lines(alloc, &mut shared, file, text.as_str(), answer);
-    let (things, nodes) = (shared.len(), shared.nodes());
+    let done = do_lines(alloc, &mut shared, size, text.as_str(), answer);
+    let (things, nodes) = (shared.len(), size.nodes);
     let (mut disk, _trail) = shared.into_tower().close();
     done?;
     write!(answer, "{things} things, {nodes} nodes, disk ")?;
