@@ -18,3 +18,6 @@ pub mod PlayLaws
 pub mod StopLaws
 pub mod RunLaws
 pub mod HeadlineLaws
+pub mod BeginLaws
+pub mod LastLaws
+pub mod SumLaws

@@ -51,6 +51,7 @@ use Rattle.run_files.specs.Held.{AreFiles, AreMade, AreEnded, IsTaken, Opens, Op
 use Rattle.run_files.specs.Play.{IsClosed, IsUnwritten, ArePlayed, IsWhole, unnamed}
 use Rattle.run_files.specs.Leaves.{LeavesFile}
 use Rattle.run_files.specs.Run.{IsOfFile, AreOfFiles, start_of, Played, SaysRun, reported, ran_out}
+use Rattle.run_files.specs.Shut.{HasStores}
 use Rattle.run_files.specs.Told.{Tells}
 use Rattle.run_files.proofs.HeldLaws.{opens-length, opens-at, made-at, ended-at, ended-length, shut-length, shut-at, length-logs}
 use Rattle.run_files.proofs.TowerLaws.{back-at, log_at-tower, same-number}
@@ -123,7 +124,7 @@ pub number-news : (mount : Mount) (before after : List TowerSeen) (olds news : L
 number-news mount before after olds news run =
     shut-length 0 after news run.shut ∙ (same-number run.end before after run.back ∙ opens-length mount olds before run.opened)
 
-file-run : (mount : Mount) (before after : List TowerSeen) (olds news : List FileSeen) (k : ℕ) (f g : FileSeen) (run : IsRunOver mount before after olds news) → slice_get olds k ≡ Some f → slice_get news k ≡ Some g → (r : FileRun mount after k f g) × (r.notices ≡ get_or run.told k [])
+pub file-run : (mount : Mount) (before after : List TowerSeen) (olds news : List FileSeen) (k : ℕ) (f g : FileSeen) (run : IsRunOver mount before after olds news) → slice_get olds k ≡ Some f → slice_get news k ≡ Some g → (r : FileRun mount after k f g) × (r.notices ≡ get_or run.told k [])
 file-run mount before after olds news k f g run is at =
     let within = slice_get_within olds k f is in
     let many = opens-length mount olds before run.opened in
@@ -180,19 +181,19 @@ module _ (mount : Mount) (after : List TowerSeen) (k : ℕ) (f g : FileSeen) (r 
       (leaves-of mount f g closing r.opens.made r.notices u0 u1 r.t0.engine e1 r.is engine-run r.opens.over r.opens.under_sound (disks-later mount f.file (seen_under u0) (seen_under u1) r.t0.engine e1 engine-run) r.shut.left r.shut.under_sound whole r.opens.each r.close)
 
   -- its log
-  file-log : StandsByFirst mount.tree → IsOfFile mount k (log_of (logs after) k)
+  pub file-log : StandsByFirst mount.tree → IsOfFile mount k (log_of (logs after) k)
   file-log first = subst (λ (l : List Logged). IsOfFile mount k l) log-at
       (subst (λ n. IsOfFile mount n (log_in e1)) r.file
       (of-file mount f.file (seen_under u0) (seen_under u1) r.t0.engine e1 engine-run first (length f.stores) (file-number mount f r.is) (few-disks mount (log_in e1) f g u0 u1 r.is turn)))
 
-over-pairs : (mount : Mount) (before after : List TowerSeen) (olds news : List FileSeen) → IsRunOver mount before after olds news → AreFilePairs Lasts olds news
+pub over-pairs : (mount : Mount) (before after : List TowerSeen) (olds news : List FileSeen) → IsRunOver mount before after olds news → AreFilePairs Lasts olds news
 over-pairs mount before after olds news run file f g was is = file-pairs mount after file f g (file-run mount before after olds news file f g run was is).0
 
 -- THE RUN IS OVER
 module _ (mount : Mount) (closer : ℕ) (before after : List TowerSeen) (olds news : List FileSeen) (closing : List Reply) (run : IsRunOver mount before after olds news)
     (closed : (file : ℕ) (t : TowerSeen) → slice_get closing file ≡ Some Done → slice_get after file ≡ Some t → IsClosed closer t) where
   -- the stores that were taken came back, but for those that are lost
-  are-back : (old mid new : BaySeen) (lost : List StoreKey) → IsTaken mount old mid (stores_of mount) (stores_in olds) → AreGiven mount mid new (stores_in news) lost
+  pub are-back : (old mid new : BaySeen) (lost : List StoreKey) → IsTaken mount old mid (stores_of mount) (stores_in olds) → AreGiven mount mid new (stores_in news) lost
       → Returned mount old new (stores_of mount) lost (StandsAt (stores_in olds) (stores_in news))
   are-back old mid new lost taken given =
       let calm = taken.calm in
@@ -200,7 +201,7 @@ module _ (mount : Mount) (closer : ℕ) (before after : List TowerSeen) (olds ne
       (returned-of mount old mid new (stores_in olds) (stores_in news) lost (StandsAt (stores_in olds) (stores_in news)) taken.out (omega (arith, calm))
       (became-files olds news (number-news mount before after olds news run) (over-pairs mount before after olds news run)) given)
 
-  leaves : (file : ℕ) (f g : FileSeen) → slice_get olds file ≡ Some f → slice_get news file ≡ Some g → LeavesFile mount (slice_get closing file) (log_of (logs after) file) f g (get_or run.told file [])
+  pub leaves : (file : ℕ) (f g : FileSeen) → slice_get olds file ≡ Some f → slice_get news file ≡ Some g → LeavesFile mount (slice_get closing file) (log_of (logs after) file) f g (get_or run.told file [])
   leaves file f g was is =
       let found = file-run mount before after olds news file f g run was is in
       let r = found.0 in
@@ -233,6 +234,9 @@ news-keys mount before after olds news run =
 pub news-short : (mount : Mount) (before after : List TowerSeen) (olds news : List FileSeen) → IsRunOver mount before after olds news → (at : ℕ) (f : FileSeen) → slice_get news at ≡ Some f → length f.stores < 2 ^ 32
 news-short mount before after olds news run =
     short-after Lasts mount olds news run.of.each (number-news mount before after olds news run) (over-pairs mount before after olds news run)
+
+pub has-stores : (mount : Mount) (before after : List TowerSeen) (olds news : List FileSeen) → IsRunOver mount before after olds news → HasStores mount news
+has-stores mount before after olds news run = record { keys = news-keys mount before after olds news run; short = news-short mount before after olds news run }
 
 reported-is : (mount : Mount) (file : FileEntry) (e : EngineSeen) → IsSound e → tree_in e ≡ mount.tree → (file_in e).page_size ≡ mount.page_size → (file_in e).pages ≡ file.pages → IsReported mount file (log_in e)
 reported-is mount file e sound tree size many = record {
@@ -267,7 +271,7 @@ starts-are end (t ∷ ts) (u ∷ us) back none =
     ap (λ (l : List Logged). l ∷ logs ts) none.0 ∙ ap (λ (ls : List (List Logged)). start_of (log_in u.engine) ∷ ls) (starts-are end ts us back.1 none.1)
 
 -- the run of the files
-played-over : (mount : Mount) (script : Script) (before mid after : BaySeen) (towers towers_after : List TowerSeen) (names : NamesSeen) (olds news : List FileSeen) (lost : List StoreKey) (said : List (List Said)) (closing : List Reply)
+pub played-over : (mount : Mount) (script : Script) (before mid after : BaySeen) (towers towers_after : List TowerSeen) (names : NamesSeen) (olds news : List FileSeen) (lost : List StoreKey) (said : List (List Said)) (closing : List Reply)
     → IsMount mount → IsTaken mount before mid (stores_of mount) (stores_in olds) → (run : IsRunOver mount towers towers_after olds news) → ArePlayed mount script towers towers_after names said closing → AreGiven mount mid after (stores_in news) lost
     → Played mount script before after (record { logs = logs towers_after; names = names }) said closing lost (all_notices mount run.told)
 played-over mount script before mid after towers towers_after names olds news lost said closing is_mount taken run played given =
@@ -286,6 +290,13 @@ played-over mount script before mid after towers towers_after names olds news lo
       fits = subst (λ (ls : List (List Logged)). FitsScript mount script (record { logs = ls; names = unnamed mount }) (record { logs = logs towers_after; names = names }) said closing) (starts-are run.end towers towers_after run.back unwritten) (played.fits (shut-numbered 0 towers_after news run.shut));
       answered = played.answered;
     }
+
+-- its files are those that were taken
+pub played-olds : (mount : Mount) (script : Script) (before mid after : BaySeen) (towers towers_after : List TowerSeen) (names : NamesSeen) (olds news : List FileSeen) (lost : List StoreKey) (said : List (List Said)) (closing : List Reply)
+    → (is_mount : IsMount mount) → (taken : IsTaken mount before mid (stores_of mount) (stores_in olds)) → (run : IsRunOver mount towers towers_after olds news) → (played : ArePlayed mount script towers towers_after names said closing) → (given : AreGiven mount mid after (stores_in news) lost)
+    → (played-over mount script before mid after towers towers_after names olds news lost said closing is_mount taken run played given).olds ≡ olds
+unfolding played-over
+played-olds mount script before mid after towers towers_after names olds news lost said closing is_mount taken run played given = refl
 
 -- the run, by what was written of it
 pub run-over : (mount : Mount) (script : Script) (traced : Option Ops) (before mid after : BaySeen) (towers towers_after : List TowerSeen) (names : NamesSeen) (olds news : List FileSeen) (lost : List StoreKey) (said : List (List Said)) (closing : List Reply)

@@ -6,5 +6,10 @@ pub mod Room
 pub mod Leaves
 pub mod Run
 pub mod Told
+pub mod Beginning
+pub mod Lasting
+pub mod Shut
+pub mod Sums
+pub mod Wanted
 pub mod Promise
 pub mod Headline

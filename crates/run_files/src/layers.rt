@@ -8,7 +8,7 @@ use std::alloc::{AllocError, Global};
 use tower_core::Tree;
 
 /// The parent of each node.
-fn parents_of(alloc: Global, tree: &Tree) -> Result<Vec<u32>, AllocError>
+pub(crate) fn parents_of(alloc: Global, tree: &Tree) -> Result<Vec<u32>, AllocError>
     ensures { IfOk result (λ parents. parents.items ≡ tree.now.parents) }
 {
     let mut parents = Vec::new(alloc);

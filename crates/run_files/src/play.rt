@@ -12,13 +12,12 @@ ghost use Rattle.run_files.specs.Room.{HasAnswerRoom};
 
 use crate::room::Asked;
 use client_objects::start_names;
-use hist_plain::Gate;
 use name_context::Names;
 use page_ground::Ground;
 use pager_channel::Ops;
 use run_phases::{Worker, close_files, run_phases};
 use script_text::{Reply, Said, Script};
-use spr_client::Common;
+use spr_client::{Common, LineGate};
 use spr_volume::{Pass, Volume};
 use stack_accept::Mounted;
 use stack_engine::Tower;
@@ -47,7 +46,7 @@ fn gather(clients: Vec<Worker>, said: &mut Vec<Vec<Said>>)
 
 /// Runs the phases of a script over a volume and then the closing syncs, which the caller after the last client makes. The room for
 /// the answers is there.
-fn play_over<R: Threads + Wait + Sync, G: Ground + Send, T: Gate>(
+fn play_over<R: Threads + Wait + Sync, G: Ground + Send, T: LineGate>(
     rt: &R,
     alloc: Global,
     common: &Common<'_, G, T>,
@@ -86,7 +85,7 @@ fn play_over<R: Threads + Wait + Sync, G: Ground + Send, T: Gate>(
 
 /// Runs a script over the files and the names of a stack: its clients phase by phase, each on a thread of its own, and then the closing
 /// syncs. The room for the answers is there. For want of memory all towers are handed back, and nothing was run.
-pub(crate) fn play<R: Threads + Wait + Sync, G: Ground + Send, T: Gate>(
+pub(crate) fn play<R: Threads + Wait + Sync, G: Ground + Send, T: LineGate>(
     rt: &R,
     alloc: Global,
     mount: &Mounted,

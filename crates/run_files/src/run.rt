@@ -1,6 +1,6 @@
 //! A run over the files of a stack: their stores are taken, opened, run over and given back, and the report is written.
 
-ghost use Rattle.std.specs.Prelude.{◌≡◌, ◌<◌, ◌^◌, [], List, get_or, length, map};
+ghost use Rattle.std.specs.Prelude.{◌≡◌, [], List, length, map};
 ghost use Rattle.std.specs.List.{AllByRecursion};
 ghost use Rattle.script_text.specs.Grammar.{IsScript};
 ghost use Rattle.stack_accept.specs.Sound.{IsMount};
@@ -9,50 +9,57 @@ ghost use Rattle.spr_report.specs.Tracing.{AreReported};
 ghost use Rattle.spr_client.specs.Calls.{AreOfStack};
 ghost use Rattle.spr_client.specs.Lines.{AreCalls};
 ghost use Rattle.file_stores.specs.Keys.{EachAt, AreStores, stores_of};
-ghost use Rattle.file_stores.specs.Held.{AreGiven, IsRoom, keys_of};
+ghost use Rattle.file_stores.specs.Held.{IsRoom};
 ghost use Rattle.file_stores.specs.Files.{FileSeen, stores_in};
-ghost use Rattle.spr_report.specs.Writing.{Writes};
-ghost use Rattle.file_stores.specs.Notices.{all_notices};
 ghost use Rattle.file_stores.specs.Written.{Written, WrittenBeside};
 ghost use Rattle.stack_engine.specs.Tower.{TowerSeen};
 ghost use Rattle.run_files.specs.Held.{AreFiles, AreMade, Halts, IsTaken, OpensEach};
 ghost use Rattle.run_files.specs.Play.{ArePlayed};
 ghost use Rattle.run_files.specs.Room.{HasAnswerRoom};
 ghost use Rattle.run_files.specs.Run.{SaysRun, traced_by};
+ghost use Rattle.run_files.specs.Sums.{SaysSum};
+ghost use Rattle.run_files.specs.Wanted.{SaysWanted};
 ghost use Rattle.run_files.specs.Told.{Tells, Stopped};
 
 use crate::ended::status_of;
 use crate::held::{close_towers, open_files, put_rest};
 use crate::play::{Answers, play};
 use crate::room::{Asked, Files, Shelves, room_for_answers, room_for_stores};
-use file_stores::{
-    FileStores, Held, Stop, by_file, finish_lost, give_back, put_files, stopped, take_stores,
-    write_notices,
-};
-use hist_plain::Gate;
-use mirror_layer::Notice;
+use crate::shut::{give_files, shut_files};
+use crate::sums::sum_open;
+use file_stores::{FileStores, Stop, by_file, finish_lost, give_back, stopped, take_stores};
 use name_context::Names;
 use pager_channel::Ops;
-use run_defs::StoreKey;
 use script_text::Script;
-use spr_io::{Bay, Failed, Sink};
+use spr_client::LineGate;
+use spr_io::{Bay, Sink};
 use spr_report::{Run, Status, finish, report};
 use stack_accept::Mounted;
 use std::alloc::{AllocError, Global};
 use std::sync::Wait;
 use std::thread::Threads;
 
+/// What is written of a run.
+#[derive(Clone, Copy, Debug)]
+pub(crate) enum Wanted {
+    /// The report.
+    Report {
+        /// Whether the page messages are traced.
+        trace: bool,
+    },
+    /// How many calls were answered, and the sum of the bytes at the end.
+    Sum,
+}
+
 /// What a run is given.
 #[derive(Clone, Copy)]
-struct Given<'a> {
+pub(crate) struct Given<'a> {
     /// The mounted stack.
-    mount: &'a Mounted,
+    pub mount: &'a Mounted,
     /// The script.
-    script: &'a Script,
+    pub script: &'a Script,
     /// The number of each operation of the page messages.
-    ops: &'a Ops,
-    /// Whether the page messages are traced.
-    trace: bool,
+    pub ops: &'a Ops,
 }
 
 /// The numbers of the operations, if the page messages are traced.
@@ -75,54 +82,11 @@ fn tell<K: Sink>(alloc: Global, run: &Run<'_>, status: Status, sink: &mut K) -> 
     }
 }
 
-/// What is told of the disks of a file.
-fn notices_of(files: &[Vec<Option<Notice>>], file: u32) -> &[Option<Notice>]
-    ensures { result.now ≡ get_or (map (λ f. f.items) files.now) file [] }
-{
-    match files.get(file as usize) {
-        Some(notices) => notices,
-        None => &[],
-    }
-}
-
-/// Writes what is told of the disks of each file.
-fn tell_notices<N: Sink>(
-    sink: &mut N,
-    mount: &Mounted,
-    files: &[Vec<Option<Notice>>],
-) -> Result<(), Failed>
-    ensures { Writes (N.told sink.old) (N.told sink.new) (all_notices mount.now (map (λ f. f.items) files.now)) result }
-{
-    for file in 0..mount.files().len() as u32 {
-        write_notices(sink, mount, file, notices_of(files, file))?;
-    }
-    Ok(())
-}
-
-/// Gives the stores of closed files back, in the order in which they came.
-fn give_files<B: Bay>(
-    mount: &Mounted,
-    bay: &mut B,
-    closed: Vec<FileStores<B::Store>>,
-    back: Vec<Held<B::Store>>,
-    lost: &mut Vec<StoreKey>,
-)
-    requires keys { keys_of (stores_in closed.items) ≡ stores_of mount.now }
-    requires stores { AreStores mount.now (stores_of mount.now) }
-    requires short { EachAt (λ at f. length f.stores < 2 ^ 32) closed.items }
-    requires back { IsRoom (length (stores_of mount.now)) back }
-    requires lost { IsRoom (length (stores_of mount.now)) lost.old }
-    ensures { AreGiven mount.now (B.told bay.old) (B.told bay.new) (stores_in closed.items) lost.new.items }
-{
-    let mut stores = back;
-    put_files(closed, &mut stores);
-    give_back(mount, bay, stores, lost);
-}
-
 /// Closes the files that the script was run over, gives their stores back, tells of their disks, and writes the report.
 fn end_run<B: Bay, K: Sink, N: Sink>(
     alloc: Global,
     given: &Given<'_>,
+    trace: bool,
     bay: &mut B,
     sink: &mut K,
     notices: &mut N,
@@ -144,28 +108,15 @@ fn end_run<B: Bay, K: Sink, N: Sink>(
     requires lost { IsRoom (length (stores_of given.now.mount.now)) files.lost }
     ensures ended { (before : BaySeen) (olds : List FileSeen) (begun : List TowerSeen) → IsTaken given.now.mount.now before (B.told bay.old) (stores_of given.now.mount.now) (stores_in olds) → AreFiles given.now.mount.now olds → OpensEach given.now.mount.now olds begun
         → AreMade given.now.mount.now olds begun (map (λ m. m.items) files.made.items) → ArePlayed given.now.mount.now given.now.script.now begun files.towers.items names (map (λ v. v.items) answers.said.items) answers.closing.items
-        → WrittenBeside (SaysRun given.now.mount.now given.now.script.now (traced_by given.now.ops.now given.now.trace) before (B.told bay.new)) (K.told sink.old) (K.told sink.new) (N.told notices.old) (N.told notices.new) result }
+        → WrittenBeside (SaysRun given.now.mount.now given.now.script.now (traced_by given.now.ops.now trace) before (B.told bay.new)) (K.told sink.old) (K.told sink.new) (N.told notices.old) (N.told notices.new) result }
 {
-    let Files {
-        towers,
-        made,
-        mut closed,
-        mut trails,
-        notices: mut told,
-        back,
-        mut lost,
-        ..
-    } = files;
-    close_towers(towers, made, &mut closed, &mut trails, &mut told);
-    give_files(given.mount, bay, closed, back, &mut lost);
-    // That the sink of notices fails changes nothing else.
-    let _ = tell_notices(notices, given.mount, &told);
+    let (trails, lost) = shut_files(given.mount, bay, notices, files);
     let run = Run {
         mount: given.mount,
         script: given.script,
         logs: &trails,
         names: &names,
-        traced: traced_by(given.ops, given.trace),
+        traced: traced_by(given.ops, trace),
         said: &answers.said,
         closing: &answers.closing,
         lost: &lost,
@@ -212,10 +163,11 @@ fn return_all<B: Bay, K: Sink>(
 
 /// Runs the script over the open files, closes them and gives their stores back, and writes the report. If memory runs out before
 /// that, the script is not run.
-fn run_open<R: Threads + Wait + Sync, B: Bay, K: Sink, N: Sink, T: Gate>(
+fn run_open<R: Threads + Wait + Sync, B: Bay, K: Sink, N: Sink, T: LineGate>(
     rt: &R,
     alloc: Global,
     given: &Given<'_>,
+    trace: bool,
     bay: &mut B,
     sink: &mut K,
     notices: &mut N,
@@ -238,7 +190,7 @@ fn run_open<R: Threads + Wait + Sync, B: Bay, K: Sink, N: Sink, T: Gate>(
     requires lost { IsRoom (length (stores_of given.now.mount.now)) files.lost }
     ensures ended { (before : BaySeen) (olds : List FileSeen) → IsTaken given.now.mount.now before (B.told bay.old) (stores_of given.now.mount.now) (stores_in olds) → AreFiles given.now.mount.now olds
         → OpensEach given.now.mount.now olds files.towers.items → AreMade given.now.mount.now olds files.towers.items (map (λ m. m.items) files.made.items)
-        → WrittenBeside (SaysRun given.now.mount.now given.now.script.now (traced_by given.now.ops.now given.now.trace) before (B.told bay.new)) (K.told sink.old) (K.told sink.new) (N.told notices.old) (N.told notices.new) result }
+        → WrittenBeside (SaysRun given.now.mount.now given.now.script.now (traced_by given.now.ops.now trace) before (B.told bay.new)) (K.told sink.old) (K.told sink.new) (N.told notices.old) (N.told notices.new) result }
 {
     let Files {
         towers,
@@ -271,7 +223,9 @@ fn run_open<R: Threads + Wait + Sync, B: Bay, K: Sink, N: Sink, T: Gate>(
                 back,
                 lost,
             };
-            end_run(alloc, given, bay, sink, notices, files, names, answers)
+            end_run(
+                alloc, given, trace, bay, sink, notices, files, names, answers,
+            )
         }
         Err(towers) => {
             let files = Files {
@@ -289,11 +243,50 @@ fn run_open<R: Threads + Wait + Sync, B: Bay, K: Sink, N: Sink, T: Gate>(
     }
 }
 
-/// Opens the files over the stores that were taken, runs the script over them, gives the stores back, and writes how that ended.
-fn run_taken<R: Threads + Wait + Sync, B: Bay, K: Sink, N: Sink, T: Gate>(
+/// Runs the script over the open files, and writes of it what is wanted.
+fn run_as_wanted<R: Threads + Wait + Sync, B: Bay, K: Sink, N: Sink, T: LineGate>(
     rt: &R,
     alloc: Global,
     given: &Given<'_>,
+    wanted: Wanted,
+    bay: &mut B,
+    sink: &mut K,
+    notices: &mut N,
+    files: Files<B::Store>,
+    asked: Asked,
+    gate: &T,
+) -> Status
+    requires mount { IsMount given.now.mount.now }
+    requires script { IsScript given.now.script.now }
+    requires calls { AllByRecursion (AreCalls given.now.mount.now) given.now.script.now.phases }
+    requires answers { HasAnswerRoom given.now.mount.now given.now.script.now asked }
+    requires stores { AreStores given.now.mount.now (stores_of given.now.mount.now) }
+    requires opened { (olds : List FileSeen) × AreFiles given.now.mount.now olds × OpensEach given.now.mount.now olds files.towers.items × AreMade given.now.mount.now olds files.towers.items (map (λ m. m.items) files.made.items) }
+    requires made { length files.made.items ≡ length files.towers.items }
+    requires rest { files.rest.items ≡ [] }
+    requires closed { IsRoom (length given.now.mount.now.files) files.closed }
+    requires trails { IsRoom (length given.now.mount.now.files) files.trails }
+    requires told { IsRoom (length given.now.mount.now.files) files.notices }
+    requires back { IsRoom (length (stores_of given.now.mount.now)) files.back }
+    requires lost { IsRoom (length (stores_of given.now.mount.now)) files.lost }
+    ensures ended { (before : BaySeen) (olds : List FileSeen) → IsTaken given.now.mount.now before (B.told bay.old) (stores_of given.now.mount.now) (stores_in olds) → AreFiles given.now.mount.now olds
+        → OpensEach given.now.mount.now olds files.towers.items → AreMade given.now.mount.now olds files.towers.items (map (λ m. m.items) files.made.items)
+        → WrittenBeside (SaysWanted given.now.mount.now given.now.script.now given.now.ops.now wanted before (B.told bay.new)) (K.told sink.old) (K.told sink.new) (N.told notices.old) (N.told notices.new) result }
+{
+    match wanted {
+        Wanted::Report { trace } => run_open(
+            rt, alloc, given, trace, bay, sink, notices, files, asked, gate,
+        ),
+        Wanted::Sum => sum_open(rt, alloc, given, bay, sink, notices, files, asked, gate),
+    }
+}
+
+/// Opens the files over the stores that were taken, runs the script over them, gives the stores back, and writes how that ended.
+fn run_taken<R: Threads + Wait + Sync, B: Bay, K: Sink, N: Sink, T: LineGate>(
+    rt: &R,
+    alloc: Global,
+    given: &Given<'_>,
+    wanted: Wanted,
     bay: &mut B,
     sink: &mut K,
     notices: &mut N,
@@ -316,7 +309,7 @@ fn run_taken<R: Threads + Wait + Sync, B: Bay, K: Sink, N: Sink, T: Gate>(
     requires told { IsRoom (length given.now.mount.now.files) files.notices }
     requires back { IsRoom (length (stores_of given.now.mount.now)) files.back }
     requires lost { IsRoom (length (stores_of given.now.mount.now)) files.lost }
-    ensures ended { (before : BaySeen) → IsTaken given.now.mount.now before (B.told bay.old) (stores_of given.now.mount.now) (stores_in parts.items) → WrittenBeside (SaysRun given.now.mount.now given.now.script.now (traced_by given.now.ops.now given.now.trace) before (B.told bay.new)) (K.told sink.old) (K.told sink.new) (N.told notices.old) (N.told notices.new) result }
+    ensures ended { (before : BaySeen) → IsTaken given.now.mount.now before (B.told bay.old) (stores_of given.now.mount.now) (stores_in parts.items) → WrittenBeside (SaysWanted given.now.mount.now given.now.script.now given.now.ops.now wanted before (B.told bay.new)) (K.told sink.old) (K.told sink.new) (N.told notices.old) (N.told notices.new) result }
 {
     let mut files = files;
     match open_files(
@@ -328,16 +321,19 @@ fn run_taken<R: Threads + Wait + Sync, B: Bay, K: Sink, N: Sink, T: Gate>(
         &mut files.made,
         &mut files.rest,
     ) {
-        Ok(()) => run_open(rt, alloc, given, bay, sink, notices, files, asked, gate),
+        Ok(()) => run_as_wanted(
+            rt, alloc, given, wanted, bay, sink, notices, files, asked, gate,
+        ),
         Err(stop) => return_all(given.mount, bay, sink, files, stop),
     }
 }
 
 /// Takes the stores of the files, opens them and runs the script over them, gives the stores back, and writes how that ended.
-fn run_all<R: Threads + Wait + Sync, B: Bay, K: Sink, N: Sink, T: Gate>(
+fn run_all<R: Threads + Wait + Sync, B: Bay, K: Sink, N: Sink, T: LineGate>(
     rt: &R,
     alloc: Global,
     given: &Given<'_>,
+    wanted: Wanted,
     bay: &mut B,
     sink: &mut K,
     notices: &mut N,
@@ -362,7 +358,7 @@ fn run_all<R: Threads + Wait + Sync, B: Bay, K: Sink, N: Sink, T: Gate>(
     requires told { IsRoom (length given.now.mount.now.files) shelves.files.notices }
     requires back { IsRoom (length shelves.keys.items) shelves.files.back }
     requires lost { IsRoom (length shelves.keys.items) shelves.files.lost }
-    ensures { WrittenBeside (SaysRun given.now.mount.now given.now.script.now (traced_by given.now.ops.now given.now.trace) (B.told bay.old) (B.told bay.new)) (K.told sink.old) (K.told sink.new) (N.told notices.old) (N.told notices.new) result }
+    ensures { WrittenBeside (SaysWanted given.now.mount.now given.now.script.now given.now.ops.now wanted (B.told bay.old) (B.told bay.new)) (K.told sink.old) (K.told sink.new) (N.told notices.old) (N.told notices.new) result }
 {
     let Shelves {
         keys,
@@ -375,7 +371,7 @@ fn run_all<R: Threads + Wait + Sync, B: Bay, K: Sink, N: Sink, T: Gate>(
         Ok(()) => {
             by_file(given.mount, taken, rooms, &mut parts);
             run_taken(
-                rt, alloc, given, bay, sink, notices, parts, files, asked, gate,
+                rt, alloc, given, wanted, bay, sink, notices, parts, files, asked, gate,
             )
         }
         Err(stop) => {
@@ -386,6 +382,33 @@ fn run_all<R: Threads + Wait + Sync, B: Bay, K: Sink, N: Sink, T: Gate>(
     }
 }
 
+/// Takes the stores of the files of a stack, opens them and runs a script over them, gives the stores back, and writes how that
+/// ended. All room for that but the text's is made first.
+fn run_as<R: Threads + Wait + Sync, B: Bay, K: Sink, N: Sink, T: LineGate>(
+    rt: &R,
+    alloc: Global,
+    given: &Given<'_>,
+    wanted: Wanted,
+    bay: &mut B,
+    sink: &mut K,
+    notices: &mut N,
+    gate: &T,
+) -> Status
+    requires script { IsScript given.now.script.now }
+    requires calls { AllByRecursion (AreCalls given.now.mount.now) given.now.script.now.phases }
+    ensures { WrittenBeside (SaysWanted given.now.mount.now given.now.script.now given.now.ops.now wanted (B.told bay.old) (B.told bay.new)) (K.told sink.old) (K.told sink.new) (N.told notices.old) (N.told notices.new) result }
+{
+    let Ok(asked) = room_for_answers(alloc, given.mount, given.script) else {
+        return stopped(sink, given.mount, Stop::Memory, &[]);
+    };
+    let Ok(shelves) = room_for_stores(alloc, given.mount) else {
+        return stopped(sink, given.mount, Stop::Memory, &[]);
+    };
+    run_all(
+        rt, alloc, given, wanted, bay, sink, notices, shelves, asked, gate,
+    )
+}
+
 /// Runs a script over the files of a stack: takes their stores, opens the files, runs the phases and the closing syncs, gives the
 /// stores back, and writes the report and the status. All room for that but the report's is made first.
 ///
@@ -393,7 +416,7 @@ fn run_all<R: Threads + Wait + Sync, B: Bay, K: Sink, N: Sink, T: Gate>(
 /// fails, nothing else changes.
 ///
 /// The order of the steps and the texts are this project's own.
-pub fn run_files<R: Threads + Wait + Sync, B: Bay, K: Sink, N: Sink, T: Gate>(
+pub fn run_files<R: Threads + Wait + Sync, B: Bay, K: Sink, N: Sink, T: LineGate>(
     rt: &R,
     alloc: Global,
     mount: &Mounted,
@@ -409,17 +432,31 @@ pub fn run_files<R: Threads + Wait + Sync, B: Bay, K: Sink, N: Sink, T: Gate>(
     requires calls { AllByRecursion (AreCalls mount.now) script.now.phases }
     ensures says { WrittenBeside (SaysRun mount.now script.now (traced_by ops.now trace) (B.told bay.old) (B.told bay.new)) (K.told sink.old) (K.told sink.new) (N.told notices.old) (N.told notices.new) result }
 {
-    let Ok(asked) = room_for_answers(alloc, mount, script) else {
-        return stopped(sink, mount, Stop::Memory, &[]);
-    };
-    let Ok(shelves) = room_for_stores(alloc, mount) else {
-        return stopped(sink, mount, Stop::Memory, &[]);
-    };
-    let given = Given {
-        mount,
-        script,
-        ops,
-        trace,
-    };
-    run_all(rt, alloc, &given, bay, sink, notices, shelves, asked, gate)
+    let given = Given { mount, script, ops };
+    let wanted = Wanted::Report { trace };
+    run_as(rt, alloc, &given, wanted, bay, sink, notices, gate)
+}
+
+/// Runs a script over the files of a stack as `run_files` does, and writes a sum in place of the report: how many calls of the
+/// second phase were answered, and the sum of all bytes of all files at the end. For that all pages of each file are read when all
+/// files are open, and its log is played on them at the end. A page that cannot be read ends the run before the script.
+///
+/// The order of the steps and the texts are this project's own.
+pub fn sum_files<R: Threads + Wait + Sync, B: Bay, K: Sink, N: Sink, T: LineGate>(
+    rt: &R,
+    alloc: Global,
+    mount: &Mounted,
+    script: &Script,
+    ops: &Ops,
+    bay: &mut B,
+    sink: &mut K,
+    notices: &mut N,
+    gate: &T,
+) -> Status
+    requires script { IsScript script.now }
+    requires calls { AllByRecursion (AreCalls mount.now) script.now.phases }
+    ensures says { WrittenBeside (SaysSum mount.now script.now (B.told bay.old) (B.told bay.new)) (K.told sink.old) (K.told sink.new) (N.told notices.old) (N.told notices.new) result }
+{
+    let given = Given { mount, script, ops };
+    run_as(rt, alloc, &given, Wanted::Sum, bay, sink, notices, gate)
 }

@@ -1,4 +1,5 @@
 pub mod SoundLaws
+pub mod ImageLaws
 pub mod NumberLaws
 pub mod SittingLaws
 pub mod LastingLaws

@@ -2,6 +2,7 @@
 use Rattle.std.proofs.Common.{◌≡◌, ◌⊎◌, ⊎_elim, inl, inr, ℕ, zero, suc, ◌-◌, ◌^◌, ◌<◌, ◌≤◌, ◌==◌, Bool, true, false, cond, List, [], ◌∷◌, ◌++◌, length, Option, Some, None, refl, sym, ap, subst, ◌∙◌, arith}
 use Rattle.std.specs.Prelude.{◌||◌, slice_get, filter, Err, Ok, Result, IfSome, take, unwrap_or}
 use Rattle.std.proofs.lemmas.Bool.{eq-eqb}
+use Rattle.std.proofs.lemmas.Bool.Decides.{nat_tests}
 use Rattle.std.specs.List.{AllByRecursion, list_any, list_all}
 use Rattle.std.specs.Option.{option_map}
 use Rattle.std.proofs.lemmas.Option.{slice_get_within}
@@ -55,7 +56,7 @@ use Rattle.vmm_space.specs.Spaces.{has_region, refusal, translation, without_reg
 use Rattle.run_defs.specs.declared.store.StoreKey.{StoreKey}
 use Rattle.run_defs.specs.Log.{Histories, IsFull, Item, by_caller, entered, items, items_from, log_at, noted, who}
 use Rattle.client_objects.specs.declared.kind.ObjectKind.{ObjectKind}
-use Rattle.run_defs.specs.Plan.{Ask, Asks, Goes, Made, NamesAsk, NamesTold, Plan, Refuses, Request, access, asking, asking_names, asks_names, at_file, binding, calls, ends, further_tries, is_revoked, kind_named, led_to, loading, mapping, node_at, plan, plan_access, plan_after, plan_bind, plan_bound, plan_call, plan_copy, plan_done, plan_drop, plan_end, plan_found, plan_map, plan_named, plan_names, plan_open, plan_place, plan_reopened, plan_sync, plan_try, refused_as, region_of, release, reply_of, rerouting, revoke, rights_at, start_state, storing, sync, told_names, unknown, unless_refused, unless_unmappable, with_names}
+use Rattle.run_defs.specs.Plan.{Ask, Asks, Goes, Made, NamesAsk, NamesTold, Plan, Refuses, Request, access, asking, asking_names, asks_names, at_file, binding, calls, ends, further_tries, is_revoked, kind_named, led_to, loading, mapping, node_at, plan, plan_access, plan_after, plan_bind, plan_bound, plan_copy, plan_done, plan_drop, plan_end, plan_found, plan_map, plan_named, plan_names, plan_open, plan_place, plan_reopened, plan_sync, plan_try, refused_as, region_of, release, reply_of, rerouting, revoke, rights_at, start_state, storing, sync, told_names, unknown, unless_refused, unless_unmappable, with_names}
 use Rattle.run_defs.specs.Stack.{file_named, pages_of, view_of, layer_of}
 use Rattle.run_defs.specs.Fits.{Acts, AllGoOn, ClientsFit, Closes, Did, Does, InOrder, Line, Phased, last_cut, lines_of, made_on, no_client, plan_closing}
 use Rattle.run_defs.proofs.Logs.{items-more}
@@ -97,8 +98,10 @@ use Rattle.run_files.specs.Ended.{any_lost, has_fault, is_done, is_fault, is_mem
 use Rattle.run_files.specs.Held.{IsUnheld}
 use Rattle.mirror_layer.specs.declared.came.Notice.{Notice}
 use Rattle.run_files.specs.Leaves.{LeavesFile, Store}
+use Rattle.run_files.specs.Sums.{IsUnplayed, NotPlayed}
+use Rattle.run_files.specs.Sums as sums
 use Rattle.run_files.specs.Run.{IsOfDisks, IsOfFile, NotRun, Played, before_all, ran_out, reported, stopped, unopened, untaken}
-use Rattle.run_laws.specs.Sound.{AreNotFull, AreStoresSound, HadImages, HoldImages, IsBaySound, SoundRunEndsWell}
+use Rattle.run_laws.specs.Sound.{AreNotFull, AreStoresSound, HadImages, HoldImages, IsBaySound, SoundRunEndsWell, SoundSumEndsWell}
 use Rattle.run_files.proofs.OnlyLaws.{file-key}
 
 -- COUNTS THAT STAND STILL
@@ -493,7 +496,7 @@ quiet-log (Entered entry ∷ log) place none done = (done 0 entry refl, quiet-lo
 quiet-log (Noted note ∷ log) place none done = absurd none.0
 
 -- the only store of a list
-first-is : (xs : List StoreSeen) (x : StoreSeen) → xs ≡ x ∷ [] → slice_get xs 0 ≡ Some x
+pub first-is : (xs : List StoreSeen) (x : StoreSeen) → xs ≡ x ∷ [] → slice_get xs 0 ≡ Some x
 first-is xs x is = ap (λ (ss : List StoreSeen). slice_get ss 0) is
 
 -- no count of a note of a file whose stores had no fault
@@ -566,7 +569,7 @@ told-image shape stores disk store bad hold at told =
     no-image shape has.content.blocks found.0 bad has.is (subst (λ (o : Option Content). IfSome o (λ c. image_in shape (front_of shape c.blocks) ≡ Err bad)) content told)
 
 -- the store that a refusal names failed
-blamed-rose : {shape : ImageShape} {olds news : List StoreSeen} {ns : List ℕ} {bs : List Beside} {ss ts : List machine.Store} {xs : List Seat} {d k : ℕ} → Pairs (Brought content_of faults_of shape olds) ns ss → Pairs (Lies content_of faults_of shape olds) ns bs
+pub blamed-rose : {shape : ImageShape} {olds news : List StoreSeen} {ns : List ℕ} {bs : List Beside} {ss ts : List machine.Store} {xs : List Seat} {d k : ℕ} → Pairs (Brought content_of faults_of shape olds) ns ss → Pairs (Lies content_of faults_of shape olds) ns bs
     → Pairs (Stored content_of faults_of news) bs ts → Pairs Left xs ts → Blamed d k ss xs
     → (disk : ℕ) × (old : StoreSeen) × (new : StoreSeen) × (slice_get olds disk ≡ Some old) × (slice_get news disk ≡ Some new) × (old.state.faults < new.state.faults)
 blamed-rose pairs_none _ _ _ blamed = elim blamed [ ]
@@ -603,7 +606,7 @@ module _ (mount : Mount) (f g : FileSeen) (is : IsFile mount f) (sound : (disk :
   many-well (refusals'.StoreFault fault) (refused {o = Damaged d} seen opens says reasoned blames lasting back) = absurd says
   many-well refusals'.Memory over = refl
 
-  unopened-well : (stop : Stop) → IsUnopened mount f g stop → stop ≡ stops.Memory
+  pub unopened-well : (stop : Stop) → IsUnopened mount f g stop → stop ≡ stops.Memory
   unopened-well stop (unopened_one {old} {new} was after_it key content why) = one-well old new stop was after_it why
   unopened-well stop (unopened_many {why} some over by) = by ∙ many-well why over
 
@@ -621,12 +624,12 @@ halted-well mount before after lost stop halt sound had = ⊎_elim (λ low. refu
         let g = there halt.news halt.number (omega (arith, low, number, many)) in
         unheld-well mount f.0 g.0 (halt.of.each halt.number f.0 f.1).1 (λ disk old new at. sound halt.number disk f.0 g.0 old new f.1 g.1 at) (had halt.number f.0 f.1) stop (halt.refused f.0 g.0 f.1 g.1)
 
-untaken-well : (mount : Mount) (before after : BaySeen) (keys lost : List StoreKey) (stop : Stop) → IsBaySound before after → Untaken mount before after keys lost stop → stop ≡ stops.Memory
+pub untaken-well : (mount : Mount) (before after : BaySeen) (keys lost : List StoreKey) (stop : Stop) → IsBaySound before after → Untaken mount before after keys lost stop → stop ≡ stops.Memory
 untaken-well mount before after keys lost (stops.Bay key) bay why = let rose = why.fault in let same = bay.same in let below = bay.below_end in absurd (omega (arith, rose, same, below))
 untaken-well mount before after keys lost stops.Memory bay why = refl
 untaken-well mount before after keys lost _ bay why = absurd why
 
-stop-well : (status : Status) (stop : Stop) → status ≡ stop_status stop → stop ≡ stops.Memory → (status ≡ statuses.Good) ⊎ (status ≡ statuses.Memory)
+pub stop-well : (status : Status) (stop : Stop) → status ≡ stop_status stop → stop ≡ stops.Memory → (status ≡ statuses.Good) ⊎ (status ≡ statuses.Memory)
 stop-well status stop is memory = inr (is ∙ ap stop_status memory)
 
 pub sound-ends-well : SoundRunEndsWell
@@ -634,3 +637,50 @@ sound-ends-well mount script traced before after notices text status (stopped st
 sound-ends-well mount script traced before after notices text status (stopped stop lost (unopened halt) quiet says how) bay sound = stop-well status stop how (halted-well mount before after lost stop halt sound.0 sound.1)
 sound-ends-well mount script traced before after notices text status (reported h said closing lost played says how) bay sound = played-well mount script before after h said closing lost notices played sound.0 sound.1 bay status how
 sound-ends-well mount script traced before after notices text status (ran_out h said closing lost played says how) bay sound = inr how
+
+-- a page that was not read rose the count of a store
+unplayed-well : (mount : Mount) (caller : ℕ) (before after : BaySeen) (lost : List StoreKey) (stop : Stop) (notices : List ℕ) (halt : NotPlayed mount caller before after lost stop notices) → AreStoresSound halt.olds halt.news → stop ≡ stops.Memory
+unplayed-well mount caller before after lost stop notices halt sound = by halt.why
+  where
+    own-count : (disk count : ℕ) → counts_of disk (Noted (record { caller = caller; disk = disk; count = count }) ∷ []) ≡ count ∷ []
+    own-count disk count = rw (same disk) refl
+      where
+        same : (n : ℕ) → (n == n) ≡ true
+        same n = grind (arith, nat_tests)
+
+    inside : (ls : List (List Logged)) (file : ℕ) (x : Logged) → unwrap_or (slice_get ls file) [] ≡ x ∷ [] → file < length ls
+    inside [] file x e = cc
+    inside (l ∷ ls) zero x e = omega arith
+    inside (l ∷ ls) (suc file) x e = let rest = inside ls file x e in omega (arith, rest)
+
+    by : IsUnplayed caller halt.logs stop → stop ≡ stops.Memory
+    by (sums.memory e) = e
+    by (sums.unread file disk count e log) =
+        let note : Logged = Noted (record { caller = caller; disk = disk; count = count }) in
+        let low = inside halt.logs file note log in
+        let logs = halt.number in
+        let number = halt.of.number in
+        let many = halt.same.many in
+        let f = there halt.olds file (omega (arith, low, logs, number)) in
+        let g = there halt.news file (omega (arith, low, logs, number, many)) in
+        let is = (halt.of.each file f.0 f.1).1 in
+        let left = halt.leaves file f.0 g.0 f.1 g.1 in
+        let notes = subst (λ (l : List Logged). AllByRecursion (IsOfDisks (length mount.disks)) l) log (halt.files file (omega (arith, low, logs))).notes in
+        let few = notes.0 in
+        let stores = file-number mount f.0 is in
+        let same_many = left.disks.many in
+        let old = there f.0.stores disk (omega (arith, few, stores)) in
+        let new = there g.0.stores disk (omega (arith, few, stores, same_many)) in
+        let rises = subst (λ (l : List Logged). Rises old.0.state.faults new.0.state.faults (counts_of disk l)) log (left.faults.rises disk old.0 new.0 (old.1, new.1)) in
+        let risen = subst (λ (ns : List ℕ). Rises old.0.state.faults new.0.state.faults ns) (own-count disk count) rises in
+        let above = risen.0 in
+        let within = risen.1 in
+        let same = sound file disk f.0 g.0 old.0 new.0 f.1 g.1 (old.1, new.1) in
+        absurd (omega (arith, above, within, same))
+
+pub sound-sum-ends-well : SoundSumEndsWell
+sound-sum-ends-well mount script before after notices text status (sums.stopped stop lost (untaken why) quiet says how) bay sound = stop-well status stop how (untaken-well mount before after (stores_of mount) lost stop bay why)
+sound-sum-ends-well mount script before after notices text status (sums.stopped stop lost (unopened halt) quiet says how) bay sound = stop-well status stop how (halted-well mount before after lost stop halt sound.0 sound.1)
+sound-sum-ends-well mount script before after notices text status (sums.unplayed stop lost halt says how) bay sound = stop-well status stop how (unplayed-well mount (length script.clients) before after lost stop notices halt sound)
+sound-sum-ends-well mount script before after notices text status (sums.summed h said closing lost lasts sum says how) bay sound = played-well mount script before after h said closing lost notices sum.played sound.0 sound.1 bay status how
+sound-sum-ends-well mount script before after notices text status (sums.ran_out h said closing lost played says how) bay sound = inr how

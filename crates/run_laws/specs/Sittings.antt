@@ -1,5 +1,5 @@
 -- The sittings of a file over mirrors that are no runs: a dump, a refusal, and a file that was opened and closed again.
-use Rattle.std.specs.Prelude.{◌≡◌, ℕ, Bool, false, List, [], ◌++◌, Option}
+use Rattle.std.specs.Prelude.{ℕ, Bool, false, List, [], ◌++◌, Option}
 use Rattle.script_text.specs.declared.script.Reply.{Reply}
 use Rattle.stack_accept.specs.Mount.{Mount}
 use Rattle.stack_accept.specs.Plan.{disks_in}

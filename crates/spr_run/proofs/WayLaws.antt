@@ -6,7 +6,7 @@ use Rattle.stack_accept.specs.Mount.{Mount}
 use Rattle.spr_io.specs.Texts.{SinkSeen}
 use Rattle.spr_report.specs.declared.status.Status.{Status}
 use Rattle.spr_report.specs.Writing.{Finishes}
-use Rattle.spr_run.specs.declared.words.Asked.TheVariants.{Run, Check, Format, Dump, Disks, Idl}
+use Rattle.spr_run.specs.declared.words.Asked.TheVariants.{Run, Gen, Check, Format, Dump, Disks, Idl}
 use Rattle.spr_run.specs.Asked.{asked}
 use Rattle.file_stores.specs.Keys.{stores_of}
 use Rattle.file_stores.specs.Written.{Written, WrittenBeside}
@@ -16,8 +16,10 @@ use Rattle.image_commands.specs.Says.{SaysFormat, SaysDump}
 use Rattle.run_texts.specs.Stacks.{IsMounted}
 use Rattle.run_texts.specs.declared.refusal.Refusal.{Refusal}
 use Rattle.run_texts.specs.Refusal.{Names, HasFile, IsPrepared, IsCause, IsFileCause, refusal_text, refusal_status}
+use Rattle.run_texts.specs.Generated.{Generation, IsGenerated, IsGenerationCause}
 use Rattle.run_files.specs.Run.{SaysRun, traced_by}
-use Rattle.spr_run.specs.Ways.{Outside, IsIdle, Says, SaysQuietly, SaysCheck, SaysTables, SaysFormatted, SaysDumped, SaysListed, SaysRan, Ends, only_stack, sinks, formats, dumps, undumped, lists, runs, unrun, checked, tabled, formatted, listed, quiet, dumped, ran}
+use Rattle.run_files.specs.Sums.{SaysSum}
+use Rattle.spr_run.specs.Ways.{Outside, IsIdle, Says, SaysQuietly, SaysCheck, SaysTables, SaysFormatted, SaysDumped, SaysListed, SaysGenerated, SaysRan, Ends, names_made, only_stack, sinks, formats, dumps, undumped, lists, generates, ungenerated, runs, unrun, checked, tabled, formatted, listed, quiet, dumped, generated, ran}
 
 -- what was written so was one of the ways of a command
 written-as : {P Q : List ℕ → Status → Type 0} (before after : SinkSeen) (result : Status) → ((text : List ℕ) (status : Status) → P text status → Q text status) → Written P before after result → Written Q before after result
@@ -58,6 +60,17 @@ ends-unrun names trace o why before after heard result idle cause ends =
     written-alone (SaysRan names trace o) before after heard result
     (record { text = refusal_text names why; status = refusal_status why; says = unrun idle refl (record { why = why; cause = cause; text_is = refl; status_is = refl }); ends = ends })
 
+pub ends-generates : (made : Generation) (o : Outside) (mount : Mount) (script : Script) (ops : Ops) (before after heard hears : SinkSeen) (result : Status) → IsGenerated o.shelf made mount script ops → o.shelf_after.faults ≡ o.shelf.faults
+    → WrittenBeside (SaysSum mount script o.bay o.bay_after) before after heard hears result → WrittenBeside (SaysGenerated made o) before after heard hears result
+ends-generates made o mount script ops before after heard hears result is calm w = beside-as before after heard hears result (λ notices text status said. generates mount script ops is calm said) w
+
+-- so does one that makes its script
+pub ends-ungenerated : (made : Generation) (o : Outside) (why : Refusal) (before after heard : SinkSeen) (result : Status) → IsIdle o → IsGenerationCause o.shelf o.shelf_after made why
+    → Finishes before after (refusal_text (names_made made) why) (refusal_status why) result → WrittenBeside (SaysGenerated made o) before after heard heard result
+ends-ungenerated made o why before after heard result idle cause ends =
+    written-alone (SaysGenerated made o) before after heard result
+    (record { text = refusal_text (names_made made) why; status = refusal_status why; says = ungenerated idle refl (record { why = why; cause = cause; text_is = refl; status_is = refl }); ends = ends })
+
 -- a command that tells nothing of disks in mirrors
 pub ends-quietly : (words : List (List ℕ)) (o : Outside) (before after heard : SinkSeen) (result : Status) → Written (SaysQuietly words o) before after result → Ends words o (sinks before after heard heard) result
 ends-quietly words o before after heard result w = written-alone (Says words o) before after heard result (written-as before after result (λ text status said. quiet refl said) w)
@@ -85,6 +98,10 @@ ends-list words stack o before after heard result asks w = ends-quietly words o 
 pub ends-run : (words : List (List ℕ)) (names : Names) (trace : Bool) (o : Outside) (before after heard hears : SinkSeen) (result : Status) → asked words ≡ Some (Run trace names.idl names.stack names.script)
     → WrittenBeside (SaysRan names trace o) before after heard hears result → Ends words o (sinks before after heard hears) result
 ends-run words names trace o before after heard hears result asks w = beside-as before after heard hears result (λ notices text status said. ran names trace asks said) w
+
+pub ends-generated : (words : List (List ℕ)) (made : Generation) (o : Outside) (before after heard hears : SinkSeen) (result : Status) → asked words ≡ Some (Gen made.idl made.stack made.seed made.calls)
+    → WrittenBeside (SaysGenerated made o) before after heard hears result → Ends words o (sinks before after heard hears) result
+ends-generated words made o before after heard hears result asks w = beside-as before after heard hears result (λ notices text status said. generated made asks said) w
 
 -- the names that a command was made with are those that the words have
 pub named-dump : {a b x y : List ℕ} (o : Outside) (before after heard hears : SinkSeen) (result : Status) → a ≡ b → x ≡ y

@@ -1,24 +1,40 @@
 -- The command that the words ask for.
-use Rattle.std.specs.Prelude.{Bool, false, List, Option, None, codes, option_map, option_and_then, if◌then◌else◌}
+use Rattle.std.specs.Prelude.{ℕ, ◌+◌, ◌<◌, ◌≤◌, ◌&&◌, nat_lt, Bool, false, List, Option, Some, None, codes, option_map, option_and_then, if◌then◌else◌}
 use Rattle.std.specs.Option.{option_map_or}
 use Rattle.std.specs.Str.{bytes_eq}
-use Rattle.clap.specs.Words.{Row, Text, first_of}
+use Rattle.std.specs.Str.Parse.{digits_value, without_leading_plus}
+use Rattle.clap.specs.Words.{Row, Text, first_of, one_of}
+use Rattle.clap.specs.ValueTests.{is_numeral}
 use Rattle.clap.specs.Simple.{subcommand_of}
 use Rattle.clap.specs.Faults.{fault_of}
 use Rattle.clap.specs.Walk.{is_empty}
+use Rattle.script_gen.specs.declared.TheConstants.{MAX_CALLS, SEED_LIMIT}
 use Rattle.spr_run.specs.Line.{line}
 use Rattle.spr_run.specs.declared.words.Asked.{Asked}
-use Rattle.spr_run.specs.declared.words.Asked.TheVariants.{Run, Check, Format, Dump, Disks, Idl}
+use Rattle.spr_run.specs.declared.words.Asked.TheVariants.{Run, Gen, Check, Format, Dump, Disks, Idl}
 
 -- whether a flag was given: clap finds the word `true` under its id
 abbrev pub is_given : Text → List Row → Bool
 is_given id found = option_map_or (λ word. bytes_eq word (codes "true")) (first_of id found) false
+
+-- the whole number that digits spell, where it is below a limit
+abbrev pub whole_number : ℕ → Text → Option ℕ
+whole_number limit digits = if is_numeral digits && nat_lt (digits_value 10 digits) limit then Some (digits_value 10 digits) else None
+
+-- the number that was found under an id: a plus may stand before its digits
+abbrev pub number_below : ℕ → Text → List Row → Option ℕ
+number_below limit id found = option_and_then (λ text. whole_number limit (without_leading_plus text)) (one_of id found)
 
 -- the names that each command has, by what clap found
 abbrev pub run_in : List Row → Option Asked
 run_in found =
     option_and_then (λ idl. option_and_then (λ stack. option_map (λ script. Run (is_given (codes "trace") found) idl stack script)
     (first_of (codes "script") found)) (first_of (codes "stack") found)) (first_of (codes "idl") found)
+
+abbrev pub gen_in : List Row → Option Asked
+gen_in found =
+    option_and_then (λ idl. option_and_then (λ stack. option_and_then (λ seed. option_map (λ calls. Gen idl stack seed calls)
+    (number_below (MAX_CALLS + 1) (codes "calls") found)) (number_below SEED_LIMIT (codes "seed") found)) (first_of (codes "stack") found)) (first_of (codes "idl") found)
 
 abbrev pub check_in : List Row → Option Asked
 check_in found = option_map Check (first_of (codes "stack") found)
@@ -39,6 +55,7 @@ idl_in found = option_map Idl (first_of (codes "idl") found)
 abbrev pub asked_by : Text → List Row → Option Asked
 asked_by name found =
     if bytes_eq name (codes "run") then run_in found
+    else if bytes_eq name (codes "gen") then gen_in found
     else if bytes_eq name (codes "check") then check_in found
     else if bytes_eq name (codes "format") then format_in found
     else if bytes_eq name (codes "dump") then dump_in found
@@ -52,3 +69,8 @@ asked_in found = option_and_then (λ f. asked_by f.0 f.1) found
 -- The command that these words ask for, as clap reads the program's command line; none where it refuses them.
 abbrev pub asked : List Text → Option Asked
 asked words = if is_empty (fault_of line words) then asked_in (subcommand_of line words) else None
+
+-- the seed and the calls of a command are within their limits
+abbrev pub IsWithinLimits : Asked → Type 0
+IsWithinLimits (Gen idl stack seed calls) = (seed < SEED_LIMIT) × (calls ≤ MAX_CALLS)
+IsWithinLimits command = Unit {0}

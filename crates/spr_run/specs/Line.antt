@@ -1,11 +1,19 @@
 -- The command line of the program, as it is told to clap.
-use Rattle.std.specs.Prelude.{codes, true, Some}
+use Rattle.std.specs.Prelude.{codes, pos, true, Some}
 use Rattle.clap.specs.declared.builder.action.ArgAction.TheVariants.{SetTrue}
+use Rattle.clap.specs.declared.builder.value_parser.ValueParser.TheVariants.{Signed}
 use Rattle.clap.specs.Words.{App, Rule, Shape, Text, new_app, new_rule, with_rule, with_subcommand}
 
 -- a name that a command needs
 abbrev pub name : Text → Rule
 name id = record (new_rule id) { required = true }
+
+-- the two numbers that a generated script needs: its seed, below 2,147,483,648, and how many calls it has, at most 1,000,000
+abbrev pub seed : Rule
+seed = record (new_rule (codes "seed")) { parser = Some (Signed (pos 0) (pos 2147483647)); required = true }
+
+abbrev pub calls : Rule
+calls = record (new_rule (codes "calls")) { parser = Some (Signed (pos 0) (pos 1000000)); required = true }
 
 -- a flag that a command may have
 abbrev pub flag : Text → Rule
@@ -14,6 +22,10 @@ flag id = record (new_rule id) { long = Some id; action = Some SetTrue }
 -- run [--trace] IDL STACK SCRIPT
 abbrev pub run : Shape
 run = (with_rule (with_rule (with_rule (with_rule (new_app (codes "run")) (flag (codes "trace"))) (name (codes "idl"))) (name (codes "stack"))) (name (codes "script"))).top
+
+-- gen IDL STACK SEED CALLS
+abbrev pub generation : Shape
+generation = (with_rule (with_rule (with_rule (with_rule (new_app (codes "gen")) (name (codes "idl"))) (name (codes "stack"))) seed) calls).top
 
 -- check STACK
 abbrev pub check : Shape
@@ -49,4 +61,4 @@ bare = record (new_app (codes "spring")) {
 
 -- the line is one of the commands with its names
 abbrev pub line : App
-line = with_subcommand (with_subcommand (with_subcommand (with_subcommand (with_subcommand (with_subcommand bare run) check) format) dump) disks) idl
+line = with_subcommand (with_subcommand (with_subcommand (with_subcommand (with_subcommand (with_subcommand (with_subcommand bare run) generation) check) format) dump) disks) idl

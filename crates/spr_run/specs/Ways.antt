@@ -7,7 +7,7 @@ use Rattle.spr_io.specs.Berth.{BaySeen}
 use Rattle.spr_io.specs.Texts.{ShelfSeen, SinkSeen}
 use Rattle.spr_report.specs.declared.status.Status.{Status}
 use Rattle.spr_report.specs.declared.status.Status.TheVariants as statuses
-use Rattle.spr_run.specs.declared.words.Asked.TheVariants.{Run, Check, Format, Dump, Disks, Idl}
+use Rattle.spr_run.specs.declared.words.Asked.TheVariants.{Run, Gen, Check, Format, Dump, Disks, Idl}
 use Rattle.spr_run.specs.Asked.{asked}
 use Rattle.file_stores.specs.Keys.{stores_of}
 use Rattle.file_stores.specs.Written.{WrittenBeside}
@@ -17,7 +17,9 @@ use Rattle.run_texts.specs.declared.refusal.Refusal.{Refusal}
 use Rattle.run_texts.specs.Stacks.{IsMounted, IsTreeOf}
 use Rattle.run_texts.specs.Interfaces.{AreTablesOf, IsInterfacesCause}
 use Rattle.run_texts.specs.Refusal.{Names, HasFile, IsPrepared, IsStackCause, IsFileCause, IsCause, refusal_text, refusal_status}
+use Rattle.run_texts.specs.Generated.{Generation, IsGenerated, IsGenerationCause}
 use Rattle.run_files.specs.Run.{SaysRun, traced_by}
+use Rattle.run_files.specs.Sums.{SaysSum}
 
 -- what was told of the shelf and the bay before a command, and after it
 pub record Outside : Type 0 where
@@ -88,6 +90,17 @@ pub data SaysRan (names : Names) (trace : Bool) (o : Outside) (notices text : Li
       → SaysRun mount script (traced_by ops trace) o.bay o.bay_after notices text status → SaysRan names trace o notices text status
   unrun : IsIdle o → notices ≡ [] → Refuses (IsCause o.shelf o.shelf_after names) names text status → SaysRan names trace o notices text status
 
+-- the names of the texts of a command that makes its script
+abbrev pub names_made : Generation → Names
+names_made made = record { idl = made.idl; stack = made.stack; script = [] }
+
+-- `gen`: the interfaces have each operation, and the script that the seed makes for the stack was run over its files and summed, or they could not be
+-- opened or read; or a text is refused, or could not be read
+pub data SaysGenerated (made : Generation) (o : Outside) (notices text : List ℕ) (status : Status) : Type 0 where
+  generates : (mount : Mount) (script : Script) (ops : Ops) → IsGenerated o.shelf made mount script ops → o.shelf_after.faults ≡ o.shelf.faults
+      → SaysSum mount script o.bay o.bay_after notices text status → SaysGenerated made o notices text status
+  ungenerated : IsIdle o → notices ≡ [] → Refuses (IsGenerationCause o.shelf o.shelf_after made) (names_made made) text status → SaysGenerated made o notices text status
+
 abbrev pub usage_text : List ℕ
 usage_text = codes "usage: spring run, gen, check, format, dump or idl\n"
 
@@ -105,6 +118,7 @@ pub data SaysQuietly (words : List (List ℕ)) (o : Outside) (text : List ℕ) (
 pub data Says (words : List (List ℕ)) (o : Outside) (notices text : List ℕ) (status : Status) : Type 0 where
   quiet : notices ≡ [] → SaysQuietly words o text status → Says words o notices text status
   dumped : (stack name : List ℕ) → asked words ≡ Some (Dump stack name) → SaysDumped stack name o notices text status → Says words o notices text status
+  generated : (made : Generation) → asked words ≡ Some (Gen made.idl made.stack made.seed made.calls) → SaysGenerated made o notices text status → Says words o notices text status
   ran : (names : Names) (trace : Bool) → asked words ≡ Some (Run trace names.idl names.stack names.script) → SaysRan names trace o notices text status → Says words o notices text status
 
 -- what the sinks of a command were told before it, and after it: of its text and status, and of notices

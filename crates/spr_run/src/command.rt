@@ -2,9 +2,9 @@
 
 ghost use Rattle.std.specs.Prelude.{◌≡◌, false, IfOk};
 ghost use Rattle.clap.specs.Words.{app_of, rule_of, shape_of};
-ghost use Rattle.spr_run.specs.Line.{bare, check, disks, dump, flag, format, idl, line, name, run};
+ghost use Rattle.spr_run.specs.Line.{bare, calls, check, disks, dump, flag, format, generation, idl, line, name, run, seed};
 
-use clap::{Arg, ArgAction, Command};
+use clap::{Arg, ArgAction, Command, value_parser};
 use std::alloc::{AllocError, Global};
 
 /// A name that a command needs.
@@ -13,6 +13,26 @@ fn name<'a>(alloc: Global, id: &'a str) -> Arg<'a>
     ensures global { result.global ≡ false }
 {
     Arg::new(alloc, id).required(true)
+}
+
+/// The seed of a generated script, a whole number that its command needs.
+fn seed<'a>(alloc: Global) -> Arg<'a>
+    ensures rule { rule_of result ≡ seed }
+    ensures global { result.global ≡ false }
+{
+    Arg::new(alloc, "seed")
+        .required(true)
+        .value_parser(value_parser!(u32).range(..2_147_483_648))
+}
+
+/// How many calls a generated script has, a whole number that its command needs.
+fn calls<'a>(alloc: Global) -> Arg<'a>
+    ensures rule { rule_of result ≡ calls }
+    ensures global { result.global ≡ false }
+{
+    Arg::new(alloc, "calls")
+        .required(true)
+        .value_parser(value_parser!(u32).range(..=1_000_000))
 }
 
 /// A flag that a command may have.
@@ -32,6 +52,17 @@ fn run<'a>(alloc: Global) -> Result<Command<'a>, AllocError>
         .arg(name(alloc, "idl"))?
         .arg(name(alloc, "stack"))?
         .arg(name(alloc, "script"))
+}
+
+/// The command that runs a script which it makes from a number.
+fn generation<'a>(alloc: Global) -> Result<Command<'a>, AllocError>
+    ensures shape { IfOk result (λ c. shape_of c ≡ generation) }
+{
+    Command::new(alloc, "gen")
+        .arg(name(alloc, "idl"))?
+        .arg(name(alloc, "stack"))?
+        .arg(seed(alloc))?
+        .arg(calls(alloc))
 }
 
 /// The command that tells whether a stack can be mounted.
@@ -89,6 +120,7 @@ pub(crate) fn line<'a>(alloc: Global) -> Result<Command<'a>, AllocError>
 {
     bare(alloc)
         .subcommand(run(alloc)?)?
+        .subcommand(generation(alloc)?)?
         .subcommand(check(alloc)?)?
         .subcommand(format(alloc)?)?
         .subcommand(dump(alloc)?)?

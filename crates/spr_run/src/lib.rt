@@ -4,6 +4,7 @@
 
 mod check;
 mod command;
+mod generated;
 mod images;
 mod tables;
 mod top;

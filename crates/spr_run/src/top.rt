@@ -7,13 +7,14 @@ ghost use Rattle.file_stores.specs.Written.{WrittenBeside};
 ghost use Rattle.spr_run.specs.Ways.{outside, sinks, SaysRan, Ends};
 
 use crate::check::check_stack;
+use crate::generated::run_generated;
 use crate::images::{dump_named, format_stack, list_named};
 use crate::tables::put_tables;
 use crate::words::{Asked, WordsErr, read_words};
-use hist_plain::Gate;
 use run_files::run_files;
 use run_texts::{TextNames, read_run, refuse};
 use seen_values::Text;
+use spr_client::LineGate;
 use spr_io::{Bay, Shelf, Sink};
 use spr_report::{Status, finish};
 use std::alloc::Global;
@@ -24,7 +25,7 @@ const USAGE: &[u8] = b"usage: spring run, gen, check, format, dump or idl\n";
 
 /// Reads the three texts, runs the script over the files of the stack, if the interfaces fit together and have each operation, and
 /// writes how that ended; with the page messages, if they are asked for.
-fn run_named<R: Threads + Wait + Sync, H: Shelf, B: Bay, K: Sink, N: Sink, G: Gate>(
+fn run_named<R: Threads + Wait + Sync, H: Shelf, B: Bay, K: Sink, N: Sink, G: LineGate>(
     rt: &R,
     alloc: Global,
     idl: &Text,
@@ -60,9 +61,8 @@ fn run_named<R: Threads + Wait + Sync, H: Shelf, B: Bay, K: Sink, N: Sink, G: Ga
 /// Headline: for every accepted stack and interleaving, each access within one page, by file call, mapping or any stacked
 /// view, unless a store failed in it or memory lacked, answers what one plain file answers at its place in the file's one
 /// history, which begins with all its caller had seen and holds its calls once each; after a successful sync every live store
-/// holds that history's bytes. So far a run builds stacks of coherency layers and virtual memory managers over a disk or over disks
-/// in mirrors. What is said of bytes is said where a store tells what it holds; a file of the host does not.
-pub fn spring<R: Threads + Wait + Sync, H: Shelf, B: Bay, K: Sink, N: Sink, G: Gate>(
+/// holds that history's bytes. What is said of bytes is said where a store tells what it holds; a file of the host does not.
+pub fn spring<R: Threads + Wait + Sync, H: Shelf, B: Bay, K: Sink, N: Sink, G: LineGate>(
     rt: &R,
     alloc: Global,
     words: &[Text],
@@ -84,6 +84,16 @@ pub fn spring<R: Threads + Wait + Sync, H: Shelf, B: Bay, K: Sink, N: Sink, G: G
             },
         ) => run_named(
             rt, alloc, &idl, &stack, &script, trace, shelf, bay, sink, notices, gate,
+        ),
+        Ok(
+            Asked::Gen {
+                idl,
+                stack,
+                seed,
+                calls,
+            },
+        ) => run_generated(
+            rt, alloc, &idl, &stack, seed, calls, shelf, bay, sink, notices, gate,
         ),
         Ok(Asked::Idl { idl }) => put_tables(alloc, shelf, &idl, sink),
         Ok(Asked::Check { stack }) => check_stack(alloc, shelf, &stack, sink),

@@ -1,6 +1,6 @@
 //! From words to the command that they ask for.
 
-ghost use Rattle.std.specs.Prelude.{◌≡◌, List, [], ℕ, map, IfOk, Err, None, Some};
+ghost use Rattle.std.specs.Prelude.{◌≡◌, ◌<◌, List, [], ℕ, map, IfOk, Err, None, Some};
 ghost use Rattle.clap.specs.Words.{first_of, found_of, rows_of, subcommand_of, subcommand_rows_of};
 ghost use Rattle.clap.specs.Faults.{fault_of};
 ghost use Rattle.clap.specs.Words.{kind_of};
@@ -9,6 +9,7 @@ ghost use Rattle.spr_run.specs.Line.{line};
 use crate::command::line;
 use clap::error::ErrorKind;
 use clap::{ArgMatches, Error};
+use script_gen::{MAX_CALLS, SEED_LIMIT};
 use seen_values::Text;
 use std::alloc::{AllocError, Global};
 
@@ -25,6 +26,17 @@ pub enum Asked {
         stack: Text,
         /// The name of the script.
         script: Text,
+    },
+    /// Run a script that is made from a number over the files of a stack, and tell what it came to.
+    Gen {
+        /// The name of the text of the interfaces.
+        idl: Text,
+        /// The name of the stack's text.
+        stack: Text,
+        /// The seed of the script, below [`script_gen::SEED_LIMIT`].
+        seed: u32,
+        /// How many calls its second phase has, at most [`script_gen::MAX_CALLS`].
+        calls: u32,
     },
     /// Tell whether a stack can be mounted, and its tree.
     Check {
@@ -75,7 +87,7 @@ impl From<AllocError> for WordsErr {
     }
 }
 
-ghost use Rattle.spr_run.specs.Asked.{asked, asked_by, asked_in, check_in, disks_in, dump_in, format_in, idl_in, is_given, run_in};
+ghost use Rattle.spr_run.specs.Asked.{IsWithinLimits, asked, asked_by, asked_in, check_in, disks_in, dump_in, format_in, gen_in, idl_in, is_given, number_below, run_in};
 
 /// Lends the words.
 fn lend<'a>(alloc: Global, words: &'a [Text]) -> Result<Vec<&'a str>, AllocError>
@@ -123,6 +135,18 @@ fn named(alloc: Global, found: &ArgMatches<'_>, id: &str) -> Result<Text, WordsE
     }
 }
 
+/// The whole number below a limit that was found under an id. No clause of `clap` says of a number behind a command's name that it
+/// is within its range, so it is compared once more.
+fn numbered(found: &ArgMatches<'_>, id: &str, limit: u32) -> Result<u32, WordsErr>
+    ensures ok { IfOk result (λ n. number_below limit id.now (rows_of (found_of found.now)) ≡ Some n) }
+    ensures usage { result ≡ Err WordsErr.Usage → number_below limit id.now (rows_of (found_of found.now)) ≡ None }
+{
+    match found.get_one::<u32>(id) {
+        Some(number) if number < limit => Ok(number),
+        _ => Err(WordsErr::Usage),
+    }
+}
+
 /// Whether a flag was given under an id.
 fn is_given(found: &ArgMatches<'_>, id: &str) -> bool
     ensures { result ≡ is_given id.now (rows_of (found_of found.now)) }
@@ -147,6 +171,23 @@ fn run_in(alloc: Global, found: &ArgMatches<'_>) -> Result<Asked, WordsErr>
         idl,
         stack,
         script,
+    })
+}
+
+/// A run of a script that is made from a number, with its names and numbers.
+fn gen_in(alloc: Global, found: &ArgMatches<'_>) -> Result<Asked, WordsErr>
+    ensures ok { IfOk result (λ a. gen_in (rows_of (found_of found.now)) ≡ Some a) }
+    ensures usage { result ≡ Err WordsErr.Usage → gen_in (rows_of (found_of found.now)) ≡ None }
+{
+    let idl = named(alloc, found, "idl")?;
+    let stack = named(alloc, found, "stack")?;
+    let seed = numbered(found, "seed", SEED_LIMIT)?;
+    let calls = numbered(found, "calls", MAX_CALLS + 1)?;
+    Ok(Asked::Gen {
+        idl,
+        stack,
+        seed,
+        calls,
     })
 }
 
@@ -203,6 +244,7 @@ fn asked_by(alloc: Global, name: &str, found: &ArgMatches<'_>) -> Result<Asked, 
 {
     match name {
         "run" => run_in(alloc, found),
+        "gen" => gen_in(alloc, found),
         "check" => check_in(alloc, found),
         "format" => format_in(alloc, found),
         "dump" => dump_in(alloc, found),
@@ -216,6 +258,7 @@ fn asked_by(alloc: Global, name: &str, found: &ArgMatches<'_>) -> Result<Asked, 
 fn asked_in(alloc: Global, matches: &ArgMatches<'_>) -> Result<Asked, WordsErr>
     ensures ok { IfOk result (λ a. asked_in (subcommand_rows_of matches.now) ≡ Some a) }
     ensures usage { result ≡ Err WordsErr.Usage → asked_in (subcommand_rows_of matches.now) ≡ None }
+    ensures limits { IfOk result IsWithinLimits }
 {
     match matches.subcommand() {
         Some((name, found)) => asked_by(alloc, name, found),
@@ -228,6 +271,7 @@ fn asked_in(alloc: Global, matches: &ArgMatches<'_>) -> Result<Asked, WordsErr>
 pub fn read_words(alloc: Global, words: &[Text]) -> Result<Asked, WordsErr>
     ensures ok { IfOk result (λ a. asked words.now ≡ Some a) }
     ensures usage { result ≡ Err WordsErr.Usage → asked words.now ≡ None }
+    ensures limits { IfOk result IsWithinLimits }
 {
     let lent = lend(alloc, words)?;
     let matches = parse(alloc, &lent)?;

@@ -1,6 +1,7 @@
-//! Gates at which two clients that run at once wait for each other.
+//! Gates at which two clients that run at once wait for each other, and one that counts their lines.
 
 use hist_plain::{Event, Gate};
+use spr_client::LineGate;
 use std::sync::atomic::{AtomicBool, AtomicU32, Ordering};
 use std::thread::yield_now;
 
@@ -53,6 +54,10 @@ impl Gate for MeetingGate {
     }
 }
 
+impl LineGate for MeetingGate {
+    fn after_line(&self, _caller: u32) {}
+}
+
 /// A gate of so many rounds. In each one the second client, which was granted a page, is held until the first one was granted one
 /// too; and that is held until the second one was granted its next, so that what the second one does between two misses is done in
 /// the first one's miss.
@@ -101,5 +106,39 @@ impl Gate for RoundsGate {
         if is_grant && !self.meets_in_time(caller) {
             self.late.store(true, Ordering::SeqCst);
         }
+    }
+}
+
+impl LineGate for RoundsGate {
+    fn after_line(&self, _caller: u32) {}
+}
+
+/// A gate that counts the lines that it is called behind.
+#[derive(Drop)]
+pub struct CountingGate {
+    lines: AtomicU32,
+}
+
+impl CountingGate {
+    /// A gate that was called behind no line.
+    pub fn new() -> CountingGate {
+        CountingGate {
+            lines: AtomicU32::new(0),
+        }
+    }
+
+    /// How many lines it was called behind.
+    pub fn lines(&self) -> u32 {
+        self.lines.load(Ordering::SeqCst)
+    }
+}
+
+impl Gate for CountingGate {
+    fn between(&self, _caller: u32, _file: u32, _event: &Event) {}
+}
+
+impl LineGate for CountingGate {
+    fn after_line(&self, _caller: u32) {
+        self.lines.fetch_add(1, Ordering::SeqCst);
     }
 }

@@ -1,12 +1,13 @@
 //! The steps of a case: its texts and stores, the commands over them, and what these wrote.
 
-use crate::meeting::{MeetingGate, RoundsGate};
+use crate::meeting::{CountingGate, MeetingGate, RoundsGate};
 use crate::sinks::SinkCase;
 use crate::stores::{count_faults, look, put_store};
 use crate::texts::Texts;
 use crate::written::Written;
-use hist_plain::{Gate, OpenGate};
+use hist_plain::OpenGate;
 use seen_values::Text;
+use spr_client::LineGate;
 use spr_io::MemBay;
 use spr_report::{Status, finish};
 use spr_run::spring;
@@ -87,6 +88,7 @@ impl Runs {
                 let status = self.command(rt, words, &OpenGate)?;
                 Ok(writeln!(answer, "status {status}")?)
             }
+            ("counted", words) => self.counted(rt, words, answer),
             ("meeting", words) => self.meeting(rt, words, answer),
             ("rounds", [rounds, words @ ..]) => self.rounds(rt, rounds, words, answer),
             ("notices", []) => self.say_told(&self.notices, answer),
@@ -177,7 +179,7 @@ impl Runs {
     }
 
     /// Runs a command of these words: the number of its status.
-    fn command<R: Threads + Wait + Sync, G: Gate>(
+    fn command<R: Threads + Wait + Sync, G: LineGate>(
         &mut self,
         rt: &R,
         words: &[&str],
@@ -248,6 +250,20 @@ impl Runs {
             _ => say_text(self.alloc, answer, text)?,
         }
         self.say_status(status, answer)
+    }
+
+    /// `counted WORD ..`: the status, and behind how many lines the command's gate was called.
+    fn counted<R: Threads + Wait + Sync>(
+        &mut self,
+        rt: &R,
+        words: &[&str],
+        answer: &mut String,
+    ) -> Result<(), Halt> {
+        let gate = CountingGate::new();
+        let status = self.command(rt, words, &gate)?;
+        let lines = gate.lines();
+        writeln!(answer, "status {status}, {lines} lines")?;
+        Ok(())
     }
 
     /// `meeting WORD ..`: the status, and whether the second client came while the first one waited.

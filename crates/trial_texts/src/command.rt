@@ -43,6 +43,17 @@ fn say_asked(answer: &mut String, asked: &Asked) -> Result<(), AllocError> {
             say_named(answer, "stack", stack)?;
             say_named(answer, "script", script)
         }
+        Asked::Gen {
+            idl,
+            stack,
+            seed,
+            calls,
+        } => {
+            say(answer, "gen")?;
+            say_named(answer, "idl", idl)?;
+            say_named(answer, "stack", stack)?;
+            writeln!(answer, "seed {seed}\ncalls {calls}")
+        }
         Asked::Check { stack } => {
             say(answer, "check")?;
             say_named(answer, "stack", stack)

@@ -1,6 +1,7 @@
 //! Scripts that are generated for a stack.
 
-ghost use Rattle.std.specs.Prelude.{◌≡◌, IfOk, IfSome};
+ghost use Rattle.std.specs.Prelude.{◌≡◌, ◌<◌, ◌≤◌, IfOk, IfSome};
+ghost use Rattle.script_gen.specs.declared.TheConstants.{MAX_CALLS, SEED_LIMIT};
 ghost use Rattle.script_gen.specs.Shape.{IsShape};
 
 use crate::say::count_of;
@@ -36,6 +37,18 @@ fn number_of(word: &str) -> u32 {
     }
 }
 
+/// A seed and a number of calls, if they are within their limits.
+pub fn limited(seed: &str, calls: &str) -> Option<(u32, u32)>
+    ensures { IfSome result (λ found. (found.0 < SEED_LIMIT) × (found.1 ≤ MAX_CALLS)) }
+{
+    let (seed, calls) = (number_of(seed), number_of(calls));
+    if seed < SEED_LIMIT && calls <= MAX_CALLS {
+        Some((seed, calls))
+    } else {
+        None
+    }
+}
+
 /// `generate SEED CALLS` over the text of a stack: the text of the script.
 pub fn step(
     alloc: Global,
@@ -49,10 +62,9 @@ pub fn step(
     let Some(shape) = shape_in(alloc, text)? else {
         return say(answer, "no stack");
     };
-    let (seed, calls) = (number_of(seed), number_of(calls));
-    if seed >= SEED_LIMIT || calls > MAX_CALLS {
+    let Some((seed, calls)) = limited(seed, calls) else {
         return say(answer, "above a limit");
-    }
+    };
     let script = generate(alloc, &shape, seed, calls)?;
     let printed = print_script(alloc, &script)?;
     say_text(alloc, answer, printed.as_slice())

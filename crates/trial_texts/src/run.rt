@@ -1,11 +1,16 @@
 //! What a run reads before it takes a store, and what is written where it is refused.
 
+ghost use Rattle.std.specs.Prelude.{◌≡◌};
+ghost use Rattle.script_text.specs.Grammar.{IsScript};
+
+use crate::generated::limited;
 use crate::say::{count_of, say_number};
 use pager_channel::{Operation, Ops};
 use run_texts::{
-    Refusal, TextNames, operation_name, read_run, read_stack, read_tables, refuse, unknown_line,
+    Refusal, TextNames, operation_name, read_generated, read_run, read_stack, read_tables, refuse,
+    unknown_line,
 };
-use script_text::{Script, parse_script};
+use script_text::{Script, parse_script, print_script};
 use seen_values::Text;
 use spr_io::{MemShelf, MemSink};
 use stack_accept::Mounted;
@@ -41,6 +46,25 @@ fn say_run(
         writeln!(answer, "{name} {number}")?;
     }
     Ok(())
+}
+
+/// Appends what a run was given whose script was made, and the text of that.
+fn say_generated(
+    alloc: Global,
+    mount: &Mounted,
+    script: &Script,
+    ops: &Ops,
+    answer: &mut String,
+) -> Result<(), AllocError>
+    requires { IsScript script.now }
+{
+    say_run(mount, script, ops, answer)?;
+    match unknown_line(mount, script) {
+        Some(line) => writeln!(answer, "unknown {line}")?,
+        None => {}
+    }
+    let printed = print_script(alloc, script)?;
+    say_text(alloc, answer, printed.as_slice())
 }
 
 /// The numbers that words say.
@@ -82,6 +106,14 @@ impl RunTexts {
             ["read", idl, stack, script] => {
                 let names = TextNames { idl, stack, script };
                 self.read(alloc, &names, answer)
+            }
+            ["generate", idl, stack, seed, calls] => {
+                let names = TextNames {
+                    idl,
+                    stack,
+                    script: "",
+                };
+                self.generate(alloc, &names, seed, calls, answer)
             }
             ["refuse", rest @ ..] => self.refuse_for(alloc, rest, answer),
             ["unknown", stack] => self.unknown(alloc, stack, text, answer),
@@ -135,6 +167,26 @@ impl RunTexts {
         let script = Text::of(alloc, names.script)?;
         match read_run(alloc, &mut self.shelf, &idl, &stack, &script) {
             Ok((mount, script, ops)) => say_run(&mount, &script, &ops, answer),
+            Err(refusal) => self.say_refusal(alloc, names, refusal, answer),
+        }
+    }
+
+    /// `run generate IDL STACK SEED CALLS`: reads the texts of these names, and makes the script.
+    fn generate(
+        &mut self,
+        alloc: Global,
+        names: &TextNames<'_>,
+        seed: &str,
+        calls: &str,
+        answer: &mut String,
+    ) -> Result<(), AllocError> {
+        let idl = Text::of(alloc, names.idl)?;
+        let stack = Text::of(alloc, names.stack)?;
+        let Some((seed, calls)) = limited(seed, calls) else {
+            return say(answer, "above a limit");
+        };
+        match read_generated(alloc, &mut self.shelf, &idl, &stack, seed, calls) {
+            Ok((mount, script, ops)) => say_generated(alloc, &mount, &script, &ops, answer),
             Err(refusal) => self.say_refusal(alloc, names, refusal, answer),
         }
     }

@@ -9,8 +9,8 @@ use Rattle.file_stores.specs.Stops.{Untaken}
 use Rattle.run_files.specs.Held.{IsTaken}
 use Rattle.file_stores.specs.Stop.{stop_text, stop_status}
 use Rattle.file_stores.proofs.ReturnLaws.{stops-taking}
-use Rattle.run_files.specs.Run.{traced_by}
-use Rattle.run_files.proofs.StopLaws.{run-stopped, untaken-writes}
+use Rattle.run_files.proofs.StopLaws.{untaken-writes}
+use Rattle.run_files.proofs.SumLaws.{wanted-stopped}
 use Rattle.run_files.proofs.run.run_all.Goals as goal
 
 pub by_file-requires-clause-stores : goal.by_file-requires-clause-stores
@@ -59,7 +59,7 @@ returns-in-Err g c =
     let new = g.K.Sink.told c.stopped.new.sink in
     let cause = subst (λ (ks : List StoreKey). IsUntaken ks (length taken) before mid stop) items c.in-Err.ensures.cause in
     let first = c.in-Err.ensures.first ∙ ap (take (length taken)) items in
-    run-stopped mount c.args.given.now.script.now (traced_by c.args.given.now.ops.now c.args.given.now.trace) before after old new (g.N.Sink.told c.args.notices.now) c.stopped.result
+    wanted-stopped mount c.args.given.now.script.now c.args.given.now.ops.now c.args.wanted before after old new (g.N.Sink.told c.args.notices.now) c.stopped.result
     (untaken-writes mount before after lost stop old new c.stopped.result
     (subst (λ (ks : List StoreKey). Untaken mount before after ks lost stop) c.requires.keys (stops-taking mount before mid after keys lost taken stop c.in-Err.ensures.out first cause c.give_back.ensures))
     (subst (λ (l : List StoreKey). Finishes old new (stop_text mount stop l) (stop_status stop) c.stopped.result) c.deref-in-Err.ensures.value c.stopped.ensures))

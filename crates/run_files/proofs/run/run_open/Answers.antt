@@ -42,7 +42,7 @@ returns-in-Err g c =
     let after = g.B.Bay.told c.return_all.new.bay in
     record {
       ended = λ before olds taken of opens made.
-          run-stopped mount c.args.given.now.script.now (traced_by c.args.given.now.ops.now c.args.given.now.trace) before after (g.K.Sink.told c.args.sink.now) (g.K.Sink.told c.return_all.new.sink) (g.N.Sink.told c.args.notices.now) c.return_all.result
+          run-stopped mount c.args.given.now.script.now (traced_by c.args.given.now.ops.now c.args.trace) before after (g.K.Sink.told c.args.sink.now) (g.K.Sink.told c.return_all.new.sink) (g.N.Sink.told c.args.notices.now) c.return_all.result
           (c.return_all.ensures.ended before olds taken of
           (inr (subst (λ (ts : List TowerSeen). OpensEach mount olds ts) (sym c.in-Err.ensures.back) opens, c.requires.rest, refl)));
     }

@@ -1,6 +1,5 @@
 use Rattle.std.proofs.Common.{inl, arith}
-use Rattle.run_files.specs.Run.{traced_by}
-use Rattle.run_files.proofs.StopLaws.{run-stopped}
+use Rattle.run_files.proofs.SumLaws.{wanted-stopped}
 use Rattle.run_files.proofs.run.run_taken.Goals as goal
 
 pub open_files-requires-clause-files : goal.open_files-requires-clause-files
@@ -12,14 +11,14 @@ open_files-requires-clause-towers g c κs within = let number = c.requires.parts
 pub open_files-requires-clause-rest : goal.open_files-requires-clause-rest
 open_files-requires-clause-rest g c κs within = let number = c.requires.parts.number in let room = c.requires.rest.1 in (c.requires.rest.0, omega (arith, number, room))
 
-pub run_open-requires-clause-opened : goal.run_open-requires-clause-opened
-run_open-requires-clause-opened g c κs within = (c.args.parts.items, c.requires.parts, c.in-Ok.ensures.opened, c.in-Ok.ensures.made)
+pub run_as_wanted-requires-clause-opened : goal.run_as_wanted-requires-clause-opened
+run_as_wanted-requires-clause-opened g c κs within = (c.args.parts.items, c.requires.parts, c.in-Ok.ensures.opened, c.in-Ok.ensures.made)
 
 pub return_all-requires-clause-halts : goal.return_all-requires-clause-halts
 return_all-requires-clause-halts g c κs within = (c.args.parts.items, c.requires.parts, inl c.in-Err.ensures.stopped)
 
 pub returns-in-Ok : goal.returns-in-Ok
-returns-in-Ok g c = record { ended = λ before taken. c.run_open.ensures.ended before c.args.parts.items taken c.requires.parts c.in-Ok.ensures.opened c.in-Ok.ensures.made }
+returns-in-Ok g c = record { ended = λ before taken. c.run_as_wanted.ensures.ended before c.args.parts.items taken c.requires.parts c.in-Ok.ensures.opened c.in-Ok.ensures.made }
 
 pub returns-in-Err : goal.returns-in-Err
 returns-in-Err g c =
@@ -27,7 +26,7 @@ returns-in-Err g c =
     let after = g.B.Bay.told c.return_all.new.bay in
     record {
       ended = λ before taken.
-          run-stopped mount c.args.given.now.script.now (traced_by c.args.given.now.ops.now c.args.given.now.trace) before after (g.K.Sink.told c.args.sink.now) (g.K.Sink.told c.return_all.new.sink) (g.N.Sink.told c.args.notices.now) c.return_all.result
+          wanted-stopped mount c.args.given.now.script.now c.args.given.now.ops.now c.args.wanted before after (g.K.Sink.told c.args.sink.now) (g.K.Sink.told c.return_all.new.sink) (g.N.Sink.told c.args.notices.now) c.return_all.result
           (c.return_all.ensures.ended before c.args.parts.items taken c.requires.parts (inl c.in-Err.ensures.stopped));
     }
 

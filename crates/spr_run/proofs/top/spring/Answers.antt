@@ -3,7 +3,8 @@ use Rattle.file_stores.specs.Written.{Written}
 use Rattle.run_texts.specs.Refusal.{Names}
 use Rattle.spr_report.specs.declared.status.Status.TheVariants as statuses
 use Rattle.spr_run.specs.Ways.{outside, unread, usage, usage_text, SaysCheck, SaysTables, SaysFormatted, SaysListed}
-use Rattle.spr_run.proofs.WayLaws.{ends-check, ends-quietly, ends-dump, ends-format, ends-list, ends-run, ends-tables, named-dump}
+use Rattle.run_texts.specs.Generated.{Generation}
+use Rattle.spr_run.proofs.WayLaws.{ends-check, ends-quietly, ends-dump, ends-format, ends-generated, ends-list, ends-run, ends-tables, named-dump}
 use Rattle.spr_run.proofs.top.spring.Goals as goal
 
 pub returns-in-Ok-Run : goal.returns-in-Ok-Run
@@ -13,6 +14,14 @@ returns-in-Ok-Run g c =
     let names : Names = record { idl = c.in-Ok-Run.idl; stack = c.in-Ok-Run.stack; script = c.in-Ok-Run.script } in
     let written = rw c.in-Ok-Run.field-0-is at c.run_named.ensures.ends in
     record { ends = ends-run c.args.words.now names c.in-Ok-Run.trace o (g.K.Sink.told c.args.sink.now) (g.K.Sink.told c.run_named.new.sink) (g.N.Sink.told c.args.notices.now) (g.N.Sink.told c.run_named.new.notices) c.run_named.result asks written }
+
+pub returns-in-Ok-Gen : goal.returns-in-Ok-Gen
+returns-in-Ok-Gen g c =
+    let asks = c.in-Ok-Gen.ensures.ok ∙ ap Some c.in-Ok-Gen.field-0-is in
+    let o = outside (g.H.Shelf.told c.args.shelf.now) (g.H.Shelf.told c.run_generated.new.shelf) (g.B.Bay.told c.args.bay.now) (g.B.Bay.told c.run_generated.new.bay) in
+    let made : Generation = record { idl = c.in-Ok-Gen.idl; stack = c.in-Ok-Gen.stack; seed = c.in-Ok-Gen.seed; calls = c.in-Ok-Gen.calls } in
+    let written = rw c.in-Ok-Gen.field-0-is at c.run_generated.ensures.ends in
+    record { ends = ends-generated c.args.words.now made o (g.K.Sink.told c.args.sink.now) (g.K.Sink.told c.run_generated.new.sink) (g.N.Sink.told c.args.notices.now) (g.N.Sink.told c.run_generated.new.notices) c.run_generated.result asks written }
 
 pub returns-in-Ok-Check : goal.returns-in-Ok-Check
 returns-in-Ok-Check g c =

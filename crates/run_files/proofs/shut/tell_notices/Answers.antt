@@ -4,7 +4,7 @@ use Rattle.spr_report.proofs.Writes.{writes-err}
 use Rattle.mirror_layer.specs.declared.came.Notice.{Notice}
 use Rattle.file_stores.specs.Notices.{notice_lines}
 use Rattle.file_stores.proofs.NoticeLaws.{broke-at-number, took-at-number}
-use Rattle.run_files.proofs.run.tell_notices.Goals as goal
+use Rattle.run_files.proofs.shut.tell_notices.Goals as goal
 
 pub returns-in_err-write_notices : goal.returns-in_err-write_notices
 returns-in_err-write_notices g c =
