@@ -8,6 +8,7 @@ pub const HELP: &str =
 
 usage: spring format STACK
        spring run [--trace] IDL STACK SCRIPT
+       spring gen IDL STACK SEED CALLS
        spring dump STACK FILE
        spring disks STACK
        spring check STACK
@@ -17,6 +18,9 @@ usage: spring format STACK
   run IDL STACK SCRIPT   mounts the stack, runs the script over it, syncs each file, and writes each
                          client's answers and each file's one history; with --trace also each page
                          message, with the heads of its two frames
+  gen IDL STACK SEED CALLS
+                         makes a script of so many reads and writes from the number SEED, runs it in
+                         the same way, and writes how many were answered and the sum of all bytes
   dump STACK FILE        writes the pages of a file of the stack, as its image has them; over disks
                          in mirrors it mends them first, as a run does. Both name on standard error
                          each disk of a mirror that has no image and is left as it is, that is left
@@ -30,8 +34,9 @@ usage: spring format STACK
   --help, -h             writes this
   --version              writes the version
 
-IDL, STACK and SCRIPT are names of host files; FILE is a file of the stack. The store of disk D for
-file F is D.F.img in the current folder.
+IDL, STACK and SCRIPT are names of host files; FILE is a file of the stack. SEED is below
+2147483648, and CALLS at most 1000000. The store of disk D for file F is D.F.img in the current
+folder.
 
 The last line is 'status N', and the process ends with N:
   0  all went well                     5  a store could not be taken or given back

@@ -3,15 +3,17 @@
 
 mod help;
 mod notices;
+mod progress;
 
 use crate::help::{HELP, VERSION, asks_help, asks_version};
 use crate::notices::ErrSink;
-use hist_plain::OpenGate;
+use crate::progress::{ClearSink, Progress};
 use seen_values::Text;
 use spr_io::{HostBay, HostShelf, StdSink};
 use spr_run::spring;
 use std::alloc::{AllocError, Global};
 use std::fs::File;
+use std::io::IsTerminal;
 use std::process::ExitCode;
 use std::rt::{Runtime, Stderr};
 use std::sync::Wait;
@@ -30,7 +32,8 @@ fn words(alloc: Global, args: env::Args<Global>) -> Result<Vec<Text>, AllocError
     Ok(words)
 }
 
-/// Runs a command of these words, which tells its notices to the standard error, and answers its status.
+/// Runs a command of these words, which tells its notices to the standard error, and answers its status. A run of more than a second
+/// shows there how many calls it made, if that is a terminal.
 fn run<R: Runtime<File = File> + Threads + Wait + Sync>(
     rt: &R,
     alloc: Global,
@@ -39,8 +42,9 @@ fn run<R: Runtime<File = File> + Threads + Wait + Sync>(
 ) -> io::Result<u8> {
     let mut shelf = HostShelf::new(rt.clone()?);
     let mut bay = HostBay::new(rt.clone()?, alloc);
-    let mut sink = StdSink::new(rt.clone()?);
-    let mut notices = ErrSink::new(stderr);
+    let progress = Progress::new(rt, stderr.is_terminal());
+    let mut sink = ClearSink::new(StdSink::new(rt.clone()?), &progress);
+    let mut notices = ClearSink::new(ErrSink::new(stderr), &progress);
     let status = spring(
         rt,
         alloc,
@@ -49,8 +53,9 @@ fn run<R: Runtime<File = File> + Threads + Wait + Sync>(
         &mut bay,
         &mut sink,
         &mut notices,
-        &OpenGate,
+        &progress,
     );
+    progress.clear();
     Ok(status.number())
 }
 
