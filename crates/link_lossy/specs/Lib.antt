@@ -1,0 +1,9 @@
+pub mod Seen
+pub mod Forms
+pub mod Reading
+pub mod Links
+pub mod Tries
+pub mod Services
+pub mod Ends
+pub mod Attempts
+pub mod Calls
