@@ -16,7 +16,7 @@ use Rattle.hist_lock.specs.declared.view.Stage.{Stage}
 use Rattle.hist_lock.specs.declared.view.Stage.TheVariants.{Idle, Waits, Holds, Noted, Met}
 use Rattle.hist_lock.specs.Ranges.{in_range, may_add, Follows, longer, Grows, Added}
 use Rattle.hist_lock.specs.Rule.{ticket, number, has_slot, Standing, Apart, own, Sits, Seats, Placed, Kept, starting}
-use Rattle.hist_lock.specs.Steps.{Mine, with_stage, with_seen, waiting, Draws, Takes, Looks, Notes, Passes, Settles, below, above, both, spent}
+use Rattle.hist_lock.specs.Steps.{Mine, with_stage, with_seen, waiting, Draws, Takes, Looks, Notes, Passes, Rings, Settles, below, above, both, spent}
 use Rattle.hist_lock.proofs.Lists.{each_append, follows_self, joined, whole_longer, lt_or_le, quiet_none, each_as, each_quiet, follows_more, follows_as, apart_in, wider, within_in, joined_in}
 
 at_length : {A : Type 0} (l : List A) (i : ℕ) (a : A) → get_elem? l i ≡ some a → i < length l
@@ -188,19 +188,21 @@ module _ {T E F : Type 0} (entries : T → List E) (caller : E → Option ℕ) (
       → (j : ℕ) (u : View E F) → get_elem? views j ≡ some u → has_slot u.stage ≡ true → j ≡ i
   only d served drawn log views i v seats at tv j u au has = seats.once j i u v served au at (slot_ticket caller served drawn log u u.stage ((seats.sits j u au).standing) has) tv
 
-  -- the rule where the words are m, n and k
-  abbrev Holds3 : Deed T → ℕ → ℕ → ℕ → List (maybe.Option (Option T)) → List (View E F) → Type 0
-  Holds3 d m n k homes views = Kept entries caller fixed d record { words = m ∷ n ∷ k ∷ []; homes = homes; views = views }
+  -- the rule where the words are m, n and k, and the bells
+  abbrev Holds3 : Deed T → List ℕ → ℕ → ℕ → ℕ → List (maybe.Option (Option T)) → List (View E F) → Type 0
+  Holds3 d bells m n k homes views = Kept entries caller fixed d record { words = m ∷ n ∷ k ∷ bells; homes = homes; views = views }
 
-  -- nothing changes
-  stays : (d : Deed T) (s : State (Option T) (View E F)) (i : ℕ) (v : View E F) (kept : Kept entries caller fixed d s) → get_elem? s.views i ≡ some v
-      → Holds3 d kept.drawn kept.served (length kept.log) s.homes (set s.views i v)
-  stays d s i v kept at = subst (λ (vs : List (View E F)). Holds3 d kept.drawn kept.served (length kept.log) s.homes vs) (sym (set_again s.views i v at)) record {
+  -- nothing changes but bells
+  rung : (d : Deed T) (s : State (Option T) (View E F)) (i : ℕ) (v : View E F) (kept : Kept entries caller fixed d s) → get_elem? s.views i ≡ some v
+      → (bells : List ℕ) → length bells ≡ 16 → Holds3 d bells kept.drawn kept.served (length kept.log) s.homes (set s.views i v)
+  rung d s i v kept at bells many = subst (λ (vs : List (View E F)). Holds3 d bells kept.drawn kept.served (length kept.log) s.homes vs) (sym (set_again s.views i v at)) record {
     drawn = kept.drawn;
     served = kept.served;
     log = kept.log;
     added = kept.added;
+    bells = bells;
     words = refl;
+    many = many;
     order = kept.order;
     small = kept.small;
     opened = kept.opened;
@@ -210,10 +212,31 @@ module _ {T E F : Type 0} (entries : T → List E) (caller : E → Option ℕ) (
     seats = kept.seats;
   }
 
+  -- nothing changes
+  stays : (d : Deed T) (s : State (Option T) (View E F)) (i : ℕ) (v : View E F) (kept : Kept entries caller fixed d s) → get_elem? s.views i ≡ some v
+      → Holds3 d kept.bells kept.drawn kept.served (length kept.log) s.homes (set s.views i v)
+  stays d s i v kept at = rung d s i v kept at kept.bells kept.many
+
+  -- a bell is rung
+  rings_at : (d : Deed T) (n i : ℕ) (me : Mine T E F) (k : ℕ) → k < 16
+      → Allows (Kept entries caller fixed d) n i me (suc (suc (suc k))) (λ m. (m + 1) % 2 ^ 64) (Rings (step n (suc (suc (suc k))) 1 0 none) me)
+  rings_at d n i me k low s kept wide at small =
+      let P : List ℕ → Type 0 = λ ws. (w : View E F) × (a : Act (Option T)) × Valid s.homes me.1 a
+      × Kept entries caller fixed d record { words = set ws (suc (suc (suc k))) ((get_or ws (suc (suc (suc k))) 0 + 1) % 2 ^ 64); homes = homes_after s.homes me.1 a; views = set s.views i w }
+      × Rings (step n (suc (suc (suc k))) 1 0 none) me (get_or ws (suc (suc (suc k))) 0) (w, carried_after me.1 a) in
+      let bells : List ℕ = set kept.bells k ((get_or kept.bells k 0 + 1) % 2 ^ 64) in
+      subst P (sym kept.words) (me.0, keeps, tt, rung d s i me.0 kept at bells (length-set kept.bells k ((get_or kept.bells k 0 + 1) % 2 ^ 64) ∙ kept.many), refl)
+
+  pub rings : (d : Deed T) (n i : ℕ) (me : Mine T E F) (bell k : ℕ) → k < 16 → bell ≡ 3 + k
+      → Allows (Kept entries caller fixed d) n i me bell (λ m. (m + 1) % 2 ^ 64) (Rings (step n bell 1 0 none) me)
+  rings d n i me bell k low is =
+      let at : suc (suc (suc k)) ≡ bell = omega (arith, is) in
+      subst (λ b. Allows (Kept entries caller fixed d) n i me b (λ m. (m + 1) % 2 ^ 64) (Rings (step n b 1 0 none) me)) at (rings_at d n i me k low)
+
   -- a ticket is drawn
   draws_hit : (d : Deed T) (s : State (Option T) (View E F)) (i : ℕ) (v : View E F) (kept : Kept entries caller fixed d s) → get_elem? s.views i ≡ some v
       → v.stage ≡ Idle → v.first < v.end → kept.drawn + 1 < 18446744073709551616
-      → Holds3 d (kept.drawn + 1) kept.served (length kept.log) s.homes (set s.views i (waiting v kept.drawn))
+      → Holds3 d kept.bells (kept.drawn + 1) kept.served (length kept.log) s.homes (set s.views i (waiting v kept.drawn))
   draws_hit d s i v kept at idle lt fits =
       let w : View E F = waiting v kept.drawn in
       let was = kept.seats.sits i v at in
@@ -223,7 +246,9 @@ module _ {T E F : Type 0} (entries : T → List E) (caller : E → Option ℕ) (
         served = kept.served;
         log = kept.log;
         added = kept.added;
+        bells = kept.bells;
         words = refl;
+        many = kept.many;
         order = omega arith;
         small = fits;
         opened = kept.opened;
@@ -249,12 +274,12 @@ module _ {T E F : Type 0} (entries : T → List E) (caller : E → Option ℕ) (
       let P : List ℕ → Type 0 = λ ws. (w : View E F) × (a : Act (Option T)) × Valid s.homes me.1 a
       × Kept entries caller fixed d record { words = set ws 0 (either (eqb (get_or ws 0 0) g) (g + 1) (get_or ws 0 0)); homes = homes_after s.homes me.1 a; views = set s.views i w }
       × Draws (step n 0 g (g + 1) none) me (get_or ws 0 0) (w, carried_after me.1 a) in
-      subst P (sym kept.words) (exchanged kept.drawn g (g + 1) (λ m. Goal (kept.drawn ∷ kept.served ∷ length kept.log ∷ []) m)
+      subst P (sym kept.words) (exchanged kept.drawn g (g + 1) (λ m. Goal (kept.drawn ∷ kept.served ∷ length kept.log ∷ kept.bells) m)
       (λ e. (
         waiting me.0 kept.drawn,
         keeps,
         tt,
-        subst (λ m. Holds3 d m kept.served (length kept.log) s.homes (set s.views i (waiting me.0 kept.drawn))) (ap (λ m. m + 1) e)
+        subst (λ m. Holds3 d kept.bells m kept.served (length kept.log) s.homes (set s.views i (waiting me.0 kept.drawn))) (ap (λ m. m + 1) e)
             (draws_hit d s i me.0 kept at idle lt (omega arith)),
         ((λ e'. refl), (λ ne. absurd (ne e))),
       ))
@@ -264,7 +289,7 @@ module _ {T E F : Type 0} (entries : T → List E) (caller : E → Option ℕ) (
   looks_hit : (d : Deed T) (s : State (Option T) (View E F)) (i : ℕ) (v : View E F) (kept : Kept entries caller fixed d s) → get_elem? s.views i ≡ some v
       → (c : List (ℕ × Option T)) → v.stage ≡ Waits kept.served
       → (w : View E F) × (a : Act (Option T)) × Valid s.homes c a
-      × Holds3 d kept.drawn kept.served (length kept.log) (homes_after s.homes c a) (set s.views i w)
+      × Holds3 d kept.bells kept.drawn kept.served (length kept.log) (homes_after s.homes c a) (set s.views i w)
       × Takes entries caller fixed (v, c) kept.served (w, carried_after c a)
   looks_hit d s i v kept at c waits =
       let was = kept.seats.sits i v at in
@@ -282,7 +307,9 @@ module _ {T E F : Type 0} (entries : T → List E) (caller : E → Option ℕ) (
           served = kept.served;
           log = kept.log;
           added = kept.added;
+          bells = kept.bells;
           words = refl;
+          many = kept.many;
           order = kept.order;
           small = kept.small;
           opened = kept.opened;
@@ -320,7 +347,7 @@ module _ {T E F : Type 0} (entries : T → List E) (caller : E → Option ℕ) (
   -- the list grows by what the holder's range may add
   grown : (d : Deed T) (s : State (Option T) (View E F)) (i : ℕ) (v : View E F) (kept : Kept entries caller fixed d s) → get_elem? s.views i ≡ some v
       → (y : T) → v.stage ≡ Holds kept.served → Grows caller v.first v.end v.seen (entries y)
-      → Holds3 d kept.drawn kept.served (length (entries y)) s.homes (set s.views i (with_seen v (entries y) (Noted kept.served)))
+      → Holds3 d kept.bells kept.drawn kept.served (length (entries y)) s.homes (set s.views i (with_seen v (entries y) (Noted kept.served)))
   grown d s i v kept at y holds grows =
       let was = kept.seats.sits i v at in
       let w : View E F = with_seen v (entries y) (Noted kept.served) in
@@ -333,7 +360,9 @@ module _ {T E F : Type 0} (entries : T → List E) (caller : E → Option ℕ) (
         served = kept.served;
         log = entries y;
         added = kept.added ++ grows.added;
+        bells = kept.bells;
         words = refl;
+        many = kept.many;
         order = kept.order;
         small = kept.small;
         opened = longer_list ∙ (ap (λ l. l ++ grows.added) kept.opened ∙ append_assoc (entries d.value.value) kept.added grows.added);
@@ -377,14 +406,14 @@ module _ {T E F : Type 0} (entries : T → List E) (caller : E → Option ℕ) (
         w,
         keeps,
         tt,
-        subst (λ m. Holds3 d kept.drawn kept.served m s.homes (set s.views i w)) (sym is) (grown d s i me.0 kept at y holds' grows),
+        subst (λ m. Holds3 d kept.bells kept.drawn kept.served m s.homes (set s.views i w)) (sym is) (grown d s i me.0 kept at y holds' grows),
         (y, has, ap (λ g. (with_seen me.0 (entries y) (Noted g), me.1)) (sym (ap number holds'))),
       )
 
   -- the turn is passed on, and the slot comes home
   passed : (d : Deed T) (s : State (Option T) (View E F)) (i : ℕ) (v : View E F) (kept : Kept entries caller fixed d s) → get_elem? s.views i ≡ some v
       → (y : T) → v.stage ≡ Noted kept.served → entries y ≡ v.seen → v.fixed ≡ Some (fixed y)
-      → Holds3 d kept.drawn (kept.served + 1) (length kept.log) (set s.homes 0 (some (Some y))) (set s.views i (with_stage v Idle))
+      → Holds3 d kept.bells kept.drawn (kept.served + 1) (length kept.log) (set s.homes 0 (some (Some y))) (set s.views i (with_stage v Idle))
   passed d s i v kept at y noted list part =
       let was = kept.seats.sits i v at in
       let w : View E F = with_stage v Idle in
@@ -396,7 +425,9 @@ module _ {T E F : Type 0} (entries : T → List E) (caller : E → Option ℕ) (
         served = kept.served + 1;
         log = kept.log;
         added = kept.added;
+        bells = kept.bells;
         words = refl;
+        many = kept.many;
         order = let lt = turn.2 in omega arith;
         small = kept.small;
         opened = kept.opened;
@@ -447,8 +478,8 @@ module _ {T E F : Type 0} (entries : T → List E) (caller : E → Option ℕ) (
         w,
         gives,
         tt,
-        subst (λ (c : List (ℕ × Option T)). Holds3 d kept.drawn ((kept.served + 1) % 2 ^ 64) (length kept.log) (homes_after s.homes c gives) (set s.views i w)) (sym has)
-            (subst (λ m. Holds3 d kept.drawn m (length kept.log) (set s.homes 0 (some (Some y))) (set s.views i w)) (sym next) (passed d s i me.0 kept at y noted' list part)),
+        subst (λ (c : List (ℕ × Option T)). Holds3 d kept.bells kept.drawn ((kept.served + 1) % 2 ^ 64) (length kept.log) (homes_after s.homes c gives) (set s.views i w)) (sym has)
+            (subst (λ m. Holds3 d kept.bells kept.drawn m (length kept.log) (set s.homes 0 (some (Some y))) (set s.views i w)) (sym next) (passed d s i me.0 kept at y noted' list part)),
         (refl, omega arith),
       )
 
@@ -471,7 +502,9 @@ module _ {T E F : Type 0} (entries : T → List E) (caller : E → Option ℕ) (
           served = kept.served;
           log = kept.log;
           added = kept.added;
+          bells = kept.bells;
           words = refl;
+          many = kept.many;
           order = kept.order;
           small = kept.small;
           opened = kept.opened;
@@ -562,7 +595,9 @@ module _ {T E F : Type 0} (entries : T → List E) (caller : E → Option ℕ) (
         served = kept.served;
         log = kept.log;
         added = kept.added;
+        bells = kept.bells;
         words = kept.words;
+        many = kept.many;
         order = kept.order;
         small = kept.small;
         opened = kept.opened;
@@ -670,7 +705,9 @@ module _ {T E F : Type 0} (entries : T → List E) (caller : E → Option ℕ) (
         served = kept.served;
         log = kept.log;
         added = kept.added;
+        bells = kept.bells;
         words = kept.words;
+        many = kept.many;
         order = kept.order;
         small = kept.small;
         opened = kept.opened;
@@ -730,7 +767,7 @@ module _ {T E F : Type 0} (entries : T → List E) (caller : E → Option ℕ) (
 
   -- the rule holds of a new lock
   pub opens : (d : Deed T) (x : T) (n : ℕ) → d.value.value ≡ x → d.first < d.end → n ≡ length (entries x)
-      → Kept entries caller fixed d (opening (0 ∷ 0 ∷ n ∷ []) (Some x ∷ []) (starting entries fixed d))
+      → Kept entries caller fixed d (opening (0 ∷ 0 ∷ n ∷ 0 ∷ 0 ∷ 0 ∷ 0 ∷ 0 ∷ 0 ∷ 0 ∷ 0 ∷ 0 ∷ 0 ∷ 0 ∷ 0 ∷ 0 ∷ 0 ∷ 0 ∷ 0 ∷ []) (Some x ∷ []) (starting entries fixed d))
   opens d x n is some_caller len =
       let v : View E F = starting entries fixed d in
       let log : List E = entries d.value.value in
@@ -739,7 +776,9 @@ module _ {T E F : Type 0} (entries : T → List E) (caller : E → Option ℕ) (
         served = 0;
         log = log;
         added = [];
-        words = ap (λ m. 0 ∷ 0 ∷ m ∷ []) (len ∙ ap (λ y. length (entries y)) (sym is));
+        bells = 0 ∷ 0 ∷ 0 ∷ 0 ∷ 0 ∷ 0 ∷ 0 ∷ 0 ∷ 0 ∷ 0 ∷ 0 ∷ 0 ∷ 0 ∷ 0 ∷ 0 ∷ 0 ∷ [];
+        many = refl;
+        words = ap (λ m. 0 ∷ 0 ∷ m ∷ 0 ∷ 0 ∷ 0 ∷ 0 ∷ 0 ∷ 0 ∷ 0 ∷ 0 ∷ 0 ∷ 0 ∷ 0 ∷ 0 ∷ 0 ∷ 0 ∷ 0 ∷ 0 ∷ []) (len ∙ ap (λ y. length (entries y)) (sym is));
         order = omega arith;
         small = omega arith;
         opened = sym (append-nil log);

@@ -1,5 +1,5 @@
 -- The rule that the lock keeps: what holds between any two steps.
--- Word 0 counts the tickets that were drawn, word 1 those that were served, and word 2 is the length of the log, which is the list of the value in the one slot.
+-- Word 0 counts the tickets that were drawn, word 1 those that were served, and word 2 is the length of the log, which is the list of the value in the one slot. The sixteen others are bells, of which the rule says nothing.
 use Rattle.std.specs.Prelude.{◌≡◌, ◌≢◌, ◌⊎◌, ℕ, ◌<◌, ◌≤◌, Bool, true, false, List, [], ◌∷◌, ◌++◌, length, Option, Some, None}
 use mathlib.Core.Option.{some, none}
 use mathlib.Core.Option as maybe
@@ -100,7 +100,9 @@ module _ {T E F : Type 0} (entries : T → List E) (caller : E → Option ℕ) (
     pub served : ℕ
     pub log : List E
     pub added : List E
-    pub words : s.words ≡ drawn ∷ served ∷ length log ∷ []
+    pub bells : List ℕ
+    pub words : s.words ≡ drawn ∷ served ∷ length log ∷ bells
+    pub many : length bells ≡ 16
     pub order : served ≤ drawn
     pub small : drawn < 18446744073709551616
     pub opened : log ≡ entries d.value.value ++ added

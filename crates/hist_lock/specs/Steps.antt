@@ -31,6 +31,10 @@ module _ {T E F : Type 0} where
   abbrev pub Passes : Step (Option T) → Mine T E F → ℕ → Mine T E F → Type 0
   Passes st m found m' = (m' ≡ (with_stage m.0 Idle, rest m.1)) × (found < 18446744073709551615)
 
+  -- nothing is told, and nothing changes
+  abbrev pub Rings : Step (Option T) → Mine T E F → ℕ → Mine T E F → Type 0
+  Rings st m found m' = m' ≡ m
+
   -- of two joined seats each knew a list that goes on in what the one seat knows, with no entry of that seat's callers
   abbrev pub Settles : (E → Option ℕ) → Step (Option T) → Mine T E F → ℕ → Mine T E F → Type 0
   Settles caller st m found m' = (m' ≡ (with_stage m.0 Idle, m.1)) × ((at : ℕ) × (xs ys : List E) × (m.0.stage ≡ Met at xs ys)

@@ -1,13 +1,13 @@
 //! The lock and its seats.
 
-ghost use Rattle.std.specs.Prelude.{◌≡◌, ℕ, ◌<◌, ◌≤◌, ◌∷◌, [], IfOk, IfErr, Ok, Some, false};
+ghost use Rattle.std.specs.Prelude.{◌≡◌, ℕ, ◌+◌, ◌<◌, ◌≤◌, ◌∷◌, [], IfOk, IfErr, Ok, Some, false};
 ghost use Rattle.hist_lock.specs.Ranges.{Follows, Grows, Added};
 ghost use Rattle.hist_lock.specs.Rule.{number};
 ghost use Rattle.hist_lock.specs.Steps.{with_seen, waiting, Takes, below, above};
 ghost use Rattle.hist_lock.specs.declared.view.Stage.TheVariants.{Idle, Waits, Holds, Noted};
 ghost use Rattle.hist_lock.specs.Known.{Begins, IsFree, HasTaken, is_own, whole, taking, giving, with_range, meeting};
 
-use crate::rule::{Cut, Draw, Limit, Look, Neighbours, Note, Pass, Settle, Telling, Turns};
+use crate::rule::{Cut, Draw, Limit, Look, Neighbours, Note, Pass, Ring, Settle, Telling, Turns};
 use crate::storied::Storied;
 use crate::view::{Deed, View};
 use atomic_table::{Shared, Table};
@@ -35,7 +35,7 @@ impl<T: Storied> Model for HistLock<T> {
 
     ghost view = { λ l. lock_of T.entries T.fixed l.table.shared.table_id l.table.shared.key };
 
-    ghost invariant = { λ l. (l.table.shared.table_id.words ≡ 3) × (l.table.shared.table_id.slots ≡ 1) };
+    ghost invariant = { λ l. (l.table.shared.table_id.words ≡ 19) × (l.table.shared.table_id.slots ≡ 1) };
 }
 
 type Words<T> = Shared<
@@ -73,7 +73,8 @@ impl<T: Storied> HistLock<T> {
         ensures seat { IfOk result (λ r. r.1 ≡ whole r.0) }
         ensures err { IfErr result (λ v. v ≡ value) }
     {
-        let words = [0, 0, value.len()];
+        let length = value.len();
+        let words = [0, 0, length, 0, 0, 0, 0, 0, 0, 0, 0, 0, 0, 0, 0, 0, 0, 0, 0];
         let deed = Deed {
             first,
             end,
@@ -121,7 +122,7 @@ impl<T: Storied> HistLock<T> {
         }
         let served = words.fetch_add::<Pass>(&mut seat.place, 1, 1);
         if words.peek(0) > served + 1 {
-            words.wake_all(1);
+            ring(words, &mut seat.place, bell_of(served + 1));
         }
     }
 
@@ -188,7 +189,7 @@ fn only<T>(mut slots: Vec<Option<T>>) -> T
 
 /// Draws a ticket. If no ticket were left, it would wait for good.
 fn draw<T: Storied, R: Wait>(rt: &R, words: &Words<T>, place: &mut Place<T>) -> u64
-    requires table { (place.old.table_id ≡ words.now.table_id) × (words.now.table_id.words ≡ 3) }
+    requires table { (place.old.table_id ≡ words.now.table_id) × (words.now.table_id.words ≡ 19) }
     requires idle { (place.old.me.0.stage ≡ Idle) × (place.old.me.0.first < place.old.me.0.end) }
     ensures same { (place.new.table_id ≡ place.old.table_id) × (place.new.id ≡ place.old.id) }
     ensures waits { place.new.me ≡ (waiting place.old.me.0 result, place.old.me.1) }
@@ -206,15 +207,35 @@ fn draw<T: Storied, R: Wait>(rt: &R, words: &Words<T>, place: &mut Place<T>) -> 
     unreachable!()
 }
 
-/// Waits until the ticket is served, and takes the slot.
+/// The word on which who has the ticket sleeps.
+fn bell_of(ticket: u64) -> usize
+    ensures { (k : ℕ) × (k < 16) × (result ≡ 3 + k) }
+{
+    3 + (ticket % 16) as usize
+}
+
+/// Rings a bell, and wakes who sleeps by it.
+fn ring<T: Storied>(words: &Words<T>, place: &mut Place<T>, bell: usize)
+    requires table { (place.old.table_id ≡ words.now.table_id) × (words.now.table_id.words ≡ 19) }
+    requires bell { (k : ℕ) × (k < 16) × (bell ≡ 3 + k) }
+    ensures same { (place.new.table_id ≡ place.old.table_id) × (place.new.id ≡ place.old.id) × (place.new.me ≡ place.old.me) }
+{
+    words.fetch_add::<Ring>(place, bell, 1);
+    words.wake_all(bell);
+}
+
+/// Waits until the ticket is served, and takes the slot. It looks at its bell before the serving number: who serves the
+/// ticket rings behind that, so the bell that it sleeps by has then changed.
 fn await_turn<T: Storied, R: Wait>(rt: &R, words: &Words<T>, place: &mut Place<T>, ticket: u64)
-    requires table { (place.old.table_id ≡ words.now.table_id) × (words.now.table_id.words ≡ 3) }
+    requires table { (place.old.table_id ≡ words.now.table_id) × (words.now.table_id.words ≡ 19) }
     requires waits { place.old.me.0.stage ≡ Waits ticket }
     ensures same { (place.new.table_id ≡ place.old.table_id) × (place.new.id ≡ place.old.id) }
     ensures takes { Takes T.entries T.caller T.fixed place.old.me ticket place.new.me }
 {
+    let bell = bell_of(ticket);
     let mut looks = 0;
     for _ in rt.forever() {
+        let rung = words.peek(bell);
         let serving = words.load::<Look>(place, 1);
         if serving == ticket {
             return;
@@ -223,7 +244,7 @@ fn await_turn<T: Storied, R: Wait>(rt: &R, words: &Words<T>, place: &mut Place<T
             looks += 1;
             spin_loop();
         } else {
-            words.park(rt, 1, (serving & 0xffff_ffff) as u32);
+            words.park(rt, bell, (rung & 0xffff_ffff) as u32);
         }
     }
     unreachable!()
@@ -232,7 +253,7 @@ fn await_turn<T: Storied, R: Wait>(rt: &R, words: &Words<T>, place: &mut Place<T
 /// Notes the length of the list of the value that the seat is about to give.
 fn note<T: Storied, N: Telling<T>>(words: &Words<T>, place: &mut Place<T>, value: &T)
     requires told { N.told ≡ Some value.now }
-    requires table { (place.old.table_id ≡ words.now.table_id) × (words.now.table_id.words ≡ 3) }
+    requires table { (place.old.table_id ≡ words.now.table_id) × (words.now.table_id.words ≡ 19) }
     requires holds { (t : ℕ) × (place.old.me.0.stage ≡ Holds t) }
     requires list { Grows T.caller place.old.me.0.first place.old.me.0.end place.old.me.0.seen (T.entries value.now) }
     ensures same { (place.new.table_id ≡ place.old.table_id) × (place.new.id ≡ place.old.id) }
@@ -245,7 +266,7 @@ fn note<T: Storied, N: Telling<T>>(words: &Words<T>, place: &mut Place<T>, value
 /// Cuts a seat's range.
 fn cut<T: Storied, C: Limit>(words: &Words<T>, place: &mut Place<T>, at: u32) -> Place<T>
     requires limit { at ≡ C.at }
-    requires table { (place.old.table_id ≡ words.now.table_id) × (words.now.table_id.words ≡ 3) }
+    requires table { (place.old.table_id ≡ words.now.table_id) × (words.now.table_id.words ≡ 19) }
     requires idle { (place.old.me.0.stage ≡ Idle) × (place.old.me.0.first < at) × (at < place.old.me.0.end) }
     ensures same { (place.new.table_id ≡ place.old.table_id) × (place.new.id ≡ place.old.id) }
     ensures other { result.table_id ≡ place.old.table_id }

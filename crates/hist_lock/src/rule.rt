@@ -9,6 +9,7 @@
 //! | `Note`: note the length of the list, once a hold | word 2, by a store |
 //! | give the value | the slot, by an exchange |
 //! | `Pass`: give the slot back and pass the turn on | word 1, by an add of one |
+//! | `Ring`: ring the bell of the next ticket | words 3 to 18, by an add of one |
 //! | `Cut`: split a seat | word 0, by a load that tells nothing |
 //! | `Neighbours`: join two seats | word 0, by a load that tells nothing |
 //! | `Settle`: after a join, learn how the two lists lie | word 1, by a load |
@@ -78,6 +79,15 @@ impl<T: Storied> Play<Option<T>, View<T::Entry, T::Fixed>> for Pass {
     ghost use Rattle.hist_lock.specs.Steps.{Passes};
 
     ghost then = { Passes };
+}
+
+/// Rings a bell: it tells nothing.
+pub struct Ring;
+
+impl<T: Storied> Play<Option<T>, View<T::Entry, T::Fixed>> for Ring {
+    ghost use Rattle.hist_lock.specs.Steps.{Rings};
+
+    ghost then = { Rings };
 }
 
 /// Tells how the lists of two joined seats lie in what the one seat knows.
