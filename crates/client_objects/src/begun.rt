@@ -10,9 +10,9 @@ ghost use Rattle.client_objects.specs.Views.{views_from, file_names, names_at_st
 ghost use Rattle.client_objects.specs.Begun.{StandsAtStart, HasContexts, HasObjects};
 
 use name_context::Names;
-use seen_values::Text;
 use stack_accept::{FileEntry, Mounted, NodeEntry};
 use std::alloc::{AllocError, Global};
+use value_types::Text;
 
 /// The view of a node, which has this number; none if the node has no view. An error is want of memory.
 fn view_of(number: u32, node: &NodeEntry) -> Result<Option<(Text, u32)>, AllocError>

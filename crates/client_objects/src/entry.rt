@@ -12,13 +12,13 @@ ghost use Rattle.client_objects.specs.Held.{target_in, route_by, IsHeld};
 use crate::kind::ObjectKind;
 use crate::target::{Found, Target};
 use domain_doors::{Domain, NoDoor};
-use seen_values::Text;
 use stack_accept::Mounted;
 use std::alloc::AllocError;
 use sub_basic::{Cluster, Singleton};
 use sub_caching::Caching;
 use sub_core::{Object, ObjectErr, Route, Subcontract};
 use sub_reconnect::Reconnectable;
+use value_types::Text;
 
 /// An open object under its name.
 #[derive(Debug, Drop)]

@@ -18,11 +18,11 @@ use crate::target::Found;
 use crate::why::NotReceived;
 use domain_doors::{Domain, NoDoor};
 use marshal_buf::{Buf, Door};
-use seen_values::{Path, Text};
 use stack_accept::Mounted;
 use std::alloc::{AllocError, Global};
 use std::marker::Model;
 use text_words::read_path;
+use value_types::{Path, Text};
 
 /// The open objects of a client, in the order in which they were opened. Contracts see them as that list.
 #[derive(Debug, Drop)]

@@ -12,12 +12,12 @@ ghost use Rattle.client_objects.specs.Laws.{MayKeep};
 use crate::kind::ObjectKind;
 use domain_doors::Domain;
 use marshal_buf::{Buf, Door};
-use seen_values::Text;
 use std::alloc::{AllocError, Global};
 use sub_basic::{Cluster, Singleton};
 use sub_caching::Caching;
 use sub_core::{MANAGER, Object, ObjectErr, Subcontract};
 use sub_reconnect::Reconnectable;
+use value_types::Text;
 
 /// What is bound under a path for a file at a view: an object of the subcontract, sent by a domain of its own, which stands for
 /// that of the server. An error is that memory ran out.

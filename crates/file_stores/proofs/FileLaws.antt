@@ -7,7 +7,7 @@ use Rattle.std.proofs.lemmas.List.{append-nil, append_cancel_left, map-append, l
 use Rattle.std.proofs.lemmas.List.FromFn.{length-map-range_with_len}
 use Rattle.stack_accept.specs.Mount.{Mount}
 use Rattle.stack_accept.specs.declared.TheConstants.{MAX_DISKS}
-use Rattle.run_defs.specs.declared.store.StoreKey.{StoreKey}
+use Rattle.script_meaning.specs.declared.store.StoreKey.{StoreKey}
 use Rattle.stack_accept.specs.Sound.{IsMount}
 use Rattle.file_stores.specs.Keys.{AreStores, EachAt, IsStore, stores_of_file, stores_of}
 use Rattle.file_stores.specs.Held.{StoreSeen, keys_of, IsFit, Became}

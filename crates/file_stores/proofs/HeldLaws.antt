@@ -4,8 +4,8 @@ use Rattle.std.specs.Prelude.{filter, slice_get, Some}
 use Rattle.std.proofs.lemmas.List.{take_more}
 use Rattle.stack_accept.specs.Mount.{Mount}
 use Rattle.stack_accept.specs.Sound.{IsMount}
-use Rattle.run_defs.specs.declared.store.StoreKey.{StoreKey}
-use Rattle.run_defs.specs.Stack.{disk_name, file_name}
+use Rattle.script_meaning.specs.declared.store.StoreKey.{StoreKey}
+use Rattle.script_meaning.specs.Stack.{disk_name, file_name}
 use Rattle.spr_io.specs.Berth.{Berth, Berths, BaySeen, Opens, taken, SameElsewhere, SameBerths}
 use Rattle.disk_format.specs.Shape.{blocks_of}
 use Rattle.file_stores.specs.Keys.{EachAt, IsStore, AreStores, image_shape, berth_of, is_lost, IsOther, SameOthers}

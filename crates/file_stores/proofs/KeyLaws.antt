@@ -9,8 +9,8 @@ use Rattle.std.proofs.lemmas.Bool.{eqb-true, eq-eqb}
 use Rattle.stack_accept.specs.Mount.{Mount}
 use Rattle.stack_accept.specs.Sound.{IsMount}
 use Rattle.stack_accept.specs.declared.entries.FileEntry.{FileEntry}
-use Rattle.run_defs.specs.declared.store.StoreKey.{StoreKey}
-use Rattle.run_defs.specs.Stack.{disk_name, file_name}
+use Rattle.script_meaning.specs.declared.store.StoreKey.{StoreKey}
+use Rattle.script_meaning.specs.Stack.{disk_name, file_name}
 use Rattle.file_stores.specs.Keys.{EachAt, IsStore, AreStores, is_key, is_lost}
 use Rattle.file_stores.proofs.Lists.{at-longer, at-last, at-taken, length-more}
 

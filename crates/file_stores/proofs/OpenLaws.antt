@@ -1,8 +1,8 @@
 -- What is known of a file whose image was opened.
 use Rattle.std.proofs.Common.{◌≡◌, ℕ, zero, suc, List, [], ◌∷◌, length, Option, refl, sym, ap, ◌∙◌}
 use Rattle.stack_accept.specs.Mount.{Mount}
-use Rattle.run_defs.specs.Stack.{pages_of}
-use Rattle.run_defs.specs.declared.store.StoreKey.{StoreKey}
+use Rattle.script_meaning.specs.Stack.{pages_of}
+use Rattle.script_meaning.specs.declared.store.StoreKey.{StoreKey}
 use Rattle.disk_format.specs.declared.shape.ImageShape.{ImageShape}
 use Rattle.file_stores.specs.Keys.{stores_of_file}
 use Rattle.file_stores.specs.Held.{StoreSeen, keys_of}

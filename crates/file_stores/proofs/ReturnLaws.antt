@@ -4,7 +4,7 @@ use Rattle.std.specs.Prelude.{slice_get, IsSome, filter}
 use Rattle.std.proofs.lemmas.List.{length-map}
 use Rattle.std.proofs.lemmas.Option.{slice_get_within}
 use Rattle.stack_accept.specs.Mount.{Mount}
-use Rattle.run_defs.specs.declared.store.StoreKey.{StoreKey}
+use Rattle.script_meaning.specs.declared.store.StoreKey.{StoreKey}
 use Rattle.spr_io.specs.Content.{Content}
 use Rattle.spr_io.specs.Berth.{Berth, BaySeen, taken}
 use Rattle.file_stores.specs.declared.stop.Stop.{Stop}

@@ -20,7 +20,7 @@ use Rattle.file_stores.specs.declared.stop.Stop.{Stop}
 use Rattle.mirror_layer.specs.declared.refuse.Refusal.TheVariants as whys
 use Rattle.file_stores.specs.declared.stop.Stop.TheVariants as stops
 use Rattle.file_stores.specs.State.{StoreState}
-use Rattle.run_defs.specs.declared.store.StoreKey.{StoreKey}
+use Rattle.script_meaning.specs.declared.store.StoreKey.{StoreKey}
 use Rattle.file_stores.specs.Keys.{stores_of_file}
 use Rattle.file_stores.specs.Held.{StoreSeen, keys_of}
 use Rattle.file_stores.proofs.FileLaws.{file-number}

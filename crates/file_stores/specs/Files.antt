@@ -3,7 +3,7 @@ use Rattle.std.specs.Prelude.{◌≡◌, ℕ, suc, ◌<◌, ◌≤◌, List, [],
 use Rattle.std.specs.List.{flat_map}
 use Rattle.stack_accept.specs.Mount.{Mount}
 use Rattle.stack_accept.specs.Sound.{IsMount}
-use Rattle.run_defs.specs.declared.store.StoreKey.{StoreKey}
+use Rattle.script_meaning.specs.declared.store.StoreKey.{StoreKey}
 use Rattle.file_stores.specs.Keys.{EachAt, stores_of_file}
 use Rattle.file_stores.specs.State.{StoreState}
 use Rattle.file_stores.specs.Held.{StoreSeen, IsFit, keys_of}

@@ -2,8 +2,8 @@
 use Rattle.std.specs.Prelude.{◌≡◌, ℕ, ◌≤◌, List, [], ◌∷◌, ◌++◌, length, map, filter, slice_get, Some, IfSome, IsSome, if◌then◌else◌, Bool, vec_capacity}
 use Rattle.std.specs.Global.{Vec}
 use Rattle.stack_accept.specs.Mount.{Mount}
-use Rattle.run_defs.specs.declared.store.StoreKey.{StoreKey}
-use Rattle.run_defs.specs.Stack.{disk_name, file_name}
+use Rattle.script_meaning.specs.declared.store.StoreKey.{StoreKey}
+use Rattle.script_meaning.specs.Stack.{disk_name, file_name}
 use Rattle.spr_io.specs.Content.{KeepsShape}
 use Rattle.spr_io.specs.Berth.{BaySeen, taken, SameElsewhere}
 use Rattle.disk_format.specs.Shape.{blocks_of}

@@ -3,7 +3,7 @@ use Rattle.std.specs.Prelude.{◌≡◌, ℕ, ◌<◌, List, [], ◌∷◌, get_
 use Rattle.std.specs.List.{flat_map, range_with_len}
 use Rattle.text_words.specs.Lines.{line_of}
 use Rattle.stack_accept.specs.Mount.{Mount}
-use Rattle.run_defs.specs.Stack.{disk_name, file_name}
+use Rattle.script_meaning.specs.Stack.{disk_name, file_name}
 use Rattle.mirror_layer.specs.declared.came.Notice.{Notice}
 use Rattle.mirror_layer.specs.Notices.{at_close, notice_word}
 use Rattle.mirror_layer.specs.Came.{is_live_in}

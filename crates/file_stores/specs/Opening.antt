@@ -2,7 +2,7 @@
 use Rattle.std.specs.Prelude.{◌≡◌, ℕ, ◌<◌, List, [], ◌∷◌, length, Option}
 use Rattle.spr_io.specs.Content.{Content}
 use Rattle.stack_accept.specs.Mount.{Mount}
-use Rattle.run_defs.specs.Stack.{pages_of}
+use Rattle.script_meaning.specs.Stack.{pages_of}
 use Rattle.disk_format.specs.declared.shape.ImageShape.{ImageShape}
 use Rattle.disk_layer.specs.declared.refused.OpenWhy.{OpenWhy}
 use Rattle.disk_layer.specs.Calls as disks

@@ -1,7 +1,7 @@
 -- What becomes of stores that are taken from the bay and given back.
 use Rattle.std.specs.Prelude.{◌≡◌, ℕ, ◌+◌, ◌-◌, ◌^◌, ◌≤◌, List, length, filter, Option, IfSome, IsSome, Bool, true, false, min}
 use Rattle.stack_accept.specs.Mount.{Mount}
-use Rattle.run_defs.specs.declared.store.StoreKey.{StoreKey}
+use Rattle.script_meaning.specs.declared.store.StoreKey.{StoreKey}
 use Rattle.spr_io.specs.Content.{Content}
 use Rattle.spr_io.specs.Berth.{Berth, BaySeen, Opens, taken, given, lost}
 use Rattle.disk_format.specs.Shape.{blocks_of}

@@ -1,7 +1,7 @@
 -- Why a command over the stores ends before its work, and what became of the stores.
 use Rattle.std.specs.Prelude.{◌≡◌, ◌≢◌, ℕ, ◌+◌, ◌<◌, ◌≤◌, List, length, take, slice_get, Option, Some, IfSome, IsSome, Err}
 use Rattle.stack_accept.specs.Mount.{Mount}
-use Rattle.run_defs.specs.declared.store.StoreKey.{StoreKey}
+use Rattle.script_meaning.specs.declared.store.StoreKey.{StoreKey}
 use Rattle.spr_io.specs.Content.{Content}
 use Rattle.spr_io.specs.Berth.{BaySeen}
 use Rattle.disk_format.specs.declared.shape.ImageShape.{ImageShape}

@@ -7,7 +7,7 @@ ghost use Rattle.file_stores.specs.Held.{IsRoom, IsFit, keys_of};
 ghost use Rattle.file_stores.specs.Files.{IsFile, stores_in};
 
 use crate::held::Held;
-use run_defs::StoreKey;
+use script_meaning::StoreKey;
 use spr_io::Store;
 use stack_accept::Mounted;
 use std::alloc::{AllocError, Global};
@@ -19,7 +19,7 @@ use std::vec::IntoIter;
 pub struct FileStores<S: Store> {
     /// The file.
     pub file: u32,
-    /// The stores.
+    /// The stores, given back as they are.
     pub stores: Vec<S>,
 }
 

@@ -8,7 +8,7 @@ ghost use Rattle.file_stores.specs.Held.{IsRoom, keys_of, Took, AreOut, IsUntake
 
 use crate::keys::shape_of;
 use crate::stop::Stop;
-use run_defs::{StoreKey, disk_name, file_name};
+use script_meaning::{StoreKey, disk_name, file_name};
 use spr_io::{Bay, BayErr, Store};
 use stack_accept::Mounted;
 use std::marker::Model;
@@ -18,7 +18,7 @@ use std::marker::Model;
 pub struct Held<S: Store> {
     /// Which one it is.
     pub key: StoreKey,
-    /// The store.
+    /// The store, given back as it is.
     pub store: S,
 }
 

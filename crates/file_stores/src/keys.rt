@@ -7,7 +7,7 @@ ghost use Rattle.disk_format.specs.Shape.{IsShape};
 ghost use Rattle.file_stores.specs.Keys.{stores_of, stores_of_file, image_shape, AreStores};
 
 use disk_format::ImageShape;
-use run_defs::{StoreKey, pages_of};
+use script_meaning::{StoreKey, pages_of};
 use stack_accept::Mounted;
 use std::alloc::{AllocError, Global};
 

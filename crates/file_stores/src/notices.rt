@@ -8,7 +8,7 @@ ghost use Rattle.file_stores.specs.Notices.{AreAtClose, notice_at, notice_line, 
 
 use crate::ground::{Either, FileGround};
 use mirror_layer::{Notice, at_close};
-use run_defs::{disk_name, file_name};
+use script_meaning::{disk_name, file_name};
 use spr_io::{Failed, Sink, Store};
 use spr_report::write_pieces;
 use stack_accept::Mounted;

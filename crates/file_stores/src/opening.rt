@@ -12,7 +12,7 @@ use crate::keys::shape_of;
 use crate::stop::Stop;
 use crate::whole_disk::WholeDisk;
 use mirror_layer::{AnyGround, Notice, Refusal};
-use run_defs::StoreKey;
+use script_meaning::StoreKey;
 use spr_io::Store;
 use stack_accept::Mounted;
 use std::alloc::Global;
@@ -20,9 +20,9 @@ use std::alloc::Global;
 /// A file whose image is not opened: its stores, which are handed back, and why.
 #[derive(Drop)]
 pub struct Unopened<S: Store> {
-    /// The stores.
+    /// The stores, given back as they are.
     pub stores: FileStores<S>,
-    /// Why.
+    /// Which store could not be opened, and why.
     pub stop: Stop,
 }
 

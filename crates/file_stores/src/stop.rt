@@ -8,7 +8,7 @@ ghost use Rattle.file_stores.specs.Stop.{cause_text, no_image_line, fault_line, 
 use disk_format::ImageWhy;
 use disk_layer::OpenWhy;
 use itoa::Buffer;
-use run_defs::{StoreKey, disk_name, file_name};
+use script_meaning::{StoreKey, disk_name, file_name};
 use spr_io::{Failed, Sink};
 use spr_report::{Status, finish, write_lost, write_pieces};
 use stack_accept::Mounted;
@@ -18,19 +18,19 @@ use stack_accept::Mounted;
 pub enum Stop {
     /// The bay gave no store.
     Bay {
-        /// Which one.
+        /// The store, by its file and its disk.
         store: StoreKey,
     },
     /// A store failed.
     Store {
-        /// Which one.
+        /// The store, by its file and its disk.
         store: StoreKey,
         /// Its count of faults after the failure.
         count: u64,
     },
     /// A store holds no image.
     Image {
-        /// Which one.
+        /// The store, by its file and its disk.
         store: StoreKey,
         /// The place of the first damage, in bytes from the image's start.
         place: u32,

@@ -45,9 +45,9 @@ impl<S: Store> Model for WholeDisk<S> {
 /// A disk that is not opened: its store, which is handed back, and the reason.
 #[derive(Drop)]
 pub(crate) struct OpenAlone<S> {
-    /// The store.
+    /// The stores, given back as they are.
     pub(crate) stores: Vec<S>,
-    /// The reason.
+    /// Why it was not opened.
     pub(crate) why: OpenWhy,
 }
 

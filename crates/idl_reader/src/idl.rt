@@ -1,7 +1,7 @@
 //! An IDL text as values.
 
-use seen_values::{Items, Text};
 use std::boxed::Box;
+use value_types::{Items, Text};
 
 /// The most declarations that a text has.
 pub const MAX_DECLS: usize = 256;
@@ -35,21 +35,21 @@ pub struct Idl {
 pub enum Decl {
     /// A value of several fields.
     Struct {
-        /// Its name.
+        /// Its name, as it stands in the text.
         name: Word,
         /// Its fields, in order; at least one.
         fields: Items<Field>,
     },
     /// One of several names.
     Enum {
-        /// Its name.
+        /// Its name, as it stands in the text.
         name: Word,
         /// The names, in order; at least one.
         names: Items<Word>,
     },
     /// An object's operations.
     Interface {
-        /// Its name.
+        /// Its name, as it stands in the text.
         name: Word,
         /// The interfaces that it inherits from, in order.
         bases: Items<Word>,
@@ -111,7 +111,7 @@ pub enum IdlType {
     },
     /// A declared type.
     Named {
-        /// Its name.
+        /// Its name, as it stands in the text.
         name: Word,
     },
 }

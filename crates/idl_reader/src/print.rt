@@ -6,9 +6,9 @@ ghost use Rattle.idl_reader.specs.Tree.{type_tree, field_tree, param_tree, op_tr
 ghost use Rattle.idl_reader.specs.Spelling.{comma_joined, type_text, field_text, param_text, result_text, op_text, names_text, bases_text, decl_text, spelling};
 
 use crate::idl::{Decl, Field, Idl, IdlOp, IdlType, Param, Word};
-use seen_values::Bytes;
 use std::alloc::{AllocError, Global};
 use text_words::put;
+use value_types::Bytes;
 
 fn put_name(out: &mut Vec<u8>, name: &Word) -> Result<(), AllocError>
     ensures { OnOk result (out.new.items ≡ out.old.items ++ name.now.text) }

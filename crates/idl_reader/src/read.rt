@@ -19,9 +19,9 @@ use crate::idl::{
 use crate::rest::Rest;
 use crate::token::{Token, first_token};
 use crate::why::{IdlRefused, IdlWhy};
-use seen_values::{Items, Text};
 use std::alloc::Global;
 use std::boxed::Box;
+use value_types::{Items, Text};
 
 /// The refusal at the first token; what begins no token keeps its own reason.
 #[tactic(auto, unfolding(crate::specs::Reading::refused))]

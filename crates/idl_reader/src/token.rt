@@ -14,7 +14,7 @@ use crate::rest::Rest;
 pub enum Token<'a> {
     /// A word.
     Word {
-        /// Where it begins.
+        /// Its first byte, counted from the start of the text.
         place: u32,
         /// Its characters.
         word: &'a [u8],
@@ -23,7 +23,7 @@ pub enum Token<'a> {
     },
     /// A sign.
     Sign {
-        /// Where it stands.
+        /// Its first byte, counted from the start of the text.
         place: u32,
         /// Its byte.
         sign: u8,
@@ -32,12 +32,12 @@ pub enum Token<'a> {
     },
     /// A byte that begins no token.
     Stray {
-        /// Where it stands.
+        /// Its first byte, counted from the start of the text.
         place: u32,
     },
     /// A word that is too long.
     Long {
-        /// Where it begins.
+        /// Its first byte, counted from the start of the text.
         place: u32,
     },
     /// The end of the text.

@@ -4,19 +4,25 @@ ghost use Rattle.std.specs.Prelude.{◌≡◌};
 ghost use Rattle.idl_reader.specs.Why.{word_of};
 
 use std::alloc::{AllocError, AllocFailed};
+use thiserror::Error;
 
 /// Why a text is not in the language. The first place in the text counts.
-#[derive(Clone, Copy, Debug, PartialEq, Eq)]
+#[derive(Clone, Copy, Debug, PartialEq, Eq, Error)]
 pub enum IdlWhy {
     /// A byte begins no token.
+    #[error("byte")]
     Byte,
     /// A word has more than 32 characters.
+    #[error("long")]
     LongName,
     /// A token, or the end of the text, cannot stand there.
+    #[error("token")]
     Token,
     /// There are too many declarations, members, parameters or sequences.
+    #[error("limit")]
     Limit,
     /// Memory ran out.
+    #[error("memory")]
     Memory,
 }
 
@@ -36,11 +42,12 @@ impl IdlWhy {
 }
 
 /// A text that is not in the language: the first place that is wrong, and why.
-#[derive(Clone, Copy, Debug, PartialEq, Eq)]
+#[derive(Clone, Copy, Debug, PartialEq, Eq, Error)]
+#[error("byte {place}: {why}")]
 pub struct IdlRefused {
     /// The offset in bytes of the first byte, token or end that is wrong; 0 if memory ran out.
     pub place: u32,
-    /// The reason.
+    /// Why the text is refused there.
     pub why: IdlWhy,
 }
 

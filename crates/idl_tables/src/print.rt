@@ -11,9 +11,9 @@ use crate::entry::Entry;
 use idl_check::{decl_name, is_interface};
 use idl_reader::Decl;
 use itoa::Buffer;
-use seen_values::Bytes;
 use std::alloc::{AllocError, Global};
 use text_words::put_line;
+use value_types::Bytes;
 
 /// A line for each operation: its number, its name and its declarer.
 fn put_table(out: &mut Vec<u8>, table: &[Entry<'_>]) -> Result<(), AllocError>

@@ -13,9 +13,9 @@ use crate::laws::{tables_are_few, tables_follow_bases};
 use crate::print::tables_text;
 use idl_check::Checked;
 use idl_reader::{Idl, MAX_DECLS, MAX_MEMBERS};
-use seen_values::Bytes;
 use std::alloc::{AllocError, Global};
 use std::marker::Model;
+use value_types::Bytes;
 
 /// The declarations of a text that fit together, with the operations of each interface. Only
 /// `tables` makes it.

@@ -1,7 +1,7 @@
 -- What formatting the stores of a stack does, and what printing the pages of one does; and the text and status of each.
 use Rattle.std.specs.Prelude.{◌≡◌, ◌⊎◌, ℕ, ◌++◌, List, [], length, slice_get, Option, Some}
 use Rattle.stack_accept.specs.Mount.{Mount}
-use Rattle.run_defs.specs.declared.store.StoreKey.{StoreKey}
+use Rattle.script_meaning.specs.declared.store.StoreKey.{StoreKey}
 use Rattle.spr_io.specs.Berth.{BaySeen}
 use Rattle.spr_io.specs.Texts.{SinkSeen}
 use Rattle.spr_report.specs.declared.status.Status.{Status}

@@ -1,6 +1,6 @@
 -- The status of a store command that did its work.
 use Rattle.std.specs.Prelude.{List, [], ◌∷◌}
-use Rattle.run_defs.specs.declared.store.StoreKey.{StoreKey}
+use Rattle.script_meaning.specs.declared.store.StoreKey.{StoreKey}
 use Rattle.spr_report.specs.declared.status.Status.{Status}
 use Rattle.spr_report.specs.declared.status.Status.TheVariants.{Good, BayFault}
 

@@ -2,7 +2,7 @@
 
 ghost use Rattle.std.specs.Prelude.{◌≡◌, ◌<◌, ◌*◌, ◌^◌, [], IfOk, length};
 ghost use Rattle.page_ground.specs.Pages.{cut};
-ghost use Rattle.run_defs.specs.Stack.{pages_of};
+ghost use Rattle.script_meaning.specs.Stack.{pages_of};
 ghost use Rattle.spr_io.specs.Berth.{BaySeen};
 ghost use Rattle.file_stores.specs.Keys.{AreStores, EachAt, stores_of_file};
 ghost use Rattle.file_stores.specs.Held.{AreGiven, AreOut, IsFit, IsRoom, keys_of};
@@ -16,7 +16,7 @@ use file_stores::{
     FileStores, Held, Stop, as_file, give_back, put_file, shape_of, stopped, stores_of_one,
     take_stores, write_notices,
 };
-use run_defs::StoreKey;
+use script_meaning::StoreKey;
 use spr_io::{Bay, Sink, Store};
 use spr_report::Status;
 use stack_accept::Mounted;

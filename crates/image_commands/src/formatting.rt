@@ -11,7 +11,7 @@ ghost use Rattle.image_commands.specs.Says.{SaysFormat};
 use crate::fresh::format_stores;
 use crate::told::tell;
 use file_stores::{Held, Stop, give_back, stopped, stores_of, take_stores};
-use run_defs::StoreKey;
+use script_meaning::StoreKey;
 use spr_io::{Bay, Sink, Store};
 use spr_report::Status;
 use stack_accept::Mounted;

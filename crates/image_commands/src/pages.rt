@@ -3,7 +3,7 @@
 ghost use Rattle.std.specs.Prelude.{◌≡◌, ◌*◌, ◌++◌, ◌∷◌, IfOk, IfErr, OnOk, length};
 ghost use Rattle.disk_format.specs.Shape.{IsShape};
 ghost use Rattle.page_ground.specs.Pages.{cut};
-ghost use Rattle.run_defs.specs.Stack.{pages_of};
+ghost use Rattle.script_meaning.specs.Stack.{pages_of};
 ghost use Rattle.file_stores.specs.Keys.{stores_of_file};
 ghost use Rattle.file_stores.specs.Held.{keys_of};
 ghost use Rattle.file_stores.specs.Files.{ArePairs, IsFile, Lasts};
@@ -20,7 +20,7 @@ use file_stores::{
 };
 use mirror_layer::Notice;
 use page_ground::{StoreFault, is_zero_page};
-use run_defs::StoreKey;
+use script_meaning::StoreKey;
 use spr_io::Store;
 use stack_accept::Mounted;
 use std::alloc::{AllocError, Global};
@@ -51,7 +51,7 @@ fn read_ground<S: Store>(
 /// What became of the stores of a file that was to be read.
 #[derive(Drop)]
 pub(crate) struct ReadFile<S: Store> {
-    /// The stores.
+    /// The stores, given back as they are.
     pub stores: FileStores<S>,
     /// What is told of the disks.
     pub notices: Vec<Option<Notice>>,

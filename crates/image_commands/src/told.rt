@@ -6,7 +6,7 @@ ghost use Rattle.file_stores.specs.Stop.{lost_text};
 ghost use Rattle.image_commands.specs.Told.{done_status};
 
 use file_stores::finish_lost;
-use run_defs::StoreKey;
+use script_meaning::StoreKey;
 use spr_io::{Failed, Sink};
 use spr_report::{Status, write_all};
 use stack_accept::Mounted;

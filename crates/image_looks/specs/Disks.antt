@@ -5,8 +5,8 @@ use Rattle.std.specs.Fmt.{decimal}
 use Rattle.text_words.specs.Lines.{line_of}
 use Rattle.stack_accept.specs.Mount.{Mount}
 use Rattle.stack_accept.specs.Plan.{Plan, OnDisk, OnMirror, OnCoherency, disks_in}
-use Rattle.run_defs.specs.declared.store.StoreKey.{StoreKey}
-use Rattle.run_defs.specs.Stack.{disk_name, file_name}
+use Rattle.script_meaning.specs.declared.store.StoreKey.{StoreKey}
+use Rattle.script_meaning.specs.Stack.{disk_name, file_name}
 use Rattle.spr_io.specs.Berth.{BaySeen}
 use Rattle.spr_io.specs.Texts.{SinkSeen}
 use Rattle.disk_format.specs.Why.{word_of}

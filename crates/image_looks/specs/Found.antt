@@ -2,8 +2,8 @@
 use Rattle.std.specs.Prelude.{◌≡◌, ◌⊎◌, ℕ, ◌<◌, ◌≤◌, List, [], ◌∷◌, length, map, filter, Bool, true, false, Option, Some, None, IfSome, Result, Ok, Err, if◌then◌else◌}
 use Rattle.std.specs.Option.{option_map}
 use Rattle.stack_accept.specs.Mount.{Mount}
-use Rattle.run_defs.specs.declared.store.StoreKey.{StoreKey}
-use Rattle.run_defs.specs.Stack.{disk_name, file_name}
+use Rattle.script_meaning.specs.declared.store.StoreKey.{StoreKey}
+use Rattle.script_meaning.specs.Stack.{disk_name, file_name}
 use Rattle.spr_io.specs.Content.{Content, all_kept}
 use Rattle.spr_io.specs.Berth.{Berth, BaySeen, Lies, taken, given, lost, SameElsewhere}
 use Rattle.disk_format.specs.declared.shape.ImageShape.{ImageShape}

@@ -10,7 +10,7 @@ use crate::found::{Found, Look};
 use crate::winner::wins;
 use disk_format::ImageWhy;
 use itoa::Buffer;
-use run_defs::{disk_name, file_name};
+use script_meaning::{disk_name, file_name};
 use stack_accept::Mounted;
 use std::alloc::{AllocError, Global};
 use text_words::put_line;

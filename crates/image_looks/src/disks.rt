@@ -12,7 +12,7 @@ use crate::disk_text::text_of;
 use crate::found::{Found, Look};
 use crate::looking::look_all;
 use file_stores::{Stop, stopped, stores_of};
-use run_defs::StoreKey;
+use script_meaning::StoreKey;
 use spr_io::{Bay, Sink};
 use spr_report::{Status, finish};
 use stack_accept::Mounted;

@@ -4,14 +4,14 @@ ghost use Rattle.std.specs.Prelude.{◌≡◌};
 ghost use Rattle.image_looks.specs.Found.{is_lost, lacks_memory};
 
 use disk_format::ImageWhy;
-use run_defs::StoreKey;
+use script_meaning::StoreKey;
 
 /// What a look at a store finds.
 #[derive(Clone, Copy, Debug, PartialEq, Eq)]
 pub enum Found {
     /// An image.
     Image {
-        /// Its generation.
+        /// The generation: it rises at each raise of the image.
         generation: u64,
     },
     /// Nothing lies there.
@@ -22,7 +22,7 @@ pub enum Found {
     NoImage {
         /// The place of the first damage, in bytes from the image's start.
         place: u32,
-        /// The reason.
+        /// Why the blocks are no image.
         why: ImageWhy,
     },
     /// The bay did not give the store.

@@ -4,7 +4,7 @@ ghost use Rattle.std.specs.Prelude.{◌≡◌, ◌≤◌, length, true, if◌the
 ghost use Rattle.spr_io.specs.Berth.{Lies, SameElsewhere};
 ghost use Rattle.disk_format.specs.Shape.{IsShape};
 ghost use Rattle.disk_layer.specs.Disk.{Suits};
-ghost use Rattle.run_defs.specs.Stack.{disk_name, file_name};
+ghost use Rattle.script_meaning.specs.Stack.{disk_name, file_name};
 ghost use Rattle.file_stores.specs.Keys.{AreStores, IsStore, berth_of, image_shape};
 ghost use Rattle.file_stores.specs.State.{RoseBy};
 ghost use Rattle.file_stores.specs.Held.{IsFit, IsRoom};
@@ -14,7 +14,7 @@ use crate::found::{Found, Look};
 use disk_format::{BadImage, ImageShape};
 use disk_layer::{Disk, Generations, OpenErr, OpenWhy};
 use file_stores::{Held, Stop, shape_of, take_store};
-use run_defs::{StoreKey, disk_name, file_name};
+use script_meaning::{StoreKey, disk_name, file_name};
 use spr_io::{Bay, BayErr, Failed, Store};
 use stack_accept::Mounted;
 use std::alloc::Global;

@@ -6,7 +6,7 @@ ghost use Rattle.stack_accept.specs.Plan.{plan_of};
 ghost use Rattle.image_looks.specs.Disks.{beats, is_left, stands_in, wins};
 
 use crate::found::{Found, Look};
-use run_defs::StoreKey;
+use script_meaning::StoreKey;
 use stack_accept::GroundPlan;
 
 /// Whether a disk stands in a plan.

@@ -22,7 +22,7 @@ pub(crate) enum NameKind<'a> {
     },
     /// An enum of so many names.
     Names {
-        /// How many.
+        /// How many parts it has.
         number: usize,
     },
     /// An interface.

@@ -8,8 +8,8 @@ ghost use Rattle.marshal_value.specs.Reading.{number_from, bool_at, u8_at, u32_a
 use crate::value::Value;
 use crate::why::{BadValue, ValueWhy};
 use marshal_buf::Reader;
-use seen_values::{Bytes, Text};
 use std::alloc::Global;
+use value_types::{Bytes, Text};
 
 #[tactic(auto, unfolding(crate::specs::Reading::bool_at, crate::specs::Reading::part_from))]
 pub(crate) fn read_bool(from: &mut Reader<'_>) -> Result<Value, BadValue>

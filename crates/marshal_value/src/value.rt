@@ -1,7 +1,7 @@
 //! A value.
 
 use marshal_buf::Door;
-use seen_values::{Bytes, Text};
+use value_types::{Bytes, Text};
 
 /// A value of a type of an interface: what a call passes, or answers.
 #[derive(Debug, Drop)]
@@ -13,17 +13,17 @@ pub enum Value {
     },
     /// A number of 8 bits.
     U8 {
-        /// The number.
+        /// The number itself.
         v: u8,
     },
     /// A number of 32 bits.
     U32 {
-        /// The number.
+        /// The number itself.
         v: u32,
     },
     /// A number of 64 bits.
     U64 {
-        /// The number.
+        /// The number itself.
         v: u64,
     },
     /// A text.

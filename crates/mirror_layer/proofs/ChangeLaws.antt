@@ -228,7 +228,7 @@ same-pairs (x ∷ xs) = pairs_more tt (same-pairs xs)
 
 pub reads-answer : {p : ℕ} {x : List ℕ} {t u : Tree} {s : Says} → Reads p x t s u → is_done s ≡ true → Answers (seats t) (seats u)
 reads-answer (read_taken e) d = answers_here
-reads-answer (read_refused l m) d = cc
+reads-answer (read_refused l) d = cc
 reads-answer (read_below h) d = reads-answer h d
 reads-answer (read_left {r = r} h) d = answers-left (seats r) (seats r) (reads-answer h refl)
 reads-answer (read_right h i) d = answers-right (reads-each h) (reads-answer i d)

@@ -25,17 +25,17 @@ one-live x n (suc k, lt, is) = absurd (omega arith)
 record Failed (a b : Disk) (f : StoreFault) : Type 0 where
   disk : f.disk ≡ a.disk
   above : a.faults < f.count
-  within : f.count ≤ b.faults
+  exact : f.count ≡ b.faults
 
 failed : (a b : Disk) (f : StoreFault) → b.disk ≡ a.disk → IsFault (seen_of a) (seen_of b) f → Failed a b f
 failed a b f e h =
     let q = one-live a.disk f.disk h.named in
-    record { disk = q; above = rw (eq-eqb f.disk a.disk q) at h.above; within = rw (eq-eqb f.disk b.disk (q ∙ sym e)) at h.within }
+    record { disk = q; above = rw (eq-eqb f.disk a.disk q) at h.above; exact = rw (eq-eqb f.disk b.disk (q ∙ sym e)) at h.exact }
 
 -- a refused call
 refuses : {act : Act} (a b : Disk) (f : StoreFault) (d : Cell) → cell_of b ≡ d → Refuses act (cell_of a) d → d.faults ≡ b.faults → Failed a b f → Passes act (leaf_of a) (Fault f.disk f.count) (leaf_of b)
 refuses {act} a b f d e r n h =
-    let p : Passes act (leaf_of a) (Fault a.disk f.count) (Leaf (In true d)) = pass_refused r h.above (omega (arith, h.within, n)) in
+    let p : Passes act (leaf_of a) (Fault a.disk f.count) (Leaf (In true d)) = subst (λ v. Passes act (leaf_of a) (Fault a.disk v) (Leaf (In true d))) (n ∙ sym h.exact) (pass_refused r) in
     subst (λ v. Passes act (leaf_of a) (Fault v f.count) (leaf_of b)) (sym h.disk) (subst (λ v. Passes act (leaf_of a) (Fault a.disk f.count) (Leaf (In true v))) (sym e) p)
 
 taken : {act : Act} (a b : Disk) (d : Cell) → cell_of b ≡ d → Takes act (cell_of a) d → Passes act (leaf_of a) (Done true) (leaf_of b)
@@ -43,7 +43,7 @@ taken {act} a b d e t = subst (λ v. Passes act (leaf_of a) (Done true) (Leaf (I
 
 still : (a b : Disk) (f : StoreFault) → b ≡ counting b.faults a → Failed a b f → (act : Act) → Passes act (leaf_of a) (Fault f.disk f.count) (leaf_of b)
 still a b f e h act =
-    let lt : a.faults < b.faults = omega (arith, h.above, h.within) in
+    let lt : a.faults < b.faults = omega (arith, h.above, h.exact) in
     refuses a b f (faulted b.faults (cell_of a)) (ap cell_of e) (refused lt) refl h
 
 -- cells by their parts
@@ -67,7 +67,7 @@ write-took a b p x s e n = taken a b (steps.written p x (cell_of a)) (cells s.di
 pub write-refused : (a b : Disk) (p : ℕ) (x : List ℕ) (f : StoreFault) → SameBut a b → pages_on b ≡ pages_on a → IsFault (seen_of a) (seen_of b) f → Passes (Write p x) (leaf_of a) (Fault f.disk f.count) (leaf_of b)
 write-refused a b p x f s e h =
     let r = failed a b f s.disk h in
-    let lt : a.faults < b.faults = omega (arith, r.above, r.within) in
+    let lt : a.faults < b.faults = omega (arith, r.above, r.exact) in
     refuses a b f (faulted b.faults (cell_of a)) (cells s.disk s.generation e s.kept refl) (refused lt) refl r
 
 abbrev besides : ℕ → ImageShape → Option (Option Imaged) → ℕ → Beside
@@ -148,7 +148,7 @@ pub raise-refused : (a b : Disk) (g : ℕ) (f : StoreFault) → (b ≡ counting 
 raise-refused a b g f (inl e) p h = still a b f e (failed a b f (ap (λ (v : Disk). v.disk) e) h) (Raise g)
 raise-refused a b g f (inr e) p h =
     let r = failed a b f (ap (λ (v : Disk). v.disk) e) h in
-    let lt : a.faults < b.faults = omega (arith, r.above, r.within) in
+    let lt : a.faults < b.faults = omega (arith, r.above, r.exact) in
     refuses a b f (cell_of (counting b.faults (headed g a))) (ap cell_of e) (half-raised a g b.faults (subst (λ v. pages_on v ≡ pages_on a) e p) lt) refl r
 
 pub raise-beside : (a b : Disk) (g : ℕ) → b ≡ counting b.faults (settled (headed g a)) → beside_of b ≡ beside_of a
@@ -181,5 +181,6 @@ read-took a b p out e n r =
 pub read-refused : (a b : Disk) (p : ℕ) (f : StoreFault) → b ≡ counting b.faults a → IsFault (seen_of a) (seen_of b) f → (x : List ℕ) → Reads p x (leaf_of a) (Fault f.disk f.count) (leaf_of b)
 read-refused a b p f e h x =
     let r = failed a b f (ap (λ (v : Disk). v.disk) e) h in
-    let q : Reads p x (leaf_of a) (Fault a.disk f.count) (Leaf (In true (faulted b.faults (cell_of a)))) = read_refused r.above r.within in
+    let q : Reads p x (leaf_of a) (Fault a.disk f.count) (Leaf (In true (faulted b.faults (cell_of a)))) =
+    subst (λ v. Reads p x (leaf_of a) (Fault a.disk f.count) (Leaf (In true (faulted v (cell_of a))))) r.exact (read_refused r.above) in
     subst (λ v. Reads p x (leaf_of a) (Fault v f.count) (leaf_of b)) (sym r.disk) (subst (λ v. Reads p x (leaf_of a) (Fault a.disk f.count) (Leaf (In true v))) (sym (ap cell_of e)) q)

@@ -15,7 +15,7 @@ use Rattle.mirror_layer.specs.Calls.{said, all_told}
 use Rattle.mirror_layer.specs.Joining.{CopiesPage, Settles, settles_live, settles_unflushed, settles_unraised, joined, Tells}
 
 pub refused-cell : {p : ℕ} {x : List ℕ} {c e : Cell} {d n : ℕ} → Reads p x (Leaf (In true c)) (Fault d n) (Leaf (In true e)) → (m : ℕ) × (c.faults < m) × (e ≡ faulted m c)
-refused-cell (read_refused {m = m} l k) = (m, omega arith, refl)
+refused-cell (read_refused {n = m} l) = (m, l, refl)
 
 pub taken-cell : {p : ℕ} {x : List ℕ} {c e : Cell} → Reads p x (Leaf (In true c)) (Done true) (Leaf (In true e)) → (get_or c.now.pages p [] ≡ x) × (e ≡ c)
 taken-cell (read_taken q) = (q, refl)
@@ -24,19 +24,19 @@ pub written-cell : {p : ℕ} {z : List ℕ} {w : Bool} {c e : Cell} → Passes (
 written-cell (pass_taken write_taken) = refl
 
 pub unwritten-cell : {p d n : ℕ} {z : List ℕ} {c e : Cell} → Passes (Write p z) (Leaf (In true c)) (Fault d n) (Leaf (In true e)) → (m : ℕ) × (c.faults < m) × (e ≡ faulted m c)
-unwritten-cell (pass_refused (refused {n = m} l) a b) = (m, l, refl)
+unwritten-cell (pass_refused (refused {n = m} l)) = (m, l, refl)
 
 pub flushed-cell : {w : Bool} {c e : Cell} → Passes Flush (Leaf (In true c)) (Done w) (Leaf (In true e)) → e ≡ kept_now c
 flushed-cell (pass_taken flush_taken) = refl
 
 pub unflushed-cell : {d n : ℕ} {c e : Cell} → Passes Flush (Leaf (In true c)) (Fault d n) (Leaf (In true e)) → Refuses Flush c e
-unflushed-cell (pass_refused h a b) = h
+unflushed-cell (pass_refused h) = h
 
 pub raised-cell : {g : ℕ} {w : Bool} {c e : Cell} → Passes (Raise g) (Leaf (In true c)) (Done w) (Leaf (In true e)) → e ≡ kept_now (headed g c)
 raised-cell (pass_taken raise_taken) = refl
 
 pub unraised-cell : {g d n : ℕ} {c e : Cell} → Passes (Raise g) (Leaf (In true c)) (Fault d n) (Leaf (In true e)) → Refuses (Raise g) c e
-unraised-cell (pass_refused h a b) = h
+unraised-cell (pass_refused h) = h
 
 -- the disk that joins, put at its place
 pub nth-plug : {A : Type 0} {i : ℕ} {x : A} (y : A) {xs : List A} → Nth i xs x → Nth i (set xs i y) y

@@ -211,12 +211,12 @@ calm-some pairs_none p h = elim h [ ]
 pub calm-by : (before after : Seen) → Pairs (Step before.pages after.pages) before.disks after.disks → Apart before.disks → Somewhere Calm before.disks after.disks → IsCalm before after
 calm-by before after h p s = let r = calm-some h p s in record { disk = r.0; live = r.1; same = r.2 }
 
--- each live disk failed, and one of them has this number and had this count
+-- each live disk failed, and one of them has this number and this count since
 abbrev pub Rises : DiskSeen → DiskSeen → Type 0
 Rises a d = a.live ≡ true → a.faults < d.faults
 
 abbrev pub Blamed : ℕ → ℕ → DiskSeen → DiskSeen → Type 0
-Blamed m k a d = (a.live ≡ true) × (a.disk ≡ m) × (a.faults < k) × (k ≤ d.faults)
+Blamed m k a d = (a.live ≡ true) × (a.disk ≡ m) × (a.faults < k) × (k ≡ d.faults)
 
 rises-all : {pages next : Option (List (List ℕ))} {es ds : List DiskSeen} → Pairs (Step pages next) es ds → Pairs Rises es ds → Apart es → (n : ℕ) → Contains (live_in es) n → faults_in es n < faults_in ds n
 rises-all pairs_none r p n h = absurd (omega (arith, h.1))
@@ -225,7 +225,7 @@ rises-all (pairs_more {x = a} {y = d} {xs = es} {ys = ds} s i) (pairs_more r q) 
   | inr k ↦ let ne = apart-live es n p.0 k in omega (arith, faults-rest a es n ne, faults-rest d ds n (λ e. ne (e ∙ s.disk)), rises-all i q p.1 n k)
 ]
 
-blamed-some : {pages next : Option (List (List ℕ))} {m k : ℕ} {es ds : List DiskSeen} → Pairs (Step pages next) es ds → Apart es → Somewhere (Blamed m k) es ds → Contains (live_in es) m × (faults_in es m < k) × (k ≤ faults_in ds m)
+blamed-some : {pages next : Option (List (List ℕ))} {m k : ℕ} {es ds : List DiskSeen} → Pairs (Step pages next) es ds → Apart es → Somewhere (Blamed m k) es ds → Contains (live_in es) m × (faults_in es m < k) × (k ≡ faults_in ds m)
 blamed-some {m = m} {k} (pairs_more {x = a} {y = d} {xs = es} {ys = ds} s i) p (some_here b) = (
   subst (λ v. Contains (live_in (a ∷ es)) v) b.1 (live-here a es b.0),
   omega (arith, faults-first a es m (sym b.1), b.2),
@@ -238,7 +238,7 @@ blamed-some {m = m} {k} (pairs_more {x = a} {y = d} {xs = es} {ys = ds} s i) p (
 blamed-some pairs_none p h = elim h [ ]
 
 pub fault-by : (before after : Seen) (f : StoreFault) → Pairs (Step before.pages after.pages) before.disks after.disks → Apart before.disks → Pairs Rises before.disks after.disks → Somewhere (Blamed f.disk f.count) before.disks after.disks → IsFault before after f
-fault-by before after f h p r b = let s = blamed-some h p b in record { named = s.0; above = s.1; within = s.2; all = rises-all h r p }
+fault-by before after f h p r b = let s = blamed-some h p b in record { named = s.0; above = s.1; exact = s.2; all = rises-all h r p }
 
 -- each live disk kept the pages
 pub kept-each : (pages : Option (List (List ℕ))) (ds : List DiskSeen) → Apart ds → Every (λ (d : DiskSeen). d.live ≡ true → KeptAt d.kept pages) ds → (n : ℕ) → Contains (live_in ds) n → KeptAt (kept_in ds n) pages

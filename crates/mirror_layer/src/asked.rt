@@ -16,14 +16,14 @@ use std::marker::Model;
 pub enum Call<'a> {
     /// Writes a page.
     Write {
-        /// The page.
+        /// The page, counted from 0.
         page: u32,
         /// Its bytes.
         bytes: &'a [u8],
     },
     /// Writes a generation and flushes.
     Raise {
-        /// The generation.
+        /// The generation: it rises at each raise of the image.
         generation: u64,
     },
     /// Flushes.

@@ -21,7 +21,7 @@ pub enum Refusal {
     /// No disk has an image, and none is down: this is the first one.
     #[error("no image on disk {disk}")]
     BadImage {
-        /// The disk.
+        /// The disk, by its number.
         disk: u32,
         /// Where its blocks are no image, and why.
         bad: BadImage,
@@ -40,9 +40,9 @@ pub enum Refusal {
 /// A ground that is not opened: its stores, in the order of the disks, and the reason.
 #[derive(Debug, Drop)]
 pub struct OpenAll<S> {
-    /// The stores.
+    /// The stores, given back as they are.
     pub stores: Vec<S>,
-    /// The reason.
+    /// Why the mirror is not opened.
     pub why: Refusal,
 }
 

@@ -40,7 +40,7 @@ copies-count (copy_unraised {d = d} h q k) f = let r = refuses-fault h in only-p
 
 named-blamed : {d k : ℕ} {ss : List Store} {xs ys : List Seat} → Pairs Counts ss xs → Named d k xs ys → Blamed d k ss ys
 named-blamed pairs_none h = elim h [ ]
-named-blamed (pairs_more (counts e l) m) (named_here q a b) = blamed_here (sym e ∙ q) (omega arith) b
+named-blamed (pairs_more (counts e l) m) (named_here q a b) = blamed_here (sym e ∙ q) (omega arith) (omega (arith, b))
 named-blamed (pairs_more c m) (named_later h) = blamed_later (named-blamed m h)
 
 abbrev pub Blames : Says → List Store → List Seat → Type 0

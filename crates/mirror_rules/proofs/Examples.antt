@@ -84,7 +84,7 @@ page-lost = two (In false (cell 0 (image 3 1 0) (image 3 1 0) 1)) (In true (cell
 
 -- d fails the write, and a raise is owed again
 second-write : Puts 1 (2 ∷ []) false (seats at-three) (Done false) true (seats page-lost)
-second-write = put_lost (passes-round {t = at-three} {u = page-lost} (pass_right (pass_refused {n = 1} (refused {n = 1} (lit< tt)) (lit< tt) (lit≤ tt)) (pass_taken write_taken)))
+second-write = put_lost (passes-round {t = at-three} {u = page-lost} (pass_right (pass_refused (refused {n = 1} (lit< tt))) (pass_taken write_taken)))
 
 abbrev at-four : Tree
 at-four = two (In false (cell 0 (image 3 1 0) (image 3 1 0) 1)) (In true (cell 1 (image 4 1 2) (image 4 1 2) 0))

@@ -139,7 +139,7 @@ refuses-fault (flush_kept l) = (refl, l)
 
 pub passes-each : {a : Act} {t u : Tree} {s : Says} → Passes a t s u → Pairs (Asked a s) (seats t) (seats u)
 passes-each (pass_taken h) = pairs_more (asked_took h) pairs_none
-passes-each (pass_refused h l m) = pairs_more (asked_none h) pairs_none
+passes-each (pass_refused h) = pairs_more (asked_none h) pairs_none
 passes-each (pass_below h) = passes-each h
 passes-each (pass_both {v = v} {w = w} h i) = pairs-append (less v (v && w) (and-left v w) (passes-each h)) (less w (v && w) (and-right v w) (passes-each i))
 passes-each (pass_left {n = n} {v = v} h i) = pairs-append (less v false (λ _. refl) (passes-each h)) (stale-each n (passes-each i))
@@ -150,7 +150,7 @@ passes-each (pass_right_only {l = l} {s = s} e h) = pairs-append (dead s l e) (p
 
 pub passes-answer : {a : Act} {t u : Tree} {s : Says} → Passes a t s u → Answer s (seats t) (seats u)
 passes-answer (pass_taken h) = (has_here live_in, λ e. cc)
-passes-answer (pass_refused h l m) = named_here refl l m
+passes-answer (pass_refused h) = named_here refl (refuses-fault h).1 refl
 passes-answer (pass_below h) = passes-answer h
 passes-answer (pass_both {l = l} {r = r} {m = m} {n = n} {v = v} {w = w} h i) =
     let x = passes-answer h in let y = passes-answer i in
@@ -188,7 +188,7 @@ looked-any s (looked_refused l) = looked_refused l
 
 pub reads-each : {p : ℕ} {x : List ℕ} {t u : Tree} {s : Says} → Reads p x t s u → Pairs (Looked s) (seats t) (seats u)
 reads-each (read_taken e) = pairs_more (looked_same refl) pairs_none
-reads-each (read_refused l m) = pairs_more (looked_refused (omega arith)) pairs_none
+reads-each (read_refused l) = pairs_more (looked_refused l) pairs_none
 reads-each (read_below h) = reads-each h
 reads-each (read_left {r = r} h) = pairs-append (reads-each h) (idle (seats r))
 reads-each (read_right {s = s} h i) = pairs-append (pairs-map (λ x y. looked-any s) (reads-each h)) (reads-each i)
@@ -201,7 +201,7 @@ found-right p x (Fault d n) xs ys k h = named-right k h
 
 pub reads-found : {p : ℕ} {x : List ℕ} {t u : Tree} {s : Says} → Reads p x t s u → Found p x s (seats t) (seats u)
 reads-found (read_taken e) = (has_here (page_live e), refl)
-reads-found (read_refused l m) = named_here refl l m
+reads-found (read_refused l) = named_here refl l refl
 reads-found (read_below h) = reads-found h
 reads-found (read_left {r = r} h) = let f = reads-found h in (has-left (seats r) f.0, refl)
 reads-found {p} {x} (read_right {r = r} {n = n} {s = s} h i) = found-right p x s (seats r) (seats n) (reads-each h) (reads-found i)

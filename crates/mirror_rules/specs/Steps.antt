@@ -9,7 +9,7 @@ pub data Act : Type 0 where
   Raise : (g : ℕ) → Act
   Flush : Act
 
--- a side took it, and whether no side became stale by it; or the fault of the disk that was asked last
+-- a side took it, and whether no side became stale by it; or the fault of the disk that was asked last, with its count then
 pub data Says : Type 0 where
   Done : (whole : Bool) → Says
   Fault : (disk count : ℕ) → Says
@@ -51,7 +51,7 @@ pub data Refuses : Act → Cell → Cell → Type 0 where
 -- a round of a write, a raise or a flush over the tree
 pub data Passes (a : Act) : Tree → Says → Tree → Type 0 where
   pass_taken : {c d : Cell} → Takes a c d → Passes a (Leaf (In true c)) (Done true) (Leaf (In true d))
-  pass_refused : {c d : Cell} {n : ℕ} → Refuses a c d → c.faults < n → n ≤ d.faults → Passes a (Leaf (In true c)) (Fault c.disk n) (Leaf (In true d))
+  pass_refused : {c d : Cell} → Refuses a c d → Passes a (Leaf (In true c)) (Fault c.disk d.faults) (Leaf (In true d))
   pass_below : {t u : Tree} {s : Says} → Passes a t s u → Passes a (Coherent t) s (Coherent u)
   pass_both : {l r m n : Tree} {v w : Bool} → Passes a l (Done v) m → Passes a r (Done w) n → Passes a (Mirror l r) (Done (v && w)) (Mirror m n)
   pass_left : {l r m n : Tree} {v : Bool} {d j : ℕ} → Passes a l (Done v) m → Passes a r (Fault d j) n → Passes a (Mirror l r) (Done false) (Mirror m (stale n))
@@ -63,7 +63,7 @@ pub data Passes (a : Act) : Tree → Says → Tree → Type 0 where
 -- a read of page p that gives x
 pub data Reads (p : ℕ) (x : List ℕ) : Tree → Says → Tree → Type 0 where
   read_taken : {c : Cell} → get_or c.now.pages p [] ≡ x → Reads p x (Leaf (In true c)) (Done true) (Leaf (In true c))
-  read_refused : {c : Cell} {n m : ℕ} → c.faults < n → n ≤ m → Reads p x (Leaf (In true c)) (Fault c.disk n) (Leaf (In true (faulted m c)))
+  read_refused : {c : Cell} {n : ℕ} → c.faults < n → Reads p x (Leaf (In true c)) (Fault c.disk n) (Leaf (In true (faulted n c)))
   read_below : {t u : Tree} {s : Says} → Reads p x t s u → Reads p x (Coherent t) s (Coherent u)
   read_left : {l r m : Tree} → Reads p x l (Done true) m → Reads p x (Mirror l r) (Done true) (Mirror m r)
   read_right : {l r m n : Tree} {d j : ℕ} {s : Says} → Reads p x l (Fault d j) m → Reads p x r s n → Reads p x (Mirror l r) s (Mirror m n)
@@ -85,9 +85,9 @@ pub data Looked (s : Says) : Seat → Seat → Type 0 where
   looked_same : {c : Cell} → (s ≡ Done true) → Looked s (In true c) (In true c)
   looked_refused : {c : Cell} {n : ℕ} → c.faults < n → Looked s (In true c) (In true (faulted n c))
 
--- a live disk of this number failed in the call, and this was its count after that
+-- a live disk of this number failed in the call, and has this count since
 pub data Named (d n : ℕ) : List Seat → List Seat → Type 0 where
-  named_here : {b : Bool} {c e : Cell} {xs ys : List Seat} → c.disk ≡ d → c.faults < n → n ≤ e.faults → Named d n (In true c ∷ xs) (In b e ∷ ys)
+  named_here : {b : Bool} {c e : Cell} {xs ys : List Seat} → c.disk ≡ d → c.faults < n → n ≡ e.faults → Named d n (In true c ∷ xs) (In b e ∷ ys)
   named_later : {x y : Seat} {xs ys : List Seat} → Named d n xs ys → Named d n (x ∷ xs) (y ∷ ys)
 
 abbrev pub Answer : Says → List Seat → List Seat → Type 0

@@ -4,9 +4,9 @@ ghost use Rattle.std.specs.Prelude.{◌≡◌};
 ghost use Rattle.name_context.specs.declared.entry.NameErr.TheVariants as errs;
 
 use marshal_buf::Buf;
-use seen_values::Path;
 use std::alloc::AllocError;
 use thiserror::Error;
+use value_types::Path;
 
 /// How many parts the path of a call may have. The limit is this project's own.
 pub const MAX_PARTS: usize = 8;
@@ -20,25 +20,25 @@ pub enum NameErr {
     /// Nothing stands at the part.
     #[error("part {part} is not bound")]
     NotBound {
-        /// Which part.
+        /// The part of the path, counted from 0.
         part: u32,
     },
     /// Something stands at the part, where something is to be made.
     #[error("part {part} is bound already")]
     AlreadyBound {
-        /// Which part.
+        /// The part of the path, counted from 0.
         part: u32,
     },
     /// An object stands at the part, where a context is needed.
     #[error("part {part} is not a context")]
     NotContext {
-        /// Which part.
+        /// The part of the path, counted from 0.
         part: u32,
     },
     /// A context stands at the part, where an object is needed.
     #[error("part {part} is not an object")]
     NotObject {
-        /// Which part.
+        /// The part of the path, counted from 0.
         part: u32,
     },
     /// Memory ran out. Such a call is no entry of the history.

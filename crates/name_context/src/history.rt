@@ -6,16 +6,16 @@ ghost use Rattle.name_context.specs.History.{count_of};
 ghost use Rattle.name_context.specs.HistoryView.{count_in};
 
 use crate::entry::{NameCall, NameEntry, NameErr, Stored};
-use seen_values::Path;
 use std::alloc::{AllocError, Global};
 use std::marker::Model;
+use value_types::Path;
 
 /// How many entries a caller has.
 #[derive(Clone, Copy, Debug, Drop)]
 pub(crate) struct Count {
     /// The number of the caller.
     pub caller: u32,
-    /// How many.
+    /// How many calls the names have taken.
     pub count: u64,
 }
 

@@ -3,8 +3,8 @@
 ghost use Rattle.std.specs.Prelude.{◌≡◌, ◌++◌, IfOk, OnOk};
 ghost use Rattle.name_context.specs.Keys.{byte_key, part_key, path_key};
 
-use seen_values::Text;
 use std::alloc::{AllocError, Global};
+use value_types::Text;
 
 /// The key of a path. An error is want of memory.
 pub(crate) fn key_of(alloc: Global, path: &[Text]) -> Result<Vec<u8>, AllocError>

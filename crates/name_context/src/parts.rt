@@ -6,7 +6,7 @@ ghost use Rattle.std.specs.Option.{option_copied};
 ghost use Rattle.std.specs.Str.{bytes_eq};
 ghost use Rattle.name_context.specs.Listed.{part_below};
 
-use seen_values::Text;
+use value_types::Text;
 
 /// Whether a path begins with these parts.
 pub(crate) fn begins_with(path: &[Text], above: &[Text]) -> bool

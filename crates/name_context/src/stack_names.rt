@@ -19,10 +19,10 @@ use crate::steps::{
 };
 use crate::tree::NameTree;
 use hist_lock::Storied;
-use seen_values::{Path, Text};
 use std::alloc::{AllocError, Global};
 use std::marker::Model;
 use std::snapshot::Snapshot;
+use value_types::{Path, Text};
 
 /// The names of a stack, as one tree, and the history of the calls that changed or asked it. Every call is an entry, also one
 /// that is refused; only a call that lacks memory is none, and changes nothing.

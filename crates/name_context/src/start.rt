@@ -10,8 +10,8 @@ ghost use Rattle.name_context.specs.TreeView.{kept_of};
 
 use crate::tree::{Binding, NameTree};
 use marshal_buf::{Buf, Door};
-use seen_values::{Path, Text};
 use std::alloc::{AllocError, Global};
+use value_types::{Path, Text};
 
 /// The identifier of the subcontract that each object has at the start. That an object begins with it is the Spring papers' rule;
 /// the number is this project's own.

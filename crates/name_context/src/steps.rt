@@ -15,8 +15,8 @@ use crate::history::Story;
 use crate::keys::key_of;
 use crate::tree::{Binding, NameTree};
 use crate::walk::first_refused;
-use seen_values::{Path, Text};
 use std::alloc::{AllocError, Global};
+use value_types::{Path, Text};
 
 /// What is known of a call before its first effect.
 #[derive(Drop)]

@@ -13,9 +13,9 @@ use crate::entry::Stored;
 use crate::keys::key_of;
 use crate::parts::{begins_with, below};
 use indexmap::IndexMap;
-use seen_values::{Path, Text};
 use std::alloc::{AllocError, Global};
 use std::marker::Model;
+use value_types::{Path, Text};
 
 /// What stands at a path.
 #[derive(Debug, Drop)]

@@ -8,8 +8,8 @@ ghost use Rattle.name_context.specs.TreeView.{kept_found};
 use crate::entry::{NameCall, NameErr};
 use crate::keys::push_part;
 use crate::tree::{Binding, NameTree};
-use seen_values::Text;
 use std::alloc::{AllocError, Global};
+use value_types::Text;
 
 /// Why a call of a path is refused: the first part that cannot stand gives the refusal. An error is want of memory.
 pub(crate) fn first_refused(

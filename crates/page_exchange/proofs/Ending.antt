@@ -126,6 +126,6 @@ module _ (shape : TreeShape) (file : PagedFile) (xs ys : List Table) (node : ℕ
 -- a ground that was not called had no fault
 pub no_fault : (before after : Seen) (fault : StoreFault) → after ≡ before → IsFault before after fault → ⊥
 no_fault before after fault same f =
-    let within : fault.count ≤ faults_in before.disks fault.disk = subst (λ (s : Seen). fault.count ≤ faults_in s.disks fault.disk) same f.within in
+    let exact : fault.count ≡ faults_in before.disks fault.disk = subst (λ (s : Seen). fault.count ≡ faults_in s.disks fault.disk) same f.exact in
     let above = f.above in
-    omega (arith, within, above)
+    omega (arith, exact, above)

@@ -137,9 +137,9 @@ pub record IsCalm (before after : Seen) : Type 0 where
   pub live : Contains (live_in after.disks) disk
   pub same : faults_in after.disks disk ≡ faults_in before.disks disk
 
--- A call that failed: each live disk failed in it, and it names one of them, with the count after a fault in the call.
+-- A call that failed: each live disk failed in it, and it names one of them, with the count that its store has since.
 pub record IsFault (before after : Seen) (fault : StoreFault) : Type 0 where
   pub named : Contains (live_in before.disks) fault.disk
   pub above : faults_in before.disks fault.disk < fault.count
-  pub within : fault.count ≤ faults_in after.disks fault.disk
+  pub exact : fault.count ≡ faults_in after.disks fault.disk
   pub all : (d : ℕ) → Contains (live_in before.disks) d → faults_in before.disks d < faults_in after.disks d

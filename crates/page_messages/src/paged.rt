@@ -36,7 +36,7 @@ pub struct PagedFile {
 pub enum About {
     /// One page.
     Page {
-        /// The page.
+        /// The page, counted from 0.
         page: u32,
     },
     /// The channel as a whole.

@@ -13,7 +13,7 @@ use Rattle.tower_log.specs.Notes.{Rises, counts_of}
 use Rattle.stack_engine.specs.Engine.{EngineSeen, events_in, log_in}
 use Rattle.stack_engine.specs.Opened.{IsOf, last_from}
 use Rattle.spr_volume.specs.Later.{AreLater, IsNoteOf}
-use Rattle.run_defs.specs.Stack.{pages_of}
+use Rattle.script_meaning.specs.Stack.{pages_of}
 use Rattle.file_stores.specs.Opening.{shape_of_file}
 use Rattle.run_files.specs.Begun.{Holds, HoldsAll, Opening, begun_as, synced_from}
 use Rattle.run_files.specs.Leaves.{IsKept}

@@ -18,7 +18,7 @@ use Rattle.page_messages.specs.declared.paged.PagedFile.{PagedFile}
 use Rattle.tower_log.specs.declared.logged.Logged.{Logged}
 use Rattle.tower_log.specs.declared.logged.Logged.TheVariants.{Entered, Noted}
 use Rattle.tower_log.specs.Log.{trail_of}
-use Rattle.tower_log.specs.Notes.{Rises, counts_of}
+use Rattle.tower_log.specs.Notes.{Rises, counts_of, last_count}
 use Rattle.tower_shows.specs.Began.{ArePagesOf}
 use Rattle.tower_shows.specs.Since.{AreSince}
 use Rattle.tower_shows.proofs.Stays.{told_stays}
@@ -31,7 +31,7 @@ use Rattle.spr_volume.specs.Reads.{StandsByFirst}
 use Rattle.spr_volume.proofs.Kept.{kept_file}
 use Rattle.spr_volume.proofs.Reading.{reads_find, taken_before}
 use Rattle.spr_volume.specs.Later.{AreAnswered, AreLater, IsLater, IsNoteOf, IsOnDisk, KeepsFirst, TurnsFirst}
-use Rattle.run_defs.specs.Stack.{pages_of}
+use Rattle.script_meaning.specs.Stack.{pages_of}
 use Rattle.file_stores.specs.Opening.{shape_of_file}
 use Rattle.file_stores.proofs.Lists.{some-is}
 use Rattle.run_files.specs.Held.{paged}
@@ -101,11 +101,12 @@ module _ (mount : Mount) (file : ℕ) (before after : Seen) (e0 e1 : EngineSeen)
   rises-of disk = subst (λ n. Rises n (faults_in after.disks disk) (counts_of disk (log_in e1))) (disks-later.opened disk)
       (subst (λ (g : Seen). Rises (opened_in g.disks disk) (faults_in g.disks disk) (counts_of disk (log_in e1))) (sym run.ground) (run.sound.notes disk))
 
-  -- where one disk is live and none is noted it had none
-  pub calm-of : (disk : ℕ) → IsOnDisk disk before → counts_of disk (log_in e1) ≡ [] → faults_in after.disks disk ≡ faults_in before.disks disk
-  calm-of disk on quiet =
+  -- where one disk is live its count is that of its last note
+  pub noted-of : (disk : ℕ) → IsOnDisk disk before → faults_in after.disks disk ≡ last_count (faults_in before.disks disk) (counts_of disk (log_in e1))
+  noted-of disk on =
       ap (λ (g : Seen). faults_in g.disks disk) run.ground
-      ∙ (run.later.calm disk (subst (IsOnDisk disk) (sym run.opens.ground_is) on) (ap (λ (l : List Logged). counts_of disk l) log-is ∙ quiet) ∙ ap (λ (g : Seen). faults_in g.disks disk) run.opens.ground_is)
+      ∙ (run.later.noted disk (subst (IsOnDisk disk) (sym run.opens.ground_is) on)
+      ∙ (ap (λ (l : List Logged). last_count (faults_in e0.ground.disks disk) (counts_of disk l)) log-is ∙ ap (λ (g : Seen). last_count (faults_in g.disks disk) (counts_of disk (log_in e1))) run.opens.ground_is))
 
   answered-is : AreAnswered mount.tree start (log_in e1)
   answered-is = subst (λ (l : List Logged). AreAnswered mount.tree start l) log-is

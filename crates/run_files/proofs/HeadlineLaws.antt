@@ -7,7 +7,7 @@ use Rattle.script_text.specs.declared.script.Reply.{Reply}
 use Rattle.stack_accept.specs.Mount.{Mount}
 use Rattle.tower_log.specs.declared.logged.Logged.{Logged}
 use Rattle.tower_log.specs.Log.{trail_of}
-use Rattle.run_defs.specs.Log.{log_of}
+use Rattle.script_meaning.specs.Log.{log_of}
 use Rattle.file_stores.specs.Files.{FileSeen}
 use Rattle.mirror_layer.specs.declared.came.Notice.{Notice}
 use Rattle.run_files.specs.Begun.{Begun, IsFrom}

@@ -13,8 +13,8 @@ use Rattle.stack_accept.specs.Sound.{IsInLimits}
 use Rattle.stack_accept.specs.declared.entries.FileEntry.{FileEntry}
 use Rattle.tower_log.specs.declared.logged.Logged.{Logged}
 use Rattle.spr_report.specs.Tracing.{AreReported, IsReported}
-use Rattle.run_defs.specs.Log.{log_of}
-use Rattle.run_defs.specs.Stack.{pages_of}
+use Rattle.script_meaning.specs.Log.{log_of}
+use Rattle.script_meaning.specs.Stack.{pages_of}
 use Rattle.hist_plain.specs.declared.TheConstants.{MAX_EVENTS, MAX_NODES}
 use Rattle.hist_plain.specs.declared.event.Event.{Event}
 use Rattle.hist_plain.specs.declared.event.Event.TheVariants as events

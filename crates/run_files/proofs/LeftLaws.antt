@@ -36,8 +36,8 @@ use Rattle.tower_log.specs.Notes.{Rises, counts_of}
 use Rattle.stack_engine.specs.Engine.{EngineSeen, log_in}
 use Rattle.stack_engine.specs.Opened.{IsOf, last_from}
 use Rattle.spr_volume.specs.Later.{AreLater, notes_in}
-use Rattle.run_defs.specs.declared.store.StoreKey.{StoreKey}
-use Rattle.run_defs.specs.Stack.{pages_of}
+use Rattle.script_meaning.specs.declared.store.StoreKey.{StoreKey}
+use Rattle.script_meaning.specs.Stack.{pages_of}
 use Rattle.file_stores.specs.Keys.{EachAt}
 use Rattle.file_stores.specs.Held.{StoreSeen}
 use Rattle.file_stores.specs.Files.{FileSeen, IsFile}

@@ -31,7 +31,7 @@ use Rattle.mirror_layer.specs.Bringing.{Brought, Lies, OpenedOver, Seen as SeenO
 use Rattle.mirror_layer.proofs.CloseSteps.{told-kept}
 use Rattle.mirror_layer.proofs.LastSteps.{blames, given, lasting}
 use Rattle.mirror_layer.proofs.NumberSteps.{numbers-many, numbers-under}
-use Rattle.run_defs.specs.declared.store.StoreKey.{StoreKey}
+use Rattle.script_meaning.specs.declared.store.StoreKey.{StoreKey}
 use Rattle.file_stores.specs.State.{StoreState}
 use Rattle.file_stores.specs.Held.{StoreSeen}
 use Rattle.file_stores.specs.Files.{FileSeen, IsFile}

@@ -16,10 +16,10 @@ use Rattle.stack_accept.specs.Sound.{IsMount}
 use Rattle.client_objects.specs.declared.state.ClientState.{ClientState}
 use Rattle.name_context.specs.History.{NamesSeen, IsStory}
 use Rattle.client_objects.specs.Views.{names_at_start}
-use Rattle.run_defs.specs.Log.{Histories}
+use Rattle.script_meaning.specs.Log.{Histories}
 use Rattle.spr_client.specs.Calls.{histories}
 use Rattle.tower_log.specs.declared.logged.Logged.{Logged}
-use Rattle.run_defs.specs.Fits.{Did, Acts, ClientFits, ClientsFit, AreAnswered, IsAnswered, FitsScript, last_cut}
+use Rattle.script_meaning.specs.Fits.{Did, Acts, ClientFits, ClientsFit, AreAnswered, IsAnswered, FitsScript, last_cut}
 use Rattle.stack_engine.specs.Engine.{log_in}
 use Rattle.stack_engine.specs.Tower.{TowerSeen}
 use Rattle.spr_volume.specs.Passes.{AreBack, AreNamesBack, Knows, as_known, known, logs}

@@ -10,11 +10,11 @@ use Rattle.script_text.specs.declared.script.Reply.{Reply}
 use Rattle.script_text.specs.declared.script.Reply.TheVariants.{Done}
 use Rattle.stack_accept.specs.Mount.{Mount}
 use Rattle.stack_accept.specs.declared.entries.FileEntry.{FileEntry}
-use Rattle.run_defs.specs.declared.store.StoreKey.{StoreKey}
-use Rattle.run_defs.specs.Stack.{pages_of}
+use Rattle.script_meaning.specs.declared.store.StoreKey.{StoreKey}
+use Rattle.script_meaning.specs.Stack.{pages_of}
 use Rattle.name_context.specs.History.{NamesSeen}
-use Rattle.run_defs.specs.Log.{log_of, EndsSynced}
-use Rattle.run_defs.specs.Fits.{FitsScript}
+use Rattle.script_meaning.specs.Log.{log_of, EndsSynced}
+use Rattle.script_meaning.specs.Fits.{FitsScript}
 use Rattle.spr_io.specs.Berth.{BaySeen}
 use Rattle.spr_io.specs.Texts.{SinkSeen}
 use Rattle.spr_report.specs.declared.status.Status.{Status}

@@ -33,10 +33,10 @@ use Rattle.stack_engine.specs.Engine.{file_in, log_in}
 use Rattle.stack_engine.specs.Tower.{TowerSeen}
 use Rattle.spr_client.specs.Calls.{AreOfStack}
 use Rattle.spr_volume.specs.Passes.{logs}
-use Rattle.run_defs.specs.declared.store.StoreKey.{StoreKey}
-use Rattle.run_defs.specs.Stack.{pages_of}
-use Rattle.run_defs.specs.Log.{Histories, log_of}
-use Rattle.run_defs.specs.Fits.{FitsScript}
+use Rattle.script_meaning.specs.declared.store.StoreKey.{StoreKey}
+use Rattle.script_meaning.specs.Stack.{pages_of}
+use Rattle.script_meaning.specs.Log.{Histories, log_of}
+use Rattle.script_meaning.specs.Fits.{FitsScript}
 use Rattle.mirror_layer.specs.declared.came.Notice.{Notice}
 use Rattle.mirror_layer.specs.Ground.{seen_of}
 use Rattle.file_stores.specs.declared.stop.Stop.{Stop}

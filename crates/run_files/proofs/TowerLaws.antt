@@ -17,8 +17,8 @@ use Rattle.tower_log.specs.declared.logged.Logged.TheVariants.{Entered, Noted}
 use Rattle.tower_log.specs.Log.{trail_of}
 use Rattle.name_context.specs.declared.entry.NameEntry.{NameEntry}
 use Rattle.name_context.specs.History.{NamesSeen, IsStory}
-use Rattle.run_defs.specs.Log.{items, items_from, log_of}
-use Rattle.run_defs.specs.Fits.{IsEntryUpTo, IsUpTo}
+use Rattle.script_meaning.specs.Log.{items, items_from, log_of}
+use Rattle.script_meaning.specs.Fits.{IsEntryUpTo, IsUpTo}
 use Rattle.stack_engine.specs.Engine.{log_in}
 use Rattle.stack_engine.specs.Tower.{TowerSeen}
 use Rattle.spr_volume.specs.Later.{IsLater}

@@ -16,9 +16,9 @@ use Rattle.mirror_layer.specs.View.{Beside}
 use Rattle.mirror_layer.specs.Ground.{Ground, Differ, seen_of}
 use Rattle.mirror_layer.proofs.CloseSteps.{told-kept}
 use Rattle.tower_log.specs.declared.logged.Logged.{Logged}
-use Rattle.tower_log.specs.Notes.{counts_of}
+use Rattle.tower_log.specs.Notes.{counts_of, last_count}
 use Rattle.spr_volume.specs.Later.{AreLater}
-use Rattle.run_defs.specs.declared.store.StoreKey.{StoreKey}
+use Rattle.script_meaning.specs.declared.store.StoreKey.{StoreKey}
 use Rattle.file_stores.specs.Keys.{image_shape, stores_of_file}
 use Rattle.file_stores.specs.State.{StoreState}
 use Rattle.file_stores.specs.Held.{StoreSeen, keys_of}
@@ -40,7 +40,7 @@ use Rattle.run_files.specs.Play.{IsWhole}
 use Rattle.mirror_rules.specs.Tree.{Seat, In}
 use Rattle.run_files.specs.Leaves.{AreNotices, IsOnly, LeavesFile}
 use Rattle.run_files.proofs.AlikeLaws.{alike-self, later-alike}
-use Rattle.run_files.proofs.EngineLaws.{EngineRun, calm-of}
+use Rattle.run_files.proofs.EngineLaws.{EngineRun, noted-of}
 use Rattle.run_files.proofs.LeftLaws.{Turn, few, file-left, lasts}
 use Rattle.run_files.proofs.OnlyLaws.{cell-on, file-key, first-number, ground-of, only-alike, only-back, only-came, only-kept, only-opened, only-row, only-sound, only-words}
 use Rattle.run_files.proofs.WholeLaws.{on-disk, same-number-under}
@@ -168,10 +168,11 @@ module _ (mount : Mount) (f g : FileSeen) (closing : Option Reply) (made notices
   one-only : IsOnly (shape_of_file mount f.file) (log_in e1) (ground-of d0) (ground-of d1) notices old new
   one-only = record {
     live = ap (λ n. n ∷ []) last-zero;
-    calm = λ quiet.
+    noted =
         ap (λ (s : StoreState). s.faults) state
         ∙ (sym (faults-under d1 d0.disk.disk same-disk)
-        ∙ (calm-of mount f.file (seen_whole d0) (seen_whole d1) e0 e1 run d0.disk.disk (on-disk d0) (ap (λ n. counts_of n (log_in e1)) first-zero ∙ quiet) ∙ (faults-under d0 d0.disk.disk refl ∙ over.calm)));
+        ∙ (noted-of mount f.file (seen_whole d0) (seen_whole d1) e0 e1 run d0.disk.disk (on-disk d0)
+        ∙ (ap (λ n. last_count n (counts_of d0.disk.disk (log_in e1))) (faults-under d0 d0.disk.disk refl ∙ over.calm) ∙ ap (λ n. last_count old.state.faults (counts_of n (log_in e1))) first-zero)));
     came = only-came mount f old d0 is was over first;
     had_kept = only-kept mount f old d0 is was over first;
     silent = alone-silent close;

@@ -5,7 +5,7 @@ use Rattle.hist_plain.specs.declared.event.Event.{Event}
 use Rattle.hist_plain.specs.File.{File}
 use Rattle.hist_plain.specs.Plain.{Told, reply}
 use Rattle.stack_accept.specs.Mount.{Mount}
-use Rattle.run_defs.specs.Stack.{pages_of}
+use Rattle.script_meaning.specs.Stack.{pages_of}
 use Rattle.disk_format.specs.declared.shape.ImageShape.{ImageShape}
 use Rattle.disk_format.specs.Image.{image}
 use Rattle.page_ground.specs.Seen.{Imaged}

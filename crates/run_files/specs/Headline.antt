@@ -10,8 +10,8 @@ use Rattle.spr_io.specs.Berth.{BaySeen}
 use Rattle.spr_io.specs.Content.{Content}
 use Rattle.tower_log.specs.declared.logged.Logged.{Logged}
 use Rattle.tower_log.specs.Log.{trail_of}
-use Rattle.run_defs.specs.declared.store.StoreKey.{StoreKey}
-use Rattle.run_defs.specs.Log.{Histories, log_of}
+use Rattle.script_meaning.specs.declared.store.StoreKey.{StoreKey}
+use Rattle.script_meaning.specs.Log.{Histories, log_of}
 use Rattle.file_stores.specs.Held.{StoreSeen}
 use Rattle.file_stores.specs.Files.{FileSeen}
 use Rattle.run_files.specs.Begun.{AnswersAs, Begun, IsFrom, IsLegalOver, Opening, begun_as}

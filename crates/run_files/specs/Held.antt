@@ -2,8 +2,8 @@
 use Rattle.std.specs.Prelude.{◌≡◌, ◌⊎◌, ℕ, suc, ◌*◌, ◌<◌, List, [], ◌∷◌, ◌++◌, length, map, Option, Some}
 use Rattle.stack_accept.specs.Mount.{Mount}
 use Rattle.spr_io.specs.Berth.{BaySeen}
-use Rattle.run_defs.specs.declared.store.StoreKey.{StoreKey}
-use Rattle.run_defs.specs.Stack.{pages_of}
+use Rattle.script_meaning.specs.declared.store.StoreKey.{StoreKey}
+use Rattle.script_meaning.specs.Stack.{pages_of}
 use Rattle.page_messages.specs.declared.paged.PagedFile.{PagedFile}
 use Rattle.stack_engine.specs.Engine.{IsSound, machines_in}
 use Rattle.run_files.specs.Begun.{BeganAs, IsSized, Opening, begun_as}

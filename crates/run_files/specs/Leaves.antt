@@ -10,7 +10,7 @@ use Rattle.page_ground.specs.Seen.{is_up_in, kept_in, live_in, numbers_in}
 use Rattle.page_ground.specs.Seen.{pages_in as told_in}
 use Rattle.tower_log.specs.declared.logged.Logged.{Logged}
 use Rattle.tower_log.specs.Log.{trail_of}
-use Rattle.tower_log.specs.Notes.{Rises, counts_of}
+use Rattle.tower_log.specs.Notes.{Rises, counts_of, last_count}
 use Rattle.stack_engine.specs.Opened.{last_from}
 use Rattle.spr_volume.specs.Later.{notes_in}
 use Rattle.mirror_rules.specs.Tree.{Seat}
@@ -104,11 +104,12 @@ pub record FaultsAreNoted (log : List Logged) (f g : FileSeen) (closed : Ground)
   -- the store of each disk that is live at the end failed once at least for each note of the file: a fault that another disk masked is not told
   pub paid : (disk : ℕ) (old new : StoreSeen) → Store f g disk old new → Contains (live_of closed) disk → old.state.faults + notes_in log ≤ new.state.faults
 
--- WHERE A FILE HAS ONE STORE: its disk is live at the end; if none of its faults is noted it had none; and if it told its content, that was the image with
+-- WHERE A FILE HAS ONE STORE: its disk is live at the end; the count of its faults is that of the last note, or what it was if there is none, so
+-- that no fault goes untold; and if it told its content, that was the image with
 -- which the ground was opened, and the disk had kept what it had. Nothing is told of it
 pub record IsOnly (shape : ImageShape) (log : List Logged) (opened closed : Ground) (notices : List (Option Notice)) (old new : StoreSeen) : Type 0 where
   pub live : live_of closed ≡ 0 ∷ []
-  pub calm : counts_of 0 log ≡ [] → new.state.faults ≡ old.state.faults
+  pub noted : new.state.faults ≡ last_count old.state.faults (counts_of 0 log)
   pub came : IfSome old.state.content (λ c. image shape c.blocks ≡ Some (record { generation = opened.generation; pages = live_pages opened.row }))
   pub had_kept : IfSome old.state.content (λ c. kept_by opened 0 ≡ pages_in shape c.kept)
   pub silent : NothingTold notices

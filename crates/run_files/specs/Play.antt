@@ -11,8 +11,8 @@ use Rattle.tower_log.specs.Log.{trail_of}
 use Rattle.tower_shows.specs.Began.{ArePagesOf}
 use Rattle.name_context.specs.History.{NamesSeen, IsStory}
 use Rattle.client_objects.specs.Views.{names_at_start}
-use Rattle.run_defs.specs.Log.{EndsSynced, Histories, items}
-use Rattle.run_defs.specs.Fits.{FitsScript, EachAnswered, IsEntryUpTo, IsUpTo}
+use Rattle.script_meaning.specs.Log.{EndsSynced, Histories, items}
+use Rattle.script_meaning.specs.Fits.{FitsScript, EachAnswered, IsEntryUpTo, IsUpTo}
 use Rattle.stack_engine.specs.Engine.{EngineSeen, events_in, file_in, log_in, tree_in}
 use Rattle.stack_engine.specs.Opened.{last_from}
 use Rattle.stack_engine.specs.Tower.{TowerSeen}

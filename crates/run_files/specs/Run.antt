@@ -15,11 +15,11 @@ use Rattle.tower_log.specs.declared.logged.Logged.TheVariants.{Entered, Noted}
 use Rattle.tower_log.specs.Log.{place_of, trail_of}
 use Rattle.spr_volume.specs.Needed.{AreNeeded}
 use Rattle.spr_volume.specs.Reads.{AreTakenBefore}
-use Rattle.run_defs.specs.declared.store.StoreKey.{StoreKey}
-use Rattle.run_defs.specs.Stack.{pages_of}
+use Rattle.script_meaning.specs.declared.store.StoreKey.{StoreKey}
+use Rattle.script_meaning.specs.Stack.{pages_of}
 use Rattle.client_objects.specs.Views.{names_at_start}
-use Rattle.run_defs.specs.Log.{Histories, log_of, EndsSynced}
-use Rattle.run_defs.specs.Fits.{FitsScript, EachAnswered}
+use Rattle.script_meaning.specs.Log.{Histories, log_of, EndsSynced}
+use Rattle.script_meaning.specs.Fits.{FitsScript, EachAnswered}
 use Rattle.spr_io.specs.Berth.{BaySeen}
 use Rattle.spr_report.specs.declared.status.Status.{Status}
 use Rattle.spr_report.specs.declared.status.Status.TheVariants as statuses

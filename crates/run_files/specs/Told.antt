@@ -4,9 +4,9 @@ use Rattle.script_text.specs.declared.script.Script.{Script}
 use Rattle.script_text.specs.declared.script.Said.{Said}
 use Rattle.script_text.specs.declared.script.Reply.{Reply}
 use Rattle.stack_accept.specs.Mount.{Mount}
-use Rattle.run_defs.specs.declared.store.StoreKey.{StoreKey}
+use Rattle.script_meaning.specs.declared.store.StoreKey.{StoreKey}
 use Rattle.pager_channel.specs.declared.numbers.Ops.{Ops}
-use Rattle.run_defs.specs.Log.{Histories}
+use Rattle.script_meaning.specs.Log.{Histories}
 use Rattle.spr_report.specs.Report.{report}
 use Rattle.spr_io.specs.Berth.{BaySeen}
 use Rattle.spr_io.specs.Texts.{SinkSeen}

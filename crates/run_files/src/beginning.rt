@@ -9,7 +9,7 @@ ghost use Rattle.run_files.specs.Beginning.{AreRead, AreTried, AreUnread, IsCut,
 
 use file_stores::Stop;
 use page_ground::Ground;
-use run_defs::StoreKey;
+use script_meaning::StoreKey;
 use stack_engine::{StepErr, Tower};
 use std::alloc::Global;
 

@@ -4,7 +4,7 @@ ghost use Rattle.std.specs.Prelude.{◌≡◌, map};
 ghost use Rattle.std.specs.List.{list_any, list_all};
 ghost use Rattle.run_files.specs.Ended.{any_lost, is_memory, is_fault, is_done, lacks_memory, has_fault, status_by, status_of};
 
-use run_defs::StoreKey;
+use script_meaning::StoreKey;
 use script_text::{Reply, Said};
 use spr_report::Status;
 

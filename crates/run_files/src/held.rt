@@ -5,7 +5,7 @@ ghost use Rattle.stack_accept.specs.Sound.{IsMount};
 ghost use Rattle.stack_engine.specs.Engine.{log_in, machines_in};
 ghost use Rattle.stack_engine.specs.Start as engines;
 ghost use Rattle.spr_volume.specs.Passes.{logs};
-ghost use Rattle.run_defs.specs.Stack.{pages_of};
+ghost use Rattle.script_meaning.specs.Stack.{pages_of};
 ghost use Rattle.page_messages.specs.Paged.{IsPagedFile};
 ghost use Rattle.file_stores.specs.Keys.{EachAt};
 ghost use Rattle.file_stores.specs.Held.{IsRoom};
@@ -21,7 +21,7 @@ use file_stores::{
 use mirror_layer::Notice;
 use page_messages::PagedFile;
 use pager_channel::Ops;
-use run_defs::StoreKey;
+use script_meaning::StoreKey;
 use spr_io::Store;
 use stack_accept::Mounted;
 use stack_engine::Tower;

@@ -8,8 +8,8 @@ ghost use Rattle.tower_log.specs.Log.{trail_of};
 ghost use Rattle.stack_accept.specs.Sound.{IsMount};
 ghost use Rattle.spr_report.specs.Tracing.{AreReported};
 ghost use Rattle.file_stores.specs.Keys.{EachAt};
-ghost use Rattle.run_defs.specs.Log.{log_of};
-ghost use Rattle.run_defs.specs.Stack.{pages_of};
+ghost use Rattle.script_meaning.specs.Log.{log_of};
+ghost use Rattle.script_meaning.specs.Stack.{pages_of};
 ghost use Rattle.run_files.specs.Begun.{begun_as, file_then};
 ghost use Rattle.run_files.specs.Lasting.{CanPlay};
 

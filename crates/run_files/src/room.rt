@@ -9,8 +9,8 @@ ghost use Rattle.run_files.specs.Room.{HasAnswerRoom};
 
 use file_stores::{FileGround, FileStores, Held, rooms_of, stores_of};
 use mirror_layer::Notice;
-use run_defs::StoreKey;
 use run_phases::{Worker, workers_of};
+use script_meaning::StoreKey;
 use script_text::{Reply, Said, Script};
 use spr_io::Store;
 use stack_accept::Mounted;

@@ -16,7 +16,7 @@ use crate::held::close_towers;
 use crate::room::Files;
 use file_stores::{FileStores, Held, give_back, put_files, write_notices};
 use mirror_layer::Notice;
-use run_defs::StoreKey;
+use script_meaning::StoreKey;
 use spr_io::{Bay, Failed, Sink};
 use stack_accept::Mounted;
 use tower_log::Trail;

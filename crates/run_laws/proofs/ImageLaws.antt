@@ -2,8 +2,8 @@
 use Rattle.std.proofs.Common.{◌≡◌, ◌⊎◌, inl, ℕ, Bool, true, false, List, [], ◌∷◌, length, Option, Some, refl, sym, ap, subst, ◌∙◌, arith}
 use Rattle.std.specs.Prelude.{slice_get}
 use Rattle.stack_accept.specs.Mount.{Mount}
-use Rattle.run_defs.specs.declared.store.StoreKey.{StoreKey}
-use Rattle.run_defs.specs.Stack.{disk_name, file_name}
+use Rattle.script_meaning.specs.declared.store.StoreKey.{StoreKey}
+use Rattle.script_meaning.specs.Stack.{disk_name, file_name}
 use Rattle.spr_io.specs.Berth.{BaySeen, Berth, Opens, taken}
 use Rattle.spr_io.specs.Content.{Content, all_kept}
 use Rattle.disk_format.specs.Image.{image}
@@ -75,7 +75,7 @@ state-is stores disk store state at found = some-is store.state state (sym (to-m
 
 named-blamed : {d k : ℕ} {ss : List machine.Store} {xs ys : List Seat} → Pairs Counts ss xs → Named d k xs ys → Blamed d k ss ys
 named-blamed pairs_none named = elim named [ ]
-named-blamed (pairs_more (counts e l) m) (named_here q a b) = blamed_here (sym e ∙ q) (omega arith) b
+named-blamed (pairs_more (counts e l) m) (named_here q a b) = blamed_here (sym e ∙ q) (omega arith) (omega (arith, b))
 named-blamed (pairs_more c m) (named_later named) = blamed_later (named-blamed m named)
 
 module _ (mount : Mount) (before after : BaySeen) (file : ℕ) (lost : List StoreKey) (f g : FileSeen) (own : f.file ≡ file) (is : IsFile mount f)

@@ -5,7 +5,7 @@ use Rattle.std.specs.Option.{option_map}
 use Rattle.spr_io.specs.Content.{Content}
 use Rattle.stack_accept.specs.Mount.{Mount}
 use Rattle.stack_accept.specs.Plan.{disks_in}
-use Rattle.run_defs.specs.Stack.{pages_of}
+use Rattle.script_meaning.specs.Stack.{pages_of}
 use Rattle.disk_format.specs.declared.shape.ImageShape.{ImageShape}
 use Rattle.disk_format.specs.Image.{image}
 use Rattle.page_ground.specs.Seen.{DiskSeen, Imaged, Seen, numbers_in}

@@ -53,14 +53,14 @@ use Rattle.vmm_space.specs.declared.why.SpaceErr.TheVariants as spaces
 use Rattle.vmm_space.specs.declared.why.TranslateErr.{TranslateErr}
 use Rattle.vmm_space.specs.declared.why.TranslateErr.TheVariants as places
 use Rattle.vmm_space.specs.Spaces.{has_region, refusal, translation, without_region}
-use Rattle.run_defs.specs.declared.store.StoreKey.{StoreKey}
-use Rattle.run_defs.specs.Log.{Histories, IsFull, Item, by_caller, entered, items, items_from, log_at, noted, who}
+use Rattle.script_meaning.specs.declared.store.StoreKey.{StoreKey}
+use Rattle.script_meaning.specs.Log.{Histories, IsFull, Item, by_caller, entered, items, items_from, log_at, noted, who}
 use Rattle.client_objects.specs.declared.kind.ObjectKind.{ObjectKind}
-use Rattle.run_defs.specs.Plan.{Ask, Asks, Goes, Made, NamesAsk, NamesTold, Plan, Refuses, Request, access, asking, asking_names, asks_names, at_file, binding, calls, ends, further_tries, is_revoked, kind_named, led_to, loading, mapping, node_at, plan, plan_access, plan_after, plan_bind, plan_bound, plan_copy, plan_done, plan_drop, plan_end, plan_found, plan_map, plan_named, plan_names, plan_open, plan_place, plan_reopened, plan_sync, plan_try, refused_as, region_of, release, reply_of, rerouting, revoke, rights_at, start_state, storing, sync, told_names, unknown, unless_refused, unless_unmappable, with_names}
-use Rattle.run_defs.specs.Stack.{file_named, pages_of, view_of, layer_of}
-use Rattle.run_defs.specs.Fits.{Acts, AllGoOn, ClientsFit, Closes, Did, Does, InOrder, Line, Phased, last_cut, lines_of, made_on, no_client, plan_closing}
-use Rattle.run_defs.proofs.Logs.{items-more}
-use Rattle.run_defs.proofs.Parts.{full_later}
+use Rattle.script_meaning.specs.Plan.{Ask, Asks, Goes, Made, NamesAsk, NamesTold, Plan, Refuses, Request, access, asking, asking_names, asks_names, at_file, binding, calls, ends, further_tries, is_revoked, kind_named, led_to, loading, mapping, node_at, plan, plan_access, plan_after, plan_bind, plan_bound, plan_copy, plan_done, plan_drop, plan_end, plan_found, plan_map, plan_named, plan_names, plan_open, plan_place, plan_reopened, plan_sync, plan_try, refused_as, region_of, release, reply_of, rerouting, revoke, rights_at, start_state, storing, sync, told_names, unknown, unless_refused, unless_unmappable, with_names}
+use Rattle.script_meaning.specs.Stack.{file_named, pages_of, view_of, layer_of}
+use Rattle.script_meaning.specs.Fits.{Acts, AllGoOn, ClientsFit, Closes, Did, Does, InOrder, Line, Phased, last_cut, lines_of, made_on, no_client, plan_closing}
+use Rattle.script_meaning.proofs.Logs.{items-more}
+use Rattle.script_meaning.proofs.Parts.{full_later}
 use Rattle.spr_io.specs.Berth.{BaySeen}
 use Rattle.spr_io.specs.Content.{Content}
 use Rattle.spr_report.specs.declared.status.Status.{Status}

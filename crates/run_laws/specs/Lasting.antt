@@ -1,7 +1,7 @@
 -- What a sync made lasting, over any list of the program's sittings behind it.
 use Rattle.std.specs.Prelude.{ℕ, ◌+◌, ◌<◌, Bool, false, List, [], ◌∷◌, ◌++◌}
 use Rattle.stack_accept.specs.Mount.{Mount}
-use Rattle.run_defs.specs.Stack.{pages_of}
+use Rattle.script_meaning.specs.Stack.{pages_of}
 use Rattle.mirror_rules.specs.Tree.{Image, Store as Found, limit}
 use Rattle.mirror_rules.specs.Claims.{Every}
 use Rattle.mirror_rules.specs.Guards.{Direct, Within, Among}

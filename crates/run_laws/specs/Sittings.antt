@@ -3,7 +3,7 @@ use Rattle.std.specs.Prelude.{ℕ, Bool, false, List, [], ◌++◌, Option}
 use Rattle.script_text.specs.declared.script.Reply.{Reply}
 use Rattle.stack_accept.specs.Mount.{Mount}
 use Rattle.stack_accept.specs.Plan.{disks_in}
-use Rattle.run_defs.specs.Stack.{pages_of}
+use Rattle.script_meaning.specs.Stack.{pages_of}
 use Rattle.mirror_rules.specs.Tree.{Image, Store as Found}
 use Rattle.mirror_rules.specs.Claims.{Every, Pairs}
 use Rattle.mirror_rules.specs.Guards.{Direct, Within, Among}

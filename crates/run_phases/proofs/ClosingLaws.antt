@@ -18,11 +18,11 @@ use Rattle.stack_accept.specs.Sound.{IsMount}
 use Rattle.stack_accept.specs.declared.entries.FileEntry.{FileEntry}
 use Rattle.tower_log.specs.declared.logged.Logged.{Logged}
 use Rattle.client_objects.specs.declared.state.ClientState.{ClientState}
-use Rattle.run_defs.specs.Log.{IsFull}
-use Rattle.run_defs.specs.Plan.{Made, Goes, asking, sync}
-use Rattle.run_defs.specs.Fits.{Line, Closes, no_client, plan_closing}
-use Rattle.run_defs.proofs.Logs.{trail_of-append}
-use Rattle.run_defs.proofs.Parts.{did_nothing, did_then, full_later, goes_later}
+use Rattle.script_meaning.specs.Log.{IsFull}
+use Rattle.script_meaning.specs.Plan.{Made, Goes, asking, sync}
+use Rattle.script_meaning.specs.Fits.{Line, Closes, no_client, plan_closing}
+use Rattle.script_meaning.proofs.Logs.{trail_of-append}
+use Rattle.script_meaning.proofs.Parts.{did_nothing, did_then, full_later, goes_later}
 use Rattle.spr_volume.specs.declared.answered.Answered.{Answered}
 use Rattle.spr_volume.specs.Passes.{VolumeSeen, Knows, known, as_known}
 use Rattle.spr_client.specs.Calls.{CallDone, MayCall, histories, refusal_of}

@@ -9,9 +9,9 @@ use Rattle.stack_accept.specs.Mount.{Mount}
 use Rattle.tower_log.specs.declared.logged.Logged.{Logged}
 use Rattle.name_context.specs.declared.entry.NameEntry.{NameEntry}
 use Rattle.client_objects.specs.Views.{names_at_start}
-use Rattle.run_defs.specs.Log.{Histories}
-use Rattle.run_defs.specs.Fits.{AllGoOn, Did, lines_of}
-use Rattle.run_defs.proofs.Parts.{did_after, did_nothing, did_then, all_go_on_same, all_go_on_then, worked_before, worked_then}
+use Rattle.script_meaning.specs.Log.{Histories}
+use Rattle.script_meaning.specs.Fits.{AllGoOn, Did, lines_of}
+use Rattle.script_meaning.proofs.Parts.{did_after, did_nothing, did_then, all_go_on_same, all_go_on_then, worked_before, worked_then}
 use Rattle.hist_lock.proofs.Lists.{lt_or_le}
 use Rattle.spr_volume.specs.Passes.{AllQuietly, VolumeSeen, IsOf, Knows, Owners, known, as_known}
 use Rattle.spr_client.specs.Lines.{LinesDone}

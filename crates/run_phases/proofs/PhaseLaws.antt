@@ -5,10 +5,10 @@ use Rattle.std.specs.List.{AllByRecursion, flat_map}
 use Rattle.script_text.specs.declared.script.CallLine.{CallLine}
 use Rattle.script_text.specs.declared.script.Said.{Said}
 use Rattle.stack_accept.specs.Mount.{Mount}
-use Rattle.run_defs.specs.Log.{Histories}
+use Rattle.script_meaning.specs.Log.{Histories}
 use Rattle.spr_client.specs.Calls.{histories}
-use Rattle.run_defs.specs.Fits.{Acts, AllGoOn, IsAnswered, Worked, last_cut, lines_of}
-use Rattle.run_defs.proofs.Parts.{acts_more, answered_more, did_nothing, did_then, in_order_more, last_cut-more}
+use Rattle.script_meaning.specs.Fits.{Acts, AllGoOn, IsAnswered, Worked, last_cut, lines_of}
+use Rattle.script_meaning.proofs.Parts.{acts_more, answered_more, did_nothing, did_then, in_order_more, last_cut-more}
 use Rattle.spr_volume.specs.Passes.{VolumeSeen, Knows, as_known}
 use Rattle.spr_client.specs.Lines.{AreCalls}
 use Rattle.run_phases.specs.declared.parts.Part.{Part}

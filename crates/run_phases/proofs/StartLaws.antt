@@ -8,7 +8,7 @@ use Rattle.script_text.specs.declared.script.ClientLine.{ClientLine}
 use Rattle.script_text.specs.declared.script.Script.{Script}
 use Rattle.script_text.specs.Grammar.{client_words, call_line_words, phase_lines, IsScript}
 use Rattle.stack_accept.specs.Mount.{Mount}
-use Rattle.run_defs.specs.Fits.{lines_of}
+use Rattle.script_meaning.specs.Fits.{lines_of}
 use Rattle.run_phases.specs.declared.worker.Worker.{Worker}
 use Rattle.run_phases.specs.Workers.{IsStarted, AreStarted, HaveRoom}
 

@@ -8,9 +8,9 @@ use Rattle.stack_accept.specs.Mount.{Mount}
 use Rattle.stack_accept.specs.declared.entries.FileEntry.{FileEntry}
 use Rattle.tower_log.specs.Log.{place_of, trail_of}
 use Rattle.tower_log.specs.declared.logged.Logged.{Logged}
-use Rattle.run_defs.specs.Log.{IsFull}
-use Rattle.run_defs.specs.Plan.{Made}
-use Rattle.run_defs.specs.Fits.{Did, Closes}
+use Rattle.script_meaning.specs.Log.{IsFull}
+use Rattle.script_meaning.specs.Plan.{Made}
+use Rattle.script_meaning.specs.Fits.{Did, Closes}
 use Rattle.spr_volume.specs.Passes.{Knows, Quietly, known, as_known}
 use Rattle.spr_client.specs.Calls.{histories}
 

@@ -3,8 +3,8 @@ use Rattle.std.specs.Prelude.{◌≡◌, ◌⊎◌, ℕ, ◌+◌, ◌<◌, ◌�
 use Rattle.script_text.specs.declared.script.CallLine.{CallLine}
 use Rattle.script_text.specs.declared.script.Said.{Said}
 use Rattle.stack_accept.specs.Mount.{Mount}
-use Rattle.run_defs.specs.Log.{Histories}
-use Rattle.run_defs.specs.Fits.{AllGoOn, Did, Worked, Acts, InOrder, IsAnswered, last_cut, lines_of}
+use Rattle.script_meaning.specs.Log.{Histories}
+use Rattle.script_meaning.specs.Fits.{AllGoOn, Did, Worked, Acts, InOrder, IsAnswered, last_cut, lines_of}
 use Rattle.spr_volume.specs.Passes.{VolumeSeen, IsOf, Knows, as_known}
 use Rattle.spr_client.specs.Calls.{IsOfStack, histories}
 use Rattle.run_phases.specs.declared.worker.Worker.{Worker}

@@ -4,8 +4,8 @@ use Rattle.std.specs.List.{AllByRecursion, flat_map}
 use Rattle.script_text.specs.declared.script.CallLine.{CallLine}
 use Rattle.script_text.specs.declared.script.ClientLine.{ClientLine}
 use Rattle.stack_accept.specs.Mount.{Mount}
-use Rattle.run_defs.specs.Plan.{start_state}
-use Rattle.run_defs.specs.Fits.{lines_of}
+use Rattle.script_meaning.specs.Plan.{start_state}
+use Rattle.script_meaning.specs.Fits.{lines_of}
 use Rattle.spr_client.specs.Lines.{IsOnMachine}
 use Rattle.run_phases.specs.declared.worker.Worker.{Worker}
 

@@ -1,7 +1,7 @@
 //! The closing syncs of a run.
 
 ghost use Rattle.std.specs.Prelude.{◌≡◌, ◌≢◌, ℕ, ◌+◌, ◌<◌, ◌≤◌, [], length, slice_get, Some, vec_len, vec_capacity};
-ghost use Rattle.run_defs.specs.Fits.{no_client, plan_closing};
+ghost use Rattle.script_meaning.specs.Fits.{no_client, plan_closing};
 ghost use Rattle.spr_client.specs.Calls.{MayCall};
 ghost use Rattle.spr_client.specs.Lines.{LineDone};
 ghost use Rattle.spr_volume.specs.Passes.{known};

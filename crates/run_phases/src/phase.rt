@@ -10,12 +10,12 @@ use crate::parts::{Part, run_part};
 use crate::worker::Worker;
 use page_ground::Ground;
 use script_text::CallLine;
-use seen_values::Items;
 use spr_client::{Common, LineGate};
 use spr_volume::Pass;
 use std::alloc::Global;
 use std::sync::Wait;
 use std::thread::Threads;
+use value_types::Items;
 
 /// Does all phases of a script, one after another, for the clients from 0 on, with the pass of all callers, which comes back. The room for the
 /// answers is there, so each line gets its answer: one for which memory lacks is answered so.

@@ -5,15 +5,15 @@ ghost use Rattle.std.specs.List.{flat_map};
 ghost use Rattle.std.specs.Str.{bytes_eq};
 ghost use Rattle.script_text.specs.Grammar.{IsScript};
 ghost use Rattle.stack_accept.specs.Mount.{number_in};
-ghost use Rattle.run_defs.specs.Fits.{lines_of};
+ghost use Rattle.script_meaning.specs.Fits.{lines_of};
 ghost use Rattle.run_phases.specs.Workers.{IsStarted, AreStarted, HaveRoom};
 
 use crate::worker::Worker;
 use script_text::{ClientLine, Script};
-use seen_values::Text;
 use spr_client::{Client, lines_in};
 use stack_accept::Mounted;
 use std::alloc::{AllocError, Global};
+use value_types::Text;
 
 /// Where a name stands among the machines.
 fn place_of(machines: &[Text], name: &Text) -> Option<usize>

@@ -14,7 +14,7 @@ use Rattle.stack_text.specs.Reading.{stack_at}
 use Rattle.stack_text.specs.Why.{word_of}
 use Rattle.stack_accept.specs.Mount.{Mount}
 use Rattle.stack_accept.specs.Rules.{first_breach}
-use Rattle.run_defs.specs.Stack.{file_named}
+use Rattle.script_meaning.specs.Stack.{file_named}
 use Rattle.spr_report.specs.declared.status.Status.{Status}
 use Rattle.spr_report.specs.declared.status.Status.TheVariants as statuses
 use Rattle.idl_reader.specs.Why.{word_of as idl_word}

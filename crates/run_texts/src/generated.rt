@@ -15,11 +15,11 @@ use crate::texts::read_stack;
 use pager_channel::Ops;
 use script_gen::generate;
 use script_text::Script;
-use seen_values::Text;
 use spr_io::Shelf;
 use stack_accept::Mounted;
 use stack_seats::shape_of;
 use std::alloc::{AllocError, Global};
+use value_types::Text;
 
 /// The script that a seed makes for a mounted stack. The only error is want of memory.
 fn script_for(alloc: Global, mount: &Mounted, seed: u32, calls: u32) -> Result<Script, AllocError>

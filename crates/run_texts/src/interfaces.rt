@@ -14,9 +14,9 @@ use idl_check::{Checked, UnfitWhy, check};
 use idl_reader::{Idl, IdlWhy, read_idl};
 use idl_tables::{print_tables, tables};
 use pager_channel::Ops;
-use seen_values::{Bytes, Text};
 use spr_io::Shelf;
 use std::alloc::{AllocError, Global};
+use value_types::{Bytes, Text};
 
 /// The most bytes that a text of interfaces may have.
 pub const IDL_LIMIT: u32 = 65_536;

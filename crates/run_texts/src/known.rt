@@ -6,8 +6,8 @@ ghost use Rattle.script_text.specs.Grammar.{IsScript};
 ghost use Rattle.run_texts.specs.Known.{has_machine, has_file, has_view, has_layer, is_known, unknown_client, unknown_in, unknown_call, unknown_line};
 
 use script_text::{Call, CallLine, ClientLine, Script};
-use seen_values::{Items, Text};
 use stack_accept::{Mounted, NodeEntry};
+use value_types::{Items, Text};
 
 /// Whether there is a machine of the name.
 fn has_machine(mount: &Mounted, name: &Text) -> bool

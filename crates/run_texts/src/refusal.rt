@@ -22,7 +22,7 @@ pub enum Refusal {
     Idl {
         /// The place, as its offset in the text in bytes.
         place: u32,
-        /// Why.
+        /// Why the text is refused there.
         why: IdlWhy,
     },
     /// The interfaces do not fit together.

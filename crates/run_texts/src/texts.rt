@@ -14,10 +14,10 @@ use crate::refusal::Refusal;
 use crate::stacks::accept_text;
 use pager_channel::Ops;
 use script_text::{Script, ScriptWhy, parse_script};
-use seen_values::Text;
 use spr_io::{Shelf, ShelfErr};
 use stack_accept::Mounted;
 use std::alloc::Global;
+use value_types::Text;
 
 /// The most bytes that the text of a stack or of a script may have.
 pub const TEXT_LIMIT: u32 = 16_777_216;

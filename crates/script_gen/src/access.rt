@@ -7,8 +7,8 @@ ghost use Rattle.script_gen.specs.Access.{client_name, object_name, region_name,
 use crate::aim::Aim;
 use crate::shape::{ShapeFile, ShapeSeat};
 use script_text::Call;
-use seen_values::{Bytes, Path, Text};
 use std::alloc::{AllocError, Global};
+use value_types::{Bytes, Path, Text};
 
 /// The name of a client.
 pub(crate) fn client_name(alloc: Global, client: u32) -> Result<Text, AllocError>

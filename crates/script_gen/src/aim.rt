@@ -15,7 +15,7 @@ use crate::shape::Shape;
 pub struct Aim {
     /// The file's number.
     pub file: u32,
-    /// The page.
+    /// The page, counted from 0.
     pub page: u32,
     /// The first of the four bytes in the page.
     pub off: u32,

@@ -8,8 +8,8 @@ use crate::CLIENTS;
 use crate::access::{client_name, map_by, open_by};
 use crate::shape::{Shape, ShapeFile, ShapeSeat};
 use script_text::{Call, CallLine, ClientLine};
-use seen_values::Items;
 use std::alloc::{AllocError, Global};
+use value_types::Items;
 
 /// The seat of a client: the seats in order, and from the first again.
 pub(crate) fn seat_of(shape: &Shape, client: u32) -> &ShapeSeat

@@ -12,8 +12,8 @@ use crate::draws::draw;
 use crate::first::{put_line, seat_of};
 use crate::shape::Shape;
 use script_text::{Call, CallLine};
-use seen_values::Items;
 use std::alloc::{AllocError, Global};
+use value_types::Items;
 
 /// The call of a number; the state moves on behind it.
 #[tactic(auto, unfolding(crate::specs::Made::call_at, crate::specs::Made::writes_at, crate::specs::Made::state_behind))]

@@ -1,6 +1,6 @@
 //! What a generated script is made for.
 
-use seen_values::{Items, Text};
+use value_types::{Items, Text};
 
 /// What a generator sees of a mounted stack.
 #[derive(Debug, Drop)]
@@ -16,7 +16,7 @@ pub struct Shape {
 /// A file, as a generator sees it.
 #[derive(Debug, Drop)]
 pub struct ShapeFile {
-    /// Its name.
+    /// The name that stands in the stack text.
     pub name: Text,
     /// How many pages it has, from 1 to 1,024.
     pub pages: u32,

@@ -12,8 +12,8 @@ use crate::second::called;
 use crate::shape::Shape;
 use crate::{MAX_CALLS, SEED_LIMIT};
 use script_text::Script;
-use seen_values::Items;
 use std::alloc::{AllocError, Global};
+use value_types::Items;
 
 /// The script of a shape, a seed and a number of calls. The only error is want of memory. The rule
 /// is this project's own.

@@ -7,9 +7,9 @@ ghost use Rattle.text_words.specs.Lines.{spaced};
 ghost use Rattle.script_text.specs.Answer.{answer_words};
 
 use crate::script::Reply;
-use seen_values::Text;
 use std::alloc::{AllocError, Global};
 use text_words::{put_hex, put_spaced, put_spaced_number, put_word};
+use value_types::Text;
 
 /// Appends the answer to a `list`: each word with a space before it.
 fn put_names(out: &mut Vec<u8>, names: &[Text]) -> Result<(), AllocError>

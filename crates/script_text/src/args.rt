@@ -5,8 +5,8 @@ ghost use Rattle.script_text.specs.Reading.{Gives, name_at, path_at, root_or_pat
 
 use crate::script::Sub;
 use crate::why::ScriptWhy;
-use seen_values::{Bytes, Path, Text};
 use std::alloc::Global;
+use value_types::{Bytes, Path, Text};
 
 /// The name that a word is.
 #[tactic(auto, unfolding(crate::specs::Reading::name_at))]

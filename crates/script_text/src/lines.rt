@@ -10,9 +10,9 @@ use crate::calls::call_of;
 use crate::script::{CallLine, ClientLine, Script};
 use crate::why::ScriptWhy;
 use crate::{MAX_CLIENTS, MAX_LINE_BYTES, MAX_LINES};
-use seen_values::Items;
 use std::alloc::{AllocError, Global};
 use text_words::{Line, is_name, text_of_name};
+use value_types::Items;
 
 /// Whether a client has the name.
 fn has_client(clients: &[ClientLine], name: &[u8]) -> bool

@@ -8,9 +8,9 @@ ghost use Rattle.script_text.specs.Reading.{Parses, script_at, no_memory, refuse
 use crate::lines::line_of;
 use crate::script::Script;
 use crate::why::{Refused, ScriptWhy};
-use seen_values::Items;
 use std::alloc::Global;
 use text_words::split_line;
+use value_types::Items;
 
 /// A refusal of a line; if memory ran out, it names no line.
 fn refused(line: u32, why: ScriptWhy) -> Refused

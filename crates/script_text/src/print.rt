@@ -9,9 +9,9 @@ ghost use Rattle.script_text.specs.Grammar.{spelling, verb_word, call_words, cli
 
 use crate::script::{Call, CallLine, ClientLine, Script, Sub};
 use crate::verb::Verb;
-use seen_values::{Bytes, Items, Path, Text};
 use std::alloc::{AllocError, Global};
 use text_words::{put, put_hex, put_line, put_path, put_spaced_number, put_word};
+use value_types::{Bytes, Items, Path, Text};
 
 /// The word of a subcontract.
 fn sub_word(sub: Sub) -> &'static [u8]

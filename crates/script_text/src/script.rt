@@ -1,6 +1,6 @@
 //! A script as values, and the answers to its lines.
 
-use seen_values::{Bytes, Items, Path, Text};
+use value_types::{Bytes, Items, Path, Text};
 
 /// A script: who takes part, and what each does in each phase.
 #[derive(Debug, Drop)]
@@ -90,14 +90,14 @@ pub enum Call {
     },
     /// Drops an open object.
     Drop {
-        /// The object's name.
+        /// The object, by the client's own name for it.
         object: Text,
     },
     /// Reads bytes of one page.
     Read {
-        /// The object's name.
+        /// The object, by the client's own name for it.
         object: Text,
-        /// The page.
+        /// The page, counted from 0.
         page: u32,
         /// The first byte in the page.
         off: u32,
@@ -106,37 +106,37 @@ pub enum Call {
     },
     /// Writes bytes into one page.
     Write {
-        /// The object's name.
+        /// The object, by the client's own name for it.
         object: Text,
-        /// The page.
+        /// The page, counted from 0.
         page: u32,
         /// The first byte in the page.
         off: u32,
-        /// The bytes.
+        /// The bytes, in their order in the page.
         bytes: Bytes,
     },
     /// Makes a page zeros.
     Clear {
-        /// The object's name.
+        /// The object, by the client's own name for it.
         object: Text,
-        /// The page.
+        /// The page, counted from 0.
         page: u32,
     },
     /// Writes the file to its stores; the caches keep their right to write.
     Sync {
-        /// The object's name.
+        /// The object, by the client's own name for it.
         object: Text,
     },
     /// Writes the file to its stores; the caches keep a right to read alone.
     Clean {
-        /// The object's name.
+        /// The object, by the client's own name for it.
         object: Text,
     },
     /// Maps the file's first pages.
     Map {
         /// The name that the client gives the region.
         region: Text,
-        /// The object's name.
+        /// The object, by the client's own name for it.
         object: Text,
         /// The address of the first byte.
         address: u64,
@@ -161,7 +161,7 @@ pub enum Call {
     Store {
         /// The address of the first byte.
         address: u64,
-        /// The bytes.
+        /// The bytes, in their order in the page.
         bytes: Bytes,
     },
     /// Ends a layer's caches of a file, and the lives of what was opened there.
@@ -192,12 +192,12 @@ pub enum Reply {
     },
     /// Opened or mapped; the life of the node then.
     Life {
-        /// The life.
+        /// The life of the node now.
         life: u32,
     },
     /// The bytes read.
     Bytes {
-        /// The bytes.
+        /// The bytes, in their order in the page.
         bytes: Bytes,
     },
     /// No object of that name is open.
@@ -210,22 +210,22 @@ pub enum Reply {
     NotOnePage,
     /// A part of the path is not bound.
     NotBound {
-        /// The part.
+        /// The part of the path at which the call ended.
         part: Text,
     },
     /// The last part of the path is bound.
     AlreadyBound {
-        /// The part.
+        /// The part of the path at which the call ended.
         part: Text,
     },
     /// A part of the path that has to be a context is no context.
     NotContext {
-        /// The part.
+        /// The part of the path at which the call ended.
         part: Text,
     },
     /// The last part is a context and no object.
     NotObject {
-        /// The part.
+        /// The part of the path at which the call ended.
         part: Text,
     },
     /// The object's life is over.

@@ -22,12 +22,12 @@ use Rattle.stack_engine.specs.declared.refusal.StepErr.{StepErr}
 use Rattle.stack_engine.specs.declared.refusal.StepErr.TheVariants.{StoreFault, TrailFull, Memory}
 use Rattle.stack_accept.specs.Mount.{Mount}
 use Rattle.client_objects.specs.declared.state.ClientState.{ClientState}
-use Rattle.run_defs.specs.Log.{Histories, Item, entered, noted, items, items_from, by_caller, name_items, names_by, log_at, IsFull}
+use Rattle.script_meaning.specs.Log.{Histories, Item, entered, noted, items, items_from, by_caller, name_items, names_by, log_at, IsFull}
 use Rattle.name_context.specs.History.{NamesSeen}
-use Rattle.run_defs.specs.Plan.{Plan, ends, calls, Request, Ask, access, release, revoke, sync, Asks, Made, at_file, Goes}
-use Rattle.run_defs.specs.Fits.{made_on, made_with_names, SyncsFrom, SyncsInOrder, GoesOn, Did, Gone}
-use Rattle.run_defs.proofs.Logs.{by_caller-more}
-use Rattle.run_defs.proofs.Parts.{goes_on_same, goes_on_then, names_go_on_same, did_nothing, gone_call, gone_fault, gone_refused}
+use Rattle.script_meaning.specs.Plan.{Plan, ends, calls, Request, Ask, access, release, revoke, sync, Asks, Made, at_file, Goes}
+use Rattle.script_meaning.specs.Fits.{made_on, made_with_names, SyncsFrom, SyncsInOrder, GoesOn, Did, Gone}
+use Rattle.script_meaning.proofs.Logs.{by_caller-more}
+use Rattle.script_meaning.proofs.Parts.{goes_on_same, goes_on_then, names_go_on_same, did_nothing, gone_call, gone_fault, gone_refused}
 use Rattle.spr_volume.specs.declared.answered.Answered.{Answered}
 use Rattle.spr_volume.specs.FilePasses.{is_own, Quietly}
 use Rattle.client_objects.specs.Views.{names_at_start}

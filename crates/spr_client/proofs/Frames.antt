@@ -8,7 +8,7 @@ use Rattle.hist_plain.specs.Event.{fits_page}
 use Rattle.tower_core.specs.TreeShape.{IsUpper, TreeShape}
 use Rattle.stack_accept.specs.Mount.{Mount}
 use Rattle.stack_accept.specs.declared.entries.FileEntry.{FileEntry}
-use Rattle.run_defs.specs.Stack.{pages_of}
+use Rattle.script_meaning.specs.Stack.{pages_of}
 use Rattle.stack_engine.specs.Engine.{file_in, tree_in}
 use Rattle.stack_engine.specs.Tower.{TowerSeen}
 use Rattle.spr_client.specs.Calls.{Frame, frame_of, frames, AreFrames, AreOfStack}

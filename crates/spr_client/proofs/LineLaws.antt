@@ -25,10 +25,10 @@ use Rattle.client_objects.specs.declared.state.ClientState.{ClientState}
 use Rattle.client_objects.specs.declared.target.Target.{Target}
 use Rattle.client_objects.specs.Objects.{with_object}
 use Rattle.client_objects.specs.Stored.{received, received_word}
-use Rattle.run_defs.specs.Stack.{pages_of}
-use Rattle.run_defs.specs.Plan.{Plan, ends, calls, Request, NamesAsk, told_names, unless_refused, refused_as, plan_call, plan_named, plan_names, plan_access, plan_after, plan_open, plan_found, plan_try, further_tries, access, asking, asking_names, holding, node_at, opened, reply_of}
-use Rattle.run_defs.specs.Fits.{Gone}
-use Rattle.run_defs.proofs.Parts.{did_nothing, did_then, went_of, went_lacks, gone_as, gone_none, gone_named, gone_unnamed, gone_refused}
+use Rattle.script_meaning.specs.Stack.{pages_of}
+use Rattle.script_meaning.specs.Plan.{Plan, ends, calls, Request, NamesAsk, told_names, unless_refused, refused_as, plan_call, plan_named, plan_names, plan_access, plan_after, plan_open, plan_found, plan_try, further_tries, access, asking, asking_names, holding, node_at, opened, reply_of}
+use Rattle.script_meaning.specs.Fits.{Gone}
+use Rattle.script_meaning.proofs.Parts.{did_nothing, did_then, went_of, went_lacks, gone_as, gone_none, gone_named, gone_unnamed, gone_refused}
 use Rattle.spr_volume.specs.declared.answered.Answered.{Answered}
 use Rattle.spr_volume.specs.Passes.{VolumeSeen, Knows, as_known}
 use Rattle.spr_client.specs.Calls.{CallDone, MayCall, NamesDone, histories, refusal_of}

@@ -8,10 +8,10 @@ use Rattle.script_text.specs.declared.script.Said.{Said}
 use Rattle.script_text.specs.declared.script.Reply.{Reply}
 use Rattle.stack_accept.specs.Mount.{Mount}
 use Rattle.client_objects.specs.declared.state.ClientState.{ClientState}
-use Rattle.run_defs.specs.Log.{IsFull}
-use Rattle.run_defs.specs.Plan.{plan}
-use Rattle.run_defs.specs.Fits.{lines_of}
-use Rattle.run_defs.proofs.Parts.{did_then, does-lines, worked_more}
+use Rattle.script_meaning.specs.Log.{IsFull}
+use Rattle.script_meaning.specs.Plan.{plan}
+use Rattle.script_meaning.specs.Fits.{lines_of}
+use Rattle.script_meaning.proofs.Parts.{did_then, does-lines, worked_more}
 use Rattle.spr_volume.specs.Passes.{Knows, as_known}
 use Rattle.spr_client.specs.Calls.{histories}
 use Rattle.spr_client.specs.Lines.{LineDone, LinesDone, OthersIdle}

@@ -11,7 +11,7 @@ use Rattle.vmm_space.specs.declared.why.SpaceErr.TheVariants as errs
 use Rattle.vmm_space.specs.Spaces.{RefusesMap, has_region, refusal, without_region}
 use Rattle.client_objects.specs.declared.state.ClientState.{ClientState}
 use Rattle.client_objects.specs.declared.target.Target.{Target}
-use Rattle.run_defs.specs.Plan.{ends, mapping, plan_bound, plan_map, plan_mapped, plan_unmap, region_of, rights_at, unless_unmappable, unmappable}
+use Rattle.script_meaning.specs.Plan.{ends, mapping, plan_bound, plan_map, plan_mapped, plan_unmap, region_of, rights_at, unless_unmappable, unmappable}
 
 -- the space refuses the region
 pub map-refused : (mount : Mount) (state : ClientState) (name : List ℕ) (address pages : ℕ) (write : Bool) (target : Target) (why : SpaceErr) → refusal state.regions name target.file address pages ≡ Some why

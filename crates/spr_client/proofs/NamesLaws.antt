@@ -21,12 +21,12 @@ use Rattle.stack_accept.specs.Mount.{Mount}
 use Rattle.client_objects.specs.Views.{names_at_start}
 use Rattle.tower_log.specs.declared.logged.Logged.{Logged}
 use Rattle.tower_log.specs.Log.{place_of}
-use Rattle.run_defs.specs.Log.{Item, NameItem, items, by_caller, name_items, name_items_from, names_by, log_at}
+use Rattle.script_meaning.specs.Log.{Item, NameItem, items, by_caller, name_items, name_items_from, names_by, log_at}
 use Rattle.script_text.specs.declared.script.Reply.TheVariants as replies
-use Rattle.run_defs.specs.Plan.{NamesAsk, Made, with_names, AsksNames, asking_names, refused_as}
-use Rattle.run_defs.specs.Fits.{NamesGoOn, Did, SyncsInOrder, made_on, made_with_names}
-use Rattle.run_defs.proofs.Logs.{names_by-more}
-use Rattle.run_defs.proofs.Parts.{goes_on_same}
+use Rattle.script_meaning.specs.Plan.{NamesAsk, Made, with_names, AsksNames, asking_names, refused_as}
+use Rattle.script_meaning.specs.Fits.{NamesGoOn, Did, SyncsInOrder, made_on, made_with_names}
+use Rattle.script_meaning.proofs.Logs.{names_by-more}
+use Rattle.script_meaning.proofs.Parts.{goes_on_same}
 use Rattle.spr_volume.specs.Passes.{Knows, VolumeSeen}
 use Rattle.spr_client.specs.Calls.{NamesDone, histories}
 use Rattle.spr_client.specs.Names.{IsAt}

@@ -25,8 +25,8 @@ use Rattle.client_objects.specs.Stored.{received}
 use Rattle.client_objects.proofs.FoundLaws.{found_leads}
 use Rattle.client_objects.proofs.OpenLaws.{object_of-with_target, on_stack-with_target}
 use Rattle.client_objects.proofs.ReceivedLaws.{received_leads}
-use Rattle.run_defs.specs.Stack.{pages_of}
-use Rattle.run_defs.specs.Plan.{Plan, Request, access, asking, asking_names, calls, ends, is_revoked, led_to, life_in, node_at, plan_after, plan_names, plan_reopened, plan_try, reply_of, rerouting}
+use Rattle.script_meaning.specs.Stack.{pages_of}
+use Rattle.script_meaning.specs.Plan.{Plan, Request, access, asking, asking_names, calls, ends, is_revoked, led_to, life_in, node_at, plan_after, plan_names, plan_reopened, plan_try, reply_of, rerouting}
 use Rattle.spr_volume.specs.declared.answered.Answered.{Answered}
 use Rattle.spr_volume.specs.Passes.{VolumeSeen, Knows}
 use Rattle.spr_client.specs.Calls.{CallDone, MayCall, refusal_of}

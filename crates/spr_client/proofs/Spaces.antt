@@ -15,7 +15,7 @@ use Rattle.vmm_space.specs.declared.regions.Region.{Region}
 use Rattle.vmm_space.specs.Regions.{is_named}
 use Rattle.vmm_space.specs.Spaces.{SpaceShape, blank_of, with_region, without_named, without_region}
 use Rattle.client_objects.specs.declared.state.ClientState.{ClientState}
-use Rattle.run_defs.specs.Plan.{living, mapping, start_state}
+use Rattle.script_meaning.specs.Plan.{living, mapping, start_state}
 use Rattle.spr_client.specs.Lines.{IsLeafOf, IsMappedOn, IsOnMachine, IsSpaceOf}
 
 -- a space with no region

@@ -14,7 +14,7 @@ use Rattle.client_objects.specs.Found.{node_of, found_on}
 use Rattle.client_objects.proofs.FoundLaws.{found_leads}
 use Rattle.client_objects.proofs.OpenLaws.{on_stack-object_of, on_stack-with_object}
 use Rattle.client_objects.proofs.ReceivedLaws.{received_leads}
-use Rattle.run_defs.specs.Plan.{holding}
+use Rattle.script_meaning.specs.Plan.{holding}
 use Rattle.spr_client.specs.Lines.{IsOnMachine, IsTarget}
 
 -- what leads to a view and a file of the stack is found there

@@ -18,8 +18,8 @@ use Rattle.vmm_space.specs.declared.why.TranslateErr.TheVariants.{Unmapped}
 use Rattle.vmm_space.specs.Regions.{access_in, has_address, is_in_page}
 use Rattle.vmm_space.specs.Spaces.{SpaceShape, LeadsInto, translation}
 use Rattle.client_objects.specs.declared.state.ClientState.{ClientState}
-use Rattle.run_defs.specs.Stack.{pages_of}
-use Rattle.run_defs.specs.Plan.{Request, ends, plan_call, plan_place, untranslated}
+use Rattle.script_meaning.specs.Stack.{pages_of}
+use Rattle.script_meaning.specs.Plan.{Request, ends, plan_call, plan_place, untranslated}
 use Rattle.spr_client.specs.Lines.{IsMappedOn, IsPlaceOf, IsSpaceOf}
 
 pages_in-files : (mount : Mount) (files : List FileEntry) (file : ℕ) → slice_index (map (λ f. f.pages) files) file ≡ pages_of (record mount { files = files }) file

@@ -13,8 +13,8 @@ use Rattle.marshal_buf.specs.Held.{Held}
 use Rattle.name_context.specs.declared.entry.NameErr.{NameErr}
 use Rattle.name_context.specs.Names.{Name, kept_object}
 use Rattle.client_objects.specs.Views.{names_at_start}
-use Rattle.run_defs.specs.Log.{Histories}
-use Rattle.run_defs.specs.Plan.{Ask, NamesAsk, Request, access, release, revoke, sync}
+use Rattle.script_meaning.specs.Log.{Histories}
+use Rattle.script_meaning.specs.Plan.{Ask, NamesAsk, Request, access, release, revoke, sync}
 use Rattle.stack_engine.specs.declared.ends.End.{End}
 use Rattle.stack_engine.specs.declared.refusal.StepErr.{StepErr}
 use Rattle.stack_engine.specs.declared.refusal.StepErr.TheVariants.{StoreFault, TrailFull, Memory}

@@ -20,9 +20,9 @@ use Rattle.client_objects.specs.declared.state.ClientState.{ClientState}
 use Rattle.client_objects.specs.declared.target.Found.{Found}
 use Rattle.client_objects.specs.Objects.{IsOnStack, object_of}
 use Rattle.client_objects.specs.Found.{IsChosen}
-use Rattle.run_defs.specs.Stack.{file_named, layer_of, pages_of, view_of}
-use Rattle.run_defs.specs.Plan.{Plan}
-use Rattle.run_defs.specs.Fits.{Did, Gone, Went, Worked}
+use Rattle.script_meaning.specs.Stack.{file_named, layer_of, pages_of, view_of}
+use Rattle.script_meaning.specs.Plan.{Plan}
+use Rattle.script_meaning.specs.Fits.{Did, Gone, Went, Worked}
 use Rattle.spr_volume.specs.Passes.{Knows, as_known}
 use Rattle.spr_client.specs.Calls.{histories}
 

@@ -6,15 +6,15 @@ ghost use Rattle.hist_plain.specs.Plain.{asked_by};
 ghost use Rattle.client_objects.specs.Found.{IsChosen};
 ghost use Rattle.client_objects.specs.declared.kind.ObjectKind.{ObjectKind as AKind};
 ghost use Rattle.client_objects.specs.Kinds.{file_of, id_of};
-ghost use Rattle.run_defs.specs.Plan.{asking, access, sync};
-ghost use Rattle.run_defs.specs.Stack.{pages_of};
+ghost use Rattle.script_meaning.specs.Plan.{asking, access, sync};
+ghost use Rattle.script_meaning.specs.Stack.{pages_of};
 ghost use Rattle.spr_client.specs.Calls.{CallDone, MayCall, ask_of};
 
 use crate::client::Common;
 use client_objects::{ObjectKind, Target};
 use file_frames::{FileCall, Received, through_frame};
 use hist_plain::{Gate, Keep, Op};
-use marshal_buf::Door;
+use marshal_buf::{Buf, Door};
 use page_ground::Ground;
 use spr_volume::{Answered, CallErr, Pass};
 use stack_engine::End;
@@ -46,8 +46,10 @@ pub(crate) fn framed<G: Ground, T: Gate>(
     ensures op { IfOk result (λ read. read.1 ≡ op) }
 {
     let (page_size, id) = (common.mount.page_size(), target.kind.id());
-    let call = FileCall::Access { op };
-    let received = through_frame(alloc, common.ops, page_size, id, target.tag, call)?;
+    let (call, mut frame) = (FileCall::Access { op }, Buf::new(alloc));
+    let received = through_frame(
+        alloc, common.ops, page_size, id, target.tag, &call, &mut frame,
+    )?;
     let file = file_in(&received, target.door());
     match received.into_call() {
         FileCall::Access { op } => Ok((file, op)),
@@ -65,8 +67,10 @@ pub(crate) fn framed_sync<G: Ground, T: Gate>(
     ensures { IfOk result (λ file. file ≡ target.file) }
 {
     let (page_size, id) = (common.mount.page_size(), target.kind.id());
-    let call = FileCall::Sync;
-    let received = through_frame(alloc, common.ops, page_size, id, target.tag, call)?;
+    let (call, mut frame) = (FileCall::Sync, Buf::new(alloc));
+    let received = through_frame(
+        alloc, common.ops, page_size, id, target.tag, &call, &mut frame,
+    )?;
     let file = file_in(&received, target.door());
     match received.into_call() {
         FileCall::Sync => Ok(file),

@@ -2,7 +2,7 @@
 
 ghost use Rattle.std.specs.Prelude.{◌≡◌, [], IfOk};
 ghost use Rattle.vmm_space.specs.Spaces.{blank_of};
-ghost use Rattle.run_defs.specs.Plan.{plan};
+ghost use Rattle.script_meaning.specs.Plan.{plan};
 ghost use Rattle.spr_client.specs.Calls.{MayCall};
 ghost use Rattle.spr_client.specs.Lines.{IsCallOf, IsOnMachine, LineDone};
 

@@ -1,8 +1,8 @@
 //! Lines that end the channels of a layer.
 
 ghost use Rattle.std.specs.Prelude.{◌≡◌, IsSome};
-ghost use Rattle.run_defs.specs.Plan.{asking, plan_call, plan_end};
-ghost use Rattle.run_defs.specs.Stack.{file_named, layer_of};
+ghost use Rattle.script_meaning.specs.Plan.{asking, plan_call, plan_end};
+ghost use Rattle.script_meaning.specs.Stack.{file_named, layer_of};
 ghost use Rattle.spr_client.specs.Calls.{MayCall, ask_of};
 ghost use Rattle.spr_client.specs.Lines.{IsLeafOf, LineDone};
 
@@ -11,13 +11,13 @@ use crate::client::{Client, Common};
 use crate::line::{refused, reply_to};
 use hist_plain::Gate;
 use page_ground::Ground;
-use run_defs::{file_named, layer_of};
+use script_meaning::{file_named, layer_of};
 use script_text::Reply;
-use seen_values::Text;
 use spr_volume::Pass;
 use stack_engine::End;
 use std::alloc::Global;
 use std::sync::Wait;
+use value_types::Text;
 
 /// A line that ends the channels of a layer of the stack for a file of it: a revoke or a release.
 pub(crate) fn end_line<R: Wait, G: Ground, T: Gate>(

@@ -7,8 +7,8 @@ ghost use Rattle.hist_plain.specs.Event.{fits_page};
 ghost use Rattle.hist_plain.specs.Plain.{asked_by};
 ghost use Rattle.client_objects.specs.Objects.{object_of, word_of};
 ghost use Rattle.client_objects.specs.Found.{found_on};
-ghost use Rattle.run_defs.specs.Stack.{pages_of};
-ghost use Rattle.run_defs.specs.Plan.{access, asking, node_at, plan_access, plan_call, plan_named, plan_sync};
+ghost use Rattle.script_meaning.specs.Stack.{pages_of};
+ghost use Rattle.script_meaning.specs.Plan.{access, asking, node_at, plan_access, plan_call, plan_named, plan_sync};
 ghost use Rattle.spr_client.specs.Calls.{MayCall};
 ghost use Rattle.spr_client.specs.Lines.{IsLeafOf, IsOnMachine, IsTarget, LineDone};
 
@@ -19,12 +19,12 @@ use crate::reconnecting::reconnecting;
 use client_objects::{Found, ObjectKind};
 use hist_plain::{Gate, Keep, Op, fits};
 use page_ground::Ground;
-use run_defs::pages_of;
+use script_meaning::pages_of;
 use script_text::Reply;
-use seen_values::{Bytes, Text};
 use spr_volume::Pass;
 use std::alloc::Global;
 use std::sync::Wait;
+use value_types::{Bytes, Text};
 
 /// A line of one access, at a layer above the ground, within one page of the file. What it reads comes into the bytes.
 pub(crate) fn answer_access<R: Wait, G: Ground, T: Gate>(

@@ -2,15 +2,15 @@
 
 ghost use Rattle.std.specs.Prelude.{◌≡◌, ◌<◌, IfOk, Some, length, slice_get};
 ghost use Rattle.hist_plain.specs.Plain.{Told};
-ghost use Rattle.run_defs.specs.Plan.{life_in, refused_as, reply_of, unmappable, untranslated};
+ghost use Rattle.script_meaning.specs.Plan.{life_in, refused_as, reply_of, unmappable, untranslated};
 ghost use Rattle.spr_client.specs.Calls.{refusal_of};
 ghost use Rattle.spr_client.specs.Names.{IsAt};
 
 use hist_plain::Answer;
 use script_text::Reply;
-use seen_values::{Bytes, Path, Text};
 use spr_volume::{CallErr, NameErr};
 use std::alloc::{AllocError, Global};
+use value_types::{Bytes, Path, Text};
 use vmm_space::{SpaceErr, TranslateErr};
 
 /// The answer of the file, as the answer to a line. The bytes that were read are in `out`.

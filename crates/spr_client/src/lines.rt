@@ -1,7 +1,7 @@
 //! A client's lines of a phase, one after another.
 
 ghost use Rattle.std.specs.Prelude.{◌≡◌, ◌+◌, ◌≤◌, ◌++◌, IfOk, OnErr, length, vec_capacity};
-ghost use Rattle.run_defs.specs.Fits.{lines_of};
+ghost use Rattle.script_meaning.specs.Fits.{lines_of};
 ghost use Rattle.spr_client.specs.Calls.{MayCall};
 ghost use Rattle.spr_client.specs.Lines.{AreCalls, IsOnMachine, LinesDone};
 

@@ -5,7 +5,7 @@ ghost use Rattle.vmm_space.specs.declared.TheConstants.{MAX_ADDRESS};
 ghost use Rattle.vmm_space.specs.declared.regions.Region.{Region};
 ghost use Rattle.vmm_space.specs.Spaces.{SpaceShape, refusal, with_region};
 ghost use Rattle.client_objects.specs.Objects.{object_of};
-ghost use Rattle.run_defs.specs.Plan.{living, mapping, plan_map, plan_mapped, plan_named, plan_unmap, region_of};
+ghost use Rattle.script_meaning.specs.Plan.{living, mapping, plan_map, plan_mapped, plan_named, plan_unmap, region_of};
 ghost use Rattle.spr_client.specs.Calls.{MayCall};
 ghost use Rattle.spr_client.specs.Lines.{IsLeafOf, IsOnMachine, IsTarget, LineDone, PlanDone};
 
@@ -18,10 +18,10 @@ use hist_plain::{Gate, Op};
 use memory_object::{CacheRights, MemoryObject};
 use page_ground::Ground;
 use script_text::Reply;
-use seen_values::Text;
 use spr_volume::Pass;
 use std::alloc::Global;
 use std::sync::Wait;
+use value_types::Text;
 
 /// Opens the file at the manager's leaf to which the last of a client's regions leads, which was just mapped. The region keeps the life that
 /// is answered; if the call is refused, the region is given up.

@@ -6,8 +6,8 @@ ghost use Rattle.text_words.specs.Words.{IsPath, path_word};
 ghost use Rattle.name_context.specs.declared.entry.NameCall.TheVariants as names_calls;
 ghost use Rattle.name_context.specs.History.{IsPathOf};
 ghost use Rattle.name_context.specs.Names.{HasParts};
-ghost use Rattle.run_defs.specs.Stack.{file_named, view_of};
-ghost use Rattle.run_defs.specs.Plan.{asking_names, binding, kind_named, plan_bind, plan_done, plan_list};
+ghost use Rattle.script_meaning.specs.Stack.{file_named, view_of};
+ghost use Rattle.script_meaning.specs.Plan.{asking_names, binding, kind_named, plan_bind, plan_done, plan_list};
 ghost use Rattle.spr_client.specs.Calls.{MayCall};
 ghost use Rattle.spr_client.specs.Lines.{LineDone};
 
@@ -16,13 +16,13 @@ use crate::line::{parts_of, refused_names};
 use client_objects::{ObjectKind, bound_object};
 use hist_plain::Gate;
 use page_ground::Ground;
-use run_defs::{file_named, view_of};
+use script_meaning::{file_named, view_of};
 use script_text::{Reply, Sub};
-use seen_values::{Items, Path, Text};
 use spr_volume::Pass;
 use std::alloc::{AllocError, Global};
 use std::sync::Wait;
 use text_words::put_path;
+use value_types::{Items, Path, Text};
 
 /// A line that makes a context.
 pub(crate) fn context_line<R: Wait, G: Ground, T: Gate>(

@@ -4,7 +4,7 @@ ghost use Rattle.std.specs.Prelude.{◌≡◌, ◌⊎◌, ℕ, List, Some};
 ghost use Rattle.name_context.specs.Names.{HasParts, kept_object};
 ghost use Rattle.client_objects.specs.Objects.{OpenObject, object_of, with_object, word_of};
 ghost use Rattle.client_objects.specs.Stored.{received, received_word};
-ghost use Rattle.run_defs.specs.Plan.{holding, node_at, plan_copy, plan_drop, plan_found, plan_named, plan_open};
+ghost use Rattle.script_meaning.specs.Plan.{holding, node_at, plan_copy, plan_drop, plan_found, plan_named, plan_open};
 ghost use Rattle.spr_client.specs.Calls.{MayCall};
 ghost use Rattle.spr_client.specs.Lines.{IsOnMachine, IsTarget, LineDone, PlanDone};
 
@@ -16,10 +16,10 @@ use client_objects::{Found, NotReceived};
 use hist_plain::{Gate, Op};
 use page_ground::Ground;
 use script_text::Reply;
-use seen_values::{Path, Text};
 use spr_volume::{Pass, Stored};
 use std::alloc::Global;
 use std::sync::Wait;
+use value_types::{Path, Text};
 
 /// Opens the file at the node to which the calls of the last of a client's objects go, which was just received. The object keeps the life
 /// that is answered; if the call is refused, the object is given up.

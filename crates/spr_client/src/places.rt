@@ -2,7 +2,7 @@
 
 ghost use Rattle.std.specs.Prelude.{◌≡◌, ◌≤◌, length, min};
 ghost use Rattle.vmm_space.specs.declared.TheConstants.{MAX_ADDRESS};
-ghost use Rattle.run_defs.specs.Plan.{loading, plan_call, plan_load, plan_store, storing};
+ghost use Rattle.script_meaning.specs.Plan.{loading, plan_call, plan_load, plan_store, storing};
 ghost use Rattle.spr_client.specs.Calls.{MayCall};
 ghost use Rattle.spr_client.specs.Lines.{IsOnMachine, IsPlaceOf, LineDone};
 
@@ -12,10 +12,10 @@ use crate::line::untranslated;
 use hist_plain::{Gate, Op};
 use page_ground::Ground;
 use script_text::Reply;
-use seen_values::Bytes;
 use spr_volume::Pass;
 use std::alloc::Global;
 use std::sync::Wait;
+use value_types::Bytes;
 use vmm_space::Place;
 
 /// A line that reads so many bytes where an address leads.

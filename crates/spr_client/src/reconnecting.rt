@@ -9,7 +9,7 @@ ghost use Rattle.client_objects.specs.declared.kind.ObjectKind.TheVariants.{Reco
 ghost use Rattle.client_objects.specs.declared.state.ClientState.{ClientState as AState};
 ghost use Rattle.client_objects.specs.Objects.{object_of, word_of};
 ghost use Rattle.client_objects.specs.Stored.{received};
-ghost use Rattle.run_defs.specs.Plan.{Plan, asking_names, is_revoked, plan_access, plan_after, plan_names, plan_reopened, plan_try};
+ghost use Rattle.script_meaning.specs.Plan.{Plan, asking_names, is_revoked, plan_access, plan_after, plan_names, plan_reopened, plan_try};
 ghost use Rattle.spr_client.specs.Calls.{MayCall};
 ghost use Rattle.client_objects.specs.Reconnected.{IsReconnectable};
 ghost use Rattle.spr_client.specs.Lines.{IsLed, IsOnMachine, LeadsOn, LineDone, PlanDone};
@@ -21,12 +21,12 @@ use crate::line::{life_in, parts_of, refused, refused_names, reply_to};
 use client_objects::{Found, ObjectKind, Target, received_target};
 use hist_plain::{Answer, Gate, Op, fits};
 use page_ground::Ground;
-use run_defs::pages_of;
+use script_meaning::pages_of;
 use script_text::Reply;
-use seen_values::{Path, Text};
 use spr_volume::{Pass, Stored};
 use std::alloc::Global;
 use std::sync::Wait;
+use value_types::{Path, Text};
 
 /// How often a reconnectable object finds its file again within one line: it makes three tries.
 const FURTHER: u32 = 2;

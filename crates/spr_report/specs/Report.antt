@@ -24,8 +24,8 @@ use Rattle.stack_accept.specs.declared.entries.FileEntry.{FileEntry}
 use Rattle.stack_accept.specs.Mount.{Mount}
 use Rattle.name_context.specs.declared.entry.NameEntry.{NameEntry}
 use Rattle.spr_report.specs.NamesLines.{names_part}
-use Rattle.run_defs.specs.declared.store.StoreKey.{StoreKey}
-use Rattle.run_defs.specs.Stack.{name_in, disk_name, file_name, node_names}
+use Rattle.script_meaning.specs.declared.store.StoreKey.{StoreKey}
+use Rattle.script_meaning.specs.Stack.{name_in, disk_name, file_name, node_names}
 use Rattle.pager_channel.specs.declared.numbers.Ops.{Ops}
 use Rattle.tower_log.specs.declared.logged.Entry.{Entry}
 use Rattle.tower_log.specs.declared.logged.Logged.{Logged}

@@ -6,9 +6,9 @@ ghost use Rattle.script_text.specs.Answer.{answer_words};
 ghost use Rattle.spr_report.specs.Report.{said_line, client_part, closing_line};
 
 use script_text::{Reply, Said, put_reply};
-use seen_values::Text;
 use std::alloc::{AllocError, Global};
 use text_words::{put, put_line, put_number, put_word};
+use value_types::Text;
 
 /// Appends the line of an answer.
 fn put_said(alloc: Global, out: &mut Vec<u8>, disks: &[Text], said: &Said) -> Result<(), AllocError>

@@ -5,7 +5,7 @@ ghost use Rattle.std.specs.Fmt.{decimal};
 ghost use Rattle.hex.specs.Hex.{encode_lower};
 ghost use Rattle.hist_plain.specs.Event.{node_of};
 ghost use Rattle.text_words.specs.Lines.{line_of, spaced};
-ghost use Rattle.run_defs.specs.Stack.{name_in, node_names};
+ghost use Rattle.script_meaning.specs.Stack.{name_in, node_names};
 ghost use Rattle.tower_log.specs.Log.{bytes_with};
 ghost use Rattle.spr_report.specs.Heads.{head_bytes};
 ghost use Rattle.spr_report.specs.OperationNames.{operation_name};

@@ -9,9 +9,9 @@ use crate::names_refusal::reply_of;
 use hist_lock::Storied;
 use name_context::{NameCall, NameEntry, Names};
 use script_text::put_reply;
-use seen_values::Path;
 use std::alloc::{AllocError, Global};
 use text_words::{put, put_line, put_number, put_path, put_spaced_number, put_word};
+use value_types::Path;
 
 /// The name of a caller; a number that has none has the empty name.
 fn caller_name<'a>(callers: &[&'a [u8]], number: u32) -> &'a [u8]

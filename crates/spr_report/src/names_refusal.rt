@@ -2,16 +2,17 @@
 
 ghost use Rattle.std.specs.Prelude.{◌≡◌, IfOk};
 ghost use Rattle.std.specs.Option.{option_copied};
-ghost use Rattle.spr_report.specs.NamesAnswers.{part_in, reply_of};
+ghost use Rattle.script_meaning.specs.Plan.{part_of};
+ghost use Rattle.spr_report.specs.NamesAnswers.{reply_of};
 
 use name_context::NameErr;
 use script_text::Reply;
-use seen_values::{Path, Text};
 use std::alloc::{AllocError, Global};
+use value_types::{Path, Text};
 
 /// The text of a part of a path, and the empty text for a part that the path has not. An error is want of memory.
 fn part_text(alloc: Global, path: Option<&Path>, part: u32) -> Result<Text, AllocError>
-    ensures { IfOk result (λ text. text ≡ part_in (option_copied path.entry) part) }
+    ensures { IfOk result (λ text. text ≡ part_of (option_copied path.entry) part) }
 {
     let Some(path) = path else {
         return Text::of(alloc, "");

@@ -3,7 +3,7 @@
 ghost use Rattle.std.specs.Prelude.{◌≡◌, ◌++◌, IfSome, OnOk, IfOk, map, length};
 ghost use Rattle.std.specs.List.{flat_map};
 ghost use Rattle.stack_accept.specs.Sound.{IsInLimits};
-ghost use Rattle.run_defs.specs.Stack.{node_names};
+ghost use Rattle.script_meaning.specs.Stack.{node_names};
 ghost use Rattle.tower_log.specs.Log.{entries_of, trail_of};
 ghost use Rattle.spr_report.specs.Tracing.{IsNextOf, AreNextOf, IsReported, AreReported, traced_after};
 ghost use Rattle.spr_report.specs.Traced.{traced_by};
@@ -17,13 +17,13 @@ use crate::writing::lost_pieces;
 use hist_plain::Event;
 use name_context::Names as StackNames;
 use pager_channel::Ops;
-use run_defs::StoreKey;
+use script_meaning::StoreKey;
 use script_text::{ClientLine, Reply, Said, Script};
-use seen_values::Text;
 use stack_accept::{FileEntry, Mounted};
 use std::alloc::{AllocError, Global};
 use text_words::{put, put_line};
 use tower_log::Trail;
+use value_types::Text;
 
 /// All that a report tells of a run.
 #[derive(Clone, Copy)]

@@ -7,7 +7,7 @@ ghost use Rattle.spr_report.specs.Writing.{Writes, Finishes, status_line};
 
 use crate::status::Status;
 use itoa::Buffer;
-use run_defs::{StoreKey, disk_name, file_name};
+use script_meaning::{StoreKey, disk_name, file_name};
 use spr_io::{Failed, Sink};
 use stack_accept::Mounted;
 

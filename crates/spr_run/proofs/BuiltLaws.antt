@@ -15,7 +15,7 @@ use Rattle.stack_accept.specs.declared.entries.FileEntry.{FileEntry}
 use Rattle.stack_accept.specs.declared.entries.NodeEntry.{NodeEntry}
 use Rattle.stack_accept.specs.Mount.{Mount, is_view}
 use Rattle.name_context.specs.Names.{HasParts}
-use Rattle.run_defs.specs.Stack.{view_of, layer_of, file_named}
+use Rattle.script_meaning.specs.Stack.{view_of, layer_of, file_named}
 use Rattle.spr_client.specs.Lines.{AreCalls, IsCallOf}
 use Rattle.run_texts.specs.Known.{has_view, has_file, has_layer, is_known, unknown_client, unknown_in, unknown_call, unknown_line}
 

@@ -7,11 +7,11 @@ ghost use Rattle.run_texts.specs.Refusal.{IsStackCause, names_of};
 ghost use Rattle.spr_run.specs.Ways.{only_stack, SaysCheck};
 
 use run_texts::{Refusal, TextNames, read_stack, refuse};
-use seen_values::Text;
 use spr_io::{Shelf, Sink};
 use spr_report::{Status, finish};
 use stack_accept::put_check;
 use std::alloc::{AllocError, Global};
+use value_types::Text;
 
 /// The names of a command that has a stack alone.
 pub(crate) fn only_stack(name: &Text) -> TextNames<'_>

@@ -7,13 +7,13 @@ ghost use Rattle.spr_run.specs.Ways.{outside, SaysGenerated};
 
 use run_files::sum_files;
 use run_texts::{TextNames, read_generated, refuse};
-use seen_values::Text;
 use spr_client::LineGate;
 use spr_io::{Bay, Shelf, Sink};
 use spr_report::Status;
 use std::alloc::Global;
 use std::sync::Wait;
 use std::thread::Threads;
+use value_types::Text;
 
 /// Reads the interfaces and the stack, makes a script of so many calls from the seed, runs it over the files of the stack, if the
 /// interfaces fit together and have each operation, and writes what it came to.

@@ -9,13 +9,13 @@ ghost use Rattle.spr_run.specs.Ways.{outside, SaysFormatted, SaysDumped, SaysLis
 use crate::check::only_stack;
 use image_commands::{dump_file, format_files};
 use image_looks::list_disks;
-use run_defs::file_named;
 use run_texts::{Refusal, read_stack, refuse};
-use seen_values::Text;
+use script_meaning::file_named;
 use spr_io::{Bay, Shelf, Sink};
 use spr_report::Status;
 use stack_accept::Mounted;
 use std::alloc::Global;
+use value_types::Text;
 
 /// Reads a stack, which may have layers that a run does not build yet, and writes a fresh image on each of its stores: by file,
 /// and then by disk.

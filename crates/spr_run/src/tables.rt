@@ -6,10 +6,10 @@ ghost use Rattle.run_texts.specs.Refusal.{names_of};
 ghost use Rattle.spr_run.specs.Ways.{only_idl, SaysTables};
 
 use run_texts::{TextNames, read_tables, refuse};
-use seen_values::Text;
 use spr_io::{Shelf, Sink};
 use spr_report::{Status, finish};
 use std::alloc::Global;
+use value_types::Text;
 
 /// The names of a command that has interfaces alone.
 fn only_idl(name: &Text) -> TextNames<'_>

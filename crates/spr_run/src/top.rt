@@ -13,13 +13,13 @@ use crate::tables::put_tables;
 use crate::words::{Asked, WordsErr, read_words};
 use run_files::run_files;
 use run_texts::{TextNames, read_run, refuse};
-use seen_values::Text;
 use spr_client::LineGate;
 use spr_io::{Bay, Shelf, Sink};
 use spr_report::{Status, finish};
 use std::alloc::Global;
 use std::sync::Wait;
 use std::thread::Threads;
+use value_types::Text;
 
 const USAGE: &[u8] = b"usage: spring run, gen, check, format, dump or idl\n";
 

@@ -10,8 +10,8 @@ use crate::command::line;
 use clap::error::ErrorKind;
 use clap::{ArgMatches, Error};
 use script_gen::{MAX_CALLS, SEED_LIMIT};
-use seen_values::Text;
 use std::alloc::{AllocError, Global};
+use value_types::Text;
 
 /// A command of the program, with the names that its words give.
 #[derive(Debug, Drop)]

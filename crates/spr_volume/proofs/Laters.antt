@@ -19,7 +19,7 @@ use Rattle.tower_log.specs.declared.logged.Entry.{Entry}
 use Rattle.tower_log.specs.declared.logged.Logged.{Logged}
 use Rattle.tower_log.specs.declared.logged.Logged.TheVariants.{Entered, Noted}
 use Rattle.tower_log.specs.Log.{trail_of}
-use Rattle.tower_log.specs.Notes.{counts_of}
+use Rattle.tower_log.specs.Notes.{counts_of, last_count}
 use Rattle.tower_log.proofs.LogLaws.{trail_of-append}
 use Rattle.tower_shows.specs.Since.{AreSince, GroundIsSince}
 use Rattle.tower_shows.proofs.Stays.{told_later, told_stays}
@@ -40,9 +40,9 @@ pub all-append : {A : Type 0} (P : A → Type 0) (xs ys : List A) → AllByRecur
 all-append P [] ys all more = more
 all-append P (x ∷ xs) ys all more = (all.0, all-append P xs ys all.1 more)
 
-none-append : (xs ys : List ℕ) → xs ++ ys ≡ [] → (xs ≡ []) × (ys ≡ [])
-none-append [] ys e = (refl, e)
-none-append (x ∷ xs) ys e = absurd cc
+last_count-append : (first : ℕ) (xs ys : List ℕ) → last_count first (xs ++ ys) ≡ last_count (last_count first xs) ys
+last_count-append first [] ys = refl
+last_count-append first (x ∷ xs) ys = last_count-append x xs ys
 
 some_of : (xs : List ℕ) → 0 < length xs → (x : ℕ) × Contains xs x
 some_of [] some = absurd (omega arith)
@@ -226,7 +226,7 @@ pub record IsTry (more : List Logged) (old new : EngineSeen) : Type 0 where
   pub paid : IsPaid more old.ground new.ground
   pub answered : AreAnswered (tree_in old) (state_in old) more
   pub needed : AreNeeded (tree_in old) (file_in old).pages (events_in old) more
-  pub calm : (disk : ℕ) → IsOnDisk disk old.ground → counts_of disk more ≡ [] → faults_in new.ground.disks disk ≡ faults_in old.ground.disks disk
+  pub noted : (disk : ℕ) → IsOnDisk disk old.ground → faults_in new.ground.disks disk ≡ last_count (faults_in old.ground.disks disk) (counts_of disk more)
   pub lifts : Lifts old new
 
 -- pages of a told ground are from the first place on
@@ -319,7 +319,7 @@ module _ (more : List Logged) (old new : EngineSeen) (sound : IsSound old) (soun
     disks = later_once more old.ground new.ground move.goes.call move.notes move.paid;
     answered = move.answered;
     needed = move.needed;
-    calm = move.calm;
+    noted = move.noted;
     kept = λ opening first disk of live. keeps_first opening first disk of live;
     turned = λ opening first disk of. turns_first opening first disk of;
     lifts = move.lifts;
@@ -335,7 +335,7 @@ try_entered entry old new enters is needed paid = record {
   paid = unnoted (Entered entry ∷ []) old.ground new.ground enters.goes.call refl;
   answered = (is, tt);
   needed = (needed, tt);
-  calm = λ disk on none. calm_on old.ground new.ground disk enters.goes.call on enters.calm;
+  noted = λ disk on. calm_on old.ground new.ground disk enters.goes.call on enters.calm;
   lifts = lifts_entered entry old new enters.goes.call enters.log paid;
 }
 
@@ -348,9 +348,10 @@ noted_by caller Memory = []
 own_note : (a b : ℕ) → a ≡ b → (a == b) ≡ true
 own_note a b e = grind (arith, nat_tests)
 
-one_note : (t : Bool) (count : ℕ) → t ≡ true → cond t (count ∷ []) [] ≡ [] → ⊥
-one_note true count is e = absurd cc
-one_note false count is e = absurd cc
+-- behind a note of the one live disk its count is the note's
+one_note : (t : Bool) (before after count : ℕ) → t ≡ true → count ≡ after → after ≡ last_count before (cond t (count ∷ []) [])
+one_note true before after count is exact = sym exact
+one_note false before after count is exact = absurd cc
 
 pub try_refused : (caller : ℕ) (old new : EngineSeen) (err : StepErr) → IsRefused caller old new err → IsTry (noted_by caller err) old new
 try_refused caller old new (StoreFault disk count) refused = record {
@@ -360,7 +361,9 @@ try_refused caller old new (StoreFault disk count) refused = record {
   paid = λ d live. let rose = refused.why.1.all d (live_once old.ground new.ground d refused.goes.call live) in omega (arith, rose);
   answered = tt;
   needed = tt;
-  calm = λ d on none. absurd (one_note (disk == d) count (own_note disk d (on.alone disk refused.why.1.named)) none);
+  noted = λ d on.
+      let own = on.alone disk refused.why.1.named in
+      one_note (disk == d) (faults_in old.ground.disks d) (faults_in new.ground.disks d) count (own_note disk d own) (subst (λ (x : ℕ). count ≡ faults_in new.ground.disks x) own refused.why.1.exact);
   lifts = lifts_none (noted_by caller (StoreFault disk count)) old new refused.why.0 refl;
 }
 try_refused caller old new TrailFull refused = record {
@@ -370,7 +373,7 @@ try_refused caller old new TrailFull refused = record {
   paid = unnoted [] old.ground new.ground refused.goes.call refl;
   answered = tt;
   needed = tt;
-  calm = λ d on none. ap (λ (s : Seen). faults_in s.disks d) refused.why.2;
+  noted = λ d on. ap (λ (s : Seen). faults_in s.disks d) refused.why.2;
   lifts = lifts_none [] old new (refused.why.0 ∙ sym (append-nil (log_in old))) refl;
 }
 try_refused caller old new Memory refused = record {
@@ -380,7 +383,7 @@ try_refused caller old new Memory refused = record {
   paid = unnoted [] old.ground new.ground refused.goes.call refl;
   answered = tt;
   needed = tt;
-  calm = λ d on none. calm_on old.ground new.ground d refused.goes.call on refused.why.2;
+  noted = λ d on. calm_on old.ground new.ground d refused.goes.call on refused.why.2;
   lifts = lifts_none [] old new (refused.why.0 ∙ sym (append-nil (log_in old))) refl;
 }
 
@@ -393,7 +396,7 @@ try_none old new same = subst (IsTry [] old) (sym same) (record {
   paid = unnoted [] old.ground old.ground (inl refl) refl;
   answered = tt;
   needed = tt;
-  calm = λ disk on none. refl;
+  noted = λ disk on. refl;
   lifts = lifts_none [] old old (sym (append-nil (log_in old))) refl;
 })
 
@@ -408,7 +411,7 @@ later_refl e = record {
   disks = later_once [] e.ground e.ground (inl refl) tt (unnoted [] e.ground e.ground (inl refl) refl);
   answered = tt;
   needed = tt;
-  calm = λ disk on none. refl;
+  noted = λ disk on. refl;
   kept = λ opening first disk of live was. was;
   turned = λ opening first disk of was. was;
   lifts = lifts_none [] e e (sym (append-nil (log_in e))) refl;
@@ -448,9 +451,10 @@ later_trans a b c p q = record {
   needed = needed_on (tree_in a) (file_in a).pages (events_in a) p.more q.more p.needed
       (at_same (λ (t : TreeShape) (f : PagedFile). AreNeeded t f.pages (events_in a ++ trail_of p.more) q.more) b.tables a.tables (record { ops = sym p.file.ops; tree = sym p.file.tree; file = sym p.file.file; machines = sym p.file.machines })
       (subst (λ (es : List Event). AreNeeded (tree_in b) (file_in b).pages es q.more) events_are q.needed));
-  calm = λ disk on none.
-      let both = none-append (counts_of disk p.more) (counts_of disk q.more) (sym (counts_of-append disk p.more q.more) ∙ none) in
-      q.calm disk (on_later disk p.more a.ground b.ground p.disks on) both.1 ∙ p.calm disk on both.0;
+  noted = λ disk on.
+      q.noted disk (on_later disk p.more a.ground b.ground p.disks on)
+      ∙ (ap (λ (n : ℕ). last_count n (counts_of disk q.more)) (p.noted disk on)
+      ∙ (sym (last_count-append (faults_in a.ground.disks disk) (counts_of disk p.more) (counts_of disk q.more)) ∙ ap (last_count (faults_in a.ground.disks disk)) (sym (counts_of-append disk p.more q.more))));
   kept = λ opening first disk of live was. q.kept opening first disk (p.of opening of) live (p.kept opening first disk of (q.disks.live disk live) was);
   turned = λ opening first disk of was. q.turned opening first disk (p.of opening of) (p.turned opening first disk of was);
   lifts = λ from none some. lifted (last_from (events_in b)) refl from none some;

@@ -12,7 +12,7 @@ use Rattle.tower_core.specs.Trail.{State, state_after}
 use Rattle.tower_core.specs.TreeShape.{TreeShape}
 use Rattle.tower_log.specs.declared.logged.Logged.{Logged}
 use Rattle.tower_log.specs.declared.logged.Logged.TheVariants.{Entered, Noted}
-use Rattle.tower_log.specs.Notes.{counts_of}
+use Rattle.tower_log.specs.Notes.{counts_of, last_count}
 use Rattle.page_exchange.specs.Tables.{IsSameFile}
 use Rattle.tower_shows.specs.Since.{AreSince}
 use Rattle.stack_engine.specs.Engine.{EngineSeen, events_in, file_in, log_in, state_in, tree_in}
@@ -99,8 +99,8 @@ pub record IsLater (old new : EngineSeen) : Type 0 where
   -- whatever lies under the file
   pub answered : AreAnswered (tree_in old) (state_in old) more
   pub needed : AreNeeded (tree_in old) (file_in old).pages (events_in old) more
-  -- if one disk alone is live, its count rises only with a note of it
-  pub calm : (disk : ℕ) → IsOnDisk disk old.ground → counts_of disk more ≡ [] → faults_in new.ground.disks disk ≡ faults_in old.ground.disks disk
+  -- if one disk alone is live, its count is that of its last note, or what it was: no fault of it goes without a note
+  pub noted : (disk : ℕ) → IsOnDisk disk old.ground → faults_in new.ground.disks disk ≡ last_count (faults_in old.ground.disks disk) (counts_of disk more)
   pub kept : (opening : List ℕ) (first : Option (Option Imaged)) (disk : ℕ) → IsOf opening old → Contains (live_in new.ground.disks) disk
       → KeepsFirst opening first old disk → KeepsFirst opening first new disk
   pub turned : (opening : List ℕ) (first : Option Imaged) (disk : ℕ) → IsOf opening old → TurnsFirst opening first old disk → TurnsFirst opening first new disk

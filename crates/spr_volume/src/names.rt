@@ -14,8 +14,8 @@ use crate::mounted::{Pass, Volume};
 use crate::names_calls::{bind, context, list, resolve, unbind};
 use name_context::{NameErr, Stored};
 use page_ground::Ground;
-use seen_values::{Path, Text};
 use std::sync::Wait;
+use value_types::{Path, Text};
 
 impl<G: Ground> Volume<G> {
     /// Makes a context under a path of one to eight parts, for a caller. An error is the refusal that the names give in the call's hold, or

@@ -13,8 +13,8 @@ ghost use Rattle.spr_volume.specs.NamesShared.{IsSame};
 
 use hist_lock::{HistLock, Seat};
 use name_context::{NameErr, Names, Stored};
-use seen_values::{Path, Text};
 use std::sync::Wait;
+use value_types::{Path, Text};
 
 /// Makes a context under a path of one to eight parts, for a caller. An error is the refusal that the names give, or want of memory.
 pub fn context<R: Wait>(

@@ -1,6 +1,6 @@
 //! What `--help`, `-h` and `--version` print.
 
-use seen_values::Text;
+use value_types::Text;
 
 /// What the program does, its commands, and an example.
 pub const HELP: &str =

@@ -8,7 +8,6 @@ mod progress;
 use crate::help::{HELP, VERSION, asks_help, asks_version};
 use crate::notices::ErrSink;
 use crate::progress::{ClearSink, Progress};
-use seen_values::Text;
 use spr_io::{HostBay, HostShelf, StdSink};
 use spr_run::spring;
 use std::alloc::{AllocError, Global};
@@ -19,6 +18,7 @@ use std::rt::{Runtime, Stderr};
 use std::sync::Wait;
 use std::thread::Threads;
 use std::{env, io};
+use value_types::Text;
 
 /// The status of want of memory.
 const NO_MEMORY: u8 = 8;

@@ -1,7 +1,7 @@
 //! What a mounted stack consists of.
 
-use seen_values::Text;
 use std::boxed::Box;
+use value_types::Text;
 
 /// What a node is.
 #[derive(Clone, Copy, Debug, PartialEq, Eq)]
@@ -33,7 +33,7 @@ impl Kind {
 /// A file of the stack.
 #[derive(Clone, Debug, Drop)]
 pub struct FileEntry {
-    /// Its name.
+    /// The name that stands in the stack text.
     pub name: Text,
     /// How many pages it has, from 1 to 1,024.
     pub pages: u32,
@@ -44,7 +44,7 @@ pub struct FileEntry {
 pub struct NodeEntry {
     /// The layer's name.
     pub name: Text,
-    /// What it is.
+    /// Which kind of layer it is.
     pub kind: Kind,
     /// The number of its machine.
     pub machine: u32,

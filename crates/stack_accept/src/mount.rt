@@ -12,10 +12,10 @@ ghost use Rattle.stack_accept.specs.Mount.{number_in, page_size_of, file_of, dis
 use crate::entries::{FileEntry, GroundPlan, Kind, NodeEntry};
 use crate::line::{is_disk, is_layer_named, is_named, is_storage, machine};
 use crate::rule::{is_first_node, is_node};
-use seen_values::Text;
 use stack_text::{LayerKind, MAX_LINES, StackLine, UpperKind};
 use std::alloc::{AllocError, Global};
 use std::boxed::Box;
+use value_types::Text;
 
 /// The place of a name in a list of names.
 fn place_in(names: &[Text], name: &str) -> Option<usize>

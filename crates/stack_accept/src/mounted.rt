@@ -15,11 +15,11 @@ use crate::mount::{
     parents_of, plan, via,
 };
 use crate::rule::{Unfit, check};
-use seen_values::Text;
 use stack_text::{MAX_LINES, StackLine, StackText};
 use std::alloc::{AllocError, Global};
 use std::marker::Model;
 use tower_core::Tree;
+use value_types::Text;
 
 /// A mounted stack. It does not change.
 #[derive(Drop)]

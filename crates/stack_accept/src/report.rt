@@ -7,9 +7,9 @@ ghost use Rattle.stack_accept.specs.Check.{kind_word, machine_name, node_head, n
 
 use crate::entries::{Kind, NodeEntry};
 use crate::mounted::Mounted;
-use seen_values::Text;
 use std::alloc::AllocError;
 use text_words::{put, put_number, put_spaced_number, put_word};
+use value_types::Text;
 
 impl Kind {
     /// The kind's printed word.

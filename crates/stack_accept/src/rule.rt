@@ -16,6 +16,7 @@ use crate::{MAX_DEPTH, MAX_DISKS, MAX_FILES, MAX_FRAMES, MAX_LAYERS};
 use hist_plain::MAX_PAGES;
 use stack_text::{LayerKind, MAX_LINES, StackLine, UpperKind};
 use std::alloc::AllocError;
+use thiserror::Error;
 
 /// A rule of the stack. Each is asked of every line with the lines before it; some are asked of
 /// the end of the text too. All are this project's own.
@@ -44,9 +45,10 @@ pub enum Rule {
 }
 
 /// Why a stack cannot be mounted.
-#[derive(Clone, Copy, Debug, PartialEq, Eq)]
+#[derive(Clone, Copy, Debug, PartialEq, Eq, Error)]
 pub enum Unfit {
     /// The first line that breaks a rule, and the lowest rule that it breaks.
+    #[error("line {line} breaks rule {rule}")]
     Unfit {
         /// The rule's number, from 1 to 10.
         rule: u8,
@@ -54,6 +56,7 @@ pub enum Unfit {
         line: u32,
     },
     /// Memory ran out.
+    #[error("memory")]
     Memory,
 }
 

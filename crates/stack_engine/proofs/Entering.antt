@@ -132,7 +132,7 @@ notes_noted before after log caller disk count call fault rise = λ d.
     (subst (λ (cs : List ℕ). Rises (opened_in before.disks d) (faults_in after.disks d) cs) (sym (noted_counts d log (record { caller = caller; disk = disk; count = count })))
     (notes_one (disk == d) (opened_in before.disks d) (faults_in before.disks d) (faults_in after.disks d) count (counts_of d log) (rise d) (once_faults before after d call)
     (λ e. elim (eqb_tells disk d) [
-      | inl is ↦ subst (λ (x : ℕ). (faults_in before.disks x < count) × (count ≤ faults_in after.disks x)) is.1 (fault.above, fault.within)
+      | inl is ↦ subst (λ (x : ℕ). (faults_in before.disks x < count) × (count ≤ faults_in after.disks x)) is.1 (fault.above, omega (arith, fault.exact))
       | inr d' ↦ absurd (let both : true ≡ false = sym e ∙ d'.0 in cc)
     ])))
 

@@ -14,9 +14,9 @@ use crate::engine::Engine;
 use crate::refusal::StepErr;
 use hist_plain::{Answer, Event, MAX_EVENTS, Op};
 use page_ground::Ground;
-use seen_values::Bytes;
 use std::alloc::{AllocError, Global};
 use tower_log::Entry;
+use value_types::Bytes;
 
 /// Who makes an access, and where: a caller's event of this number, at a node, of a life.
 #[derive(Clone, Copy, Debug)]
@@ -25,7 +25,7 @@ pub(crate) struct Place {
     pub(crate) caller: u32,
     /// The number of the event among the caller's.
     pub(crate) number: u32,
-    /// The node.
+    /// The node, by its number in the tree.
     pub(crate) node: u32,
     /// The life that the caller knows of the node.
     pub(crate) life: u32,

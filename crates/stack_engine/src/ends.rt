@@ -16,10 +16,10 @@ use crate::refusal::StepErr;
 use hist_plain::{Answer, Event};
 use page_exchange::Tables;
 use page_ground::Ground;
-use seen_values::Bytes;
 use std::alloc::AllocError;
 use tower_log::Entry;
 use tower_plan::{Next, next_drain};
+use value_types::Bytes;
 
 /// Which way the channels of a layer and of all layers above it end.
 #[derive(Clone, Copy, Debug, PartialEq, Eq)]

@@ -18,10 +18,10 @@ use coherency_layer::{Asked, Called};
 use hist_plain::Event;
 use page_exchange::{GroundErr, Tables};
 use page_ground::{Ground, StoreFault, is_zero_page};
-use seen_values::Bytes;
 use std::alloc::{AllocError, Global};
 use tower_core::Right;
 use tower_log::{Entry, Note, Trail};
+use value_types::Bytes;
 
 /// The event that a question is, once it is answered.
 fn event_asked(what: Asked, node: u32, page: u32) -> Event

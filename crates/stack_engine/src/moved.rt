@@ -12,7 +12,7 @@ pub enum Moved {
     },
     /// It is not allowed yet, and another event was entered for it. Fewer are left.
     Stepped {
-        /// The event.
+        /// The event that was done.
         event: Event,
     },
     /// It is not allowed yet, and another caller is before this one. Nothing was entered.

@@ -23,7 +23,7 @@ use tower_plan::{Next, next_for, next_sync};
 /// An access that is not allowed yet: its page, and the message that comes next for it.
 #[derive(Debug, Drop)]
 pub(crate) struct Missed {
-    /// The page.
+    /// The page, counted from 0.
     pub(crate) page: u32,
     /// The message.
     pub(crate) event: Event,

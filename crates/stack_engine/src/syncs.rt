@@ -20,8 +20,8 @@ use crate::messages::noted;
 use crate::refusal::StepErr;
 use hist_plain::{Answer, Event, Keep, Op};
 use page_ground::Ground;
-use seen_values::Bytes;
 use tower_log::Entry;
+use value_types::Bytes;
 
 impl<G: Ground> Engine<G> {
     /// Makes the ground keep its pages, and enters that a caller's sync is done, from a place on, of which every page is

@@ -11,12 +11,12 @@ use std::alloc::AllocError;
 pub enum TurnOf {
     /// Of a page, by its number.
     Page {
-        /// The page.
+        /// The page, counted from 0.
         page: u32,
     },
     /// Of a leaf, by its number.
     Leaf {
-        /// The leaf.
+        /// The leaf, by its number in the tree.
         leaf: u32,
     },
     /// Of the whole file.

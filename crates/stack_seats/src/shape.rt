@@ -6,9 +6,9 @@ ghost use Rattle.stack_accept.specs.Check.{machine_name};
 ghost use Rattle.stack_seats.specs.Seats.{AreNames, AreOnMachines, is_manager, node_name, view_name, seat_of, seats_of, file_of, shape_of};
 
 use script_gen::{Shape, ShapeFile, ShapeSeat};
-use seen_values::{Items, Text};
 use stack_accept::{FileEntry, Kind, Mounted, NodeEntry};
 use std::alloc::{AllocError, Global};
+use value_types::{Items, Text};
 
 /// The name of the machine of a number; a number without a machine has the empty name.
 fn machine_name(machines: &[Text], machine: u32) -> &str

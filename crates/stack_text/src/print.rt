@@ -8,9 +8,9 @@ ghost use Rattle.stack_text.specs.declared.stack.StackLine.TheVariants.{Layer};
 
 use crate::stack::{LayerKind, StackLine, StackText, UpperKind};
 use itoa::Buffer;
-use seen_values::Bytes;
 use std::alloc::{AllocError, Global};
 use text_words::put_line;
+use value_types::Bytes;
 
 /// Appends the line of a layer. Where memory runs out, a part of it may stand at the buffer's end.
 fn put_layer<'a>(

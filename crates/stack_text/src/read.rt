@@ -9,9 +9,9 @@ ghost use Rattle.stack_text.specs.declared.stack.StackText.{StackText};
 
 use crate::stack::{LayerKind, MAX_LINES, StackLine, StackText, UpperKind};
 use crate::why::{Refused, StackWhy};
-use seen_values::{Items, Text};
 use std::alloc::Global;
 use text_words::{Line, is_name, number, split_line, text_of_name, words_of};
+use value_types::{Items, Text};
 
 #[tactic(auto, unfolding(crate::specs::Reading::name_at))]
 fn name_of(alloc: Global, word: &[u8]) -> Result<Text, StackWhy>

@@ -1,6 +1,6 @@
 //! A stack text as values.
 
-use seen_values::{Items, Text};
+use value_types::{Items, Text};
 
 /// The most lines that a stack text has.
 pub const MAX_LINES: usize = 128;
@@ -23,14 +23,14 @@ pub enum StackLine {
     },
     /// A file.
     File {
-        /// Its name.
+        /// The name that stands in the stack text.
         name: Text,
         /// How many pages it has.
         pages: u32,
     },
     /// A layer.
     Layer {
-        /// Its name.
+        /// The name that stands in the stack text.
         name: Text,
         /// The machine that it is at.
         machine: Text,
@@ -53,7 +53,7 @@ pub enum LayerKind {
     },
     /// An upper layer, which stands on one layer.
     Upper {
-        /// What it is.
+        /// Which kind of layer it is.
         kind: UpperKind,
         /// What it stands on.
         below: Text,

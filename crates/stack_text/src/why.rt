@@ -5,28 +5,38 @@ ghost use Rattle.stack_text.specs.Why.{word_of, why_of};
 
 use std::alloc::{AllocError, AllocFailed};
 use text_words::LineWhy;
+use thiserror::Error;
 
 /// Why a line cannot stand in a stack text. The reasons are tested in this order, and the first
 /// counts.
-#[derive(Clone, Copy, Debug, PartialEq, Eq)]
+#[derive(Clone, Copy, Debug, PartialEq, Eq, Error)]
 pub enum StackWhy {
     /// A byte is not one of space to `~`.
+    #[error("byte")]
     Byte,
     /// The line is empty, has a space at an end, or two spaces together.
+    #[error("space")]
     Space,
     /// The last line has no line feed.
+    #[error("end")]
     End,
     /// There are `MAX_LINES` lines before, which is 128.
+    #[error("long")]
     Long,
     /// The first word names no kind of line.
+    #[error("verb")]
     Verb,
     /// The number of words is wrong.
+    #[error("words")]
     Words,
     /// A word in a name's place is no name.
+    #[error("name")]
     Name,
     /// A word in a number's place is no number.
+    #[error("number")]
     Number,
     /// Memory ran out.
+    #[error("memory")]
     Memory,
 }
 
@@ -83,7 +93,8 @@ impl From<LineWhy> for StackWhy {
 }
 
 /// A text that is no stack text: its first bad line, and why it is bad.
-#[derive(Clone, Copy, Debug, PartialEq, Eq)]
+#[derive(Clone, Copy, Debug, PartialEq, Eq, Error)]
+#[error("line {line}: {why}")]
 pub struct Refused {
     /// The line's number, from 1; 0 if memory ran out.
     pub line: u32,

@@ -14,8 +14,8 @@ use crate::values::{Fields, Object};
 use crate::why::ObjectErr;
 use domain_doors::Domain;
 use marshal_buf::Reader;
-use seen_values::Text;
 use std::alloc::{AllocError, Global};
+use value_types::Text;
 
 /// Receives an object of the form, whose identifier comes next, as every subcontract of that form does: its door comes
 /// into the domain. It fails if the bytes are no object of the form, or if memory runs out, and then leaves the domain

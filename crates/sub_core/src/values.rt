@@ -1,8 +1,8 @@
 //! An object, what its bytes say, and where a call on it goes.
 
 use marshal_buf::Door;
-use seen_values::Text;
 use std::marker::Model;
+use value_types::Text;
 
 /// An object that a domain holds, as its subcontract sees it.
 #[derive(Debug, Drop)]

@@ -5,6 +5,7 @@ ghost use Rattle.std.specs.List.{AllByRecursion, flat_map, list_all};
 ghost use Rattle.text_words.specs.Lines.{row_of, rows_of, is_line_byte, has_bytes, words_in, words_at, AreWords, words_row, ReadsWords, row_bytes, text_of};
 
 use std::alloc::{AllocError, Global};
+use thiserror::Error;
 
 /// A line of a text: its bytes without the line feed, and whether it ends with one. Only the last
 /// line of a text can be without.
@@ -17,15 +18,19 @@ pub struct Line<'a> {
 }
 
 /// Why a line is no list of words; of several reasons the first counts.
-#[derive(Clone, Copy, Debug, PartialEq, Eq)]
+#[derive(Clone, Copy, Debug, PartialEq, Eq, Error)]
 pub enum LineWhy {
     /// A byte is not one of space to `~`.
+    #[error("byte")]
     Byte,
     /// The line is empty, has a space at an end, or two spaces together.
+    #[error("space")]
     Space,
     /// The line has no line feed.
+    #[error("end")]
     End,
     /// Memory ran out.
+    #[error("memory")]
     Memory,
 }
 

@@ -9,8 +9,8 @@ ghost use Rattle.text_words.specs.Lines.{line_of, spaced};
 ghost use Rattle.text_words.specs.Words.{path_word};
 
 use itoa::Buffer;
-use seen_values::{Path, Text};
 use std::alloc::{AllocError, Global};
+use value_types::{Path, Text};
 
 /// Appends some bytes, all or none of them.
 pub fn put(out: &mut Vec<u8>, bytes: &[u8]) -> Result<(), AllocError>

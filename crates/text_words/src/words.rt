@@ -6,8 +6,8 @@ ghost use Rattle.hex.specs.Hex.{encode_lower};
 ghost use Rattle.text_words.specs.Words.{IsHexBytes, IsPath, path_word, is_letter, is_name_char, is_name, IsName, is_lower_hex, hex_of, is_path, is_path_word, path_of};
 
 use hex::FromHexError;
-use seen_values::{Bytes, Path, Text};
 use std::alloc::{AllocError, Global};
+use value_types::{Bytes, Path, Text};
 
 /// Whether a byte is one of `a` to `z`.
 fn is_letter(c: u8) -> bool

@@ -9,6 +9,11 @@ counts_of disk [] = []
 counts_of disk (Entered entry ∷ log) = counts_of disk log
 counts_of disk (Noted note ∷ log) = if note.disk == disk then note.count ∷ counts_of disk log else counts_of disk log
 
+-- the last of these counts, or the first number if there are none
+abbrev pub last_count : ℕ → List ℕ → ℕ
+last_count first [] = first
+last_count first (count ∷ counts) = last_count count counts
+
 -- counts that rise, the first above one number and the last up to another
 abbrev pub Rises : ℕ → ℕ → List ℕ → Type 0
 Rises before now [] = before ≤ now

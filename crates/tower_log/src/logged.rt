@@ -1,7 +1,7 @@
 //! What a log has.
 
 use hist_plain::{Answer, Event};
-use seen_values::Bytes;
+use value_types::Bytes;
 
 /// The note of a call that a store's failure ended.
 #[derive(Clone, Copy, Debug, PartialEq, Eq)]
@@ -17,7 +17,7 @@ pub struct Note {
 /// An event of a file's trail, with what it was answered.
 #[derive(Debug, Drop)]
 pub struct Entry {
-    /// The event.
+    /// The event that was done.
     pub event: Event,
     /// What it was answered; a page message has no answer.
     pub answer: Option<Answer>,

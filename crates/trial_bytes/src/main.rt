@@ -7,6 +7,7 @@ mod frames;
 mod images;
 mod interfaces;
 mod laws;
+mod links;
 mod packets;
 mod scripts;
 mod seeds;
@@ -18,6 +19,7 @@ mod values;
 use crate::frames::FrameLaw;
 use crate::images::ImageLaw;
 use crate::interfaces::IdlLaw;
+use crate::links::{ReplyLaw, RequestLaw};
 use crate::packets::PacketLaw;
 use crate::scripts::ScriptLaw;
 use crate::seeds::{hex_lines, try_seed};
@@ -74,7 +76,7 @@ impl ByteTrial {
         }
     }
 
-    /// `frame DRAWS`, `packet DRAWS`, `image DRAWS PAGES` or `value DRAWS TYPE`: the seed is what the body says in hexadecimal.
+    /// `frame DRAWS`, `packet DRAWS`, `request DRAWS`, `reply DRAWS`, `image DRAWS PAGES` or `value DRAWS TYPE`: the seed is what the body says in hexadecimal.
     fn bytes(
         &self,
         words: &[&str],
@@ -87,6 +89,8 @@ impl ByteTrial {
         match words {
             ["frame", _] => try_seed(alloc, &FrameLaw, &seed, draws, answer),
             ["packet", _] => try_seed(alloc, &PacketLaw, &seed, draws, answer),
+            ["request", _] => try_seed(alloc, &RequestLaw, &seed, draws, answer),
+            ["reply", _] => try_seed(alloc, &ReplyLaw, &seed, draws, answer),
             ["image", _, pages] => {
                 let law = ImageLaw {
                     pages: number(pages)?,

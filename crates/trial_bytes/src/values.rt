@@ -8,9 +8,9 @@ use idl_reader::{IdlType, Word};
 use idl_tables::{TableSet, tables};
 use marshal_buf::Buf;
 use marshal_value::{Value, ValueWhy, declares, fits, get_value, is_value_of, put_value};
-use seen_values::Text;
 use std::alloc::{AllocError, Global};
 use trial_words::Halt;
+use value_types::Text;
 
 /// A value that is read is of its type, and is put as the bytes that were read; what is refused is refused at a byte or at the end,
 /// and the reader stands where it stood.

@@ -3,7 +3,7 @@
 ghost use Rattle.std.specs.Prelude.{◌≡◌, IfOk};
 ghost use Rattle.file_stores.specs.Under.{seen_under};
 ghost use Rattle.file_stores.specs.Files.{IsFile};
-ghost use Rattle.run_defs.specs.Stack.{pages_of};
+ghost use Rattle.script_meaning.specs.Stack.{pages_of};
 
 use crate::say::{say_bytes, say_called, say_notices};
 use crate::stop::say_stop;
@@ -12,7 +12,7 @@ use file_stores::{
 };
 use mirror_layer::Notice;
 use page_ground::Ground;
-use run_defs::{disk_name, file_name, pages_of};
+use script_meaning::{disk_name, file_name, pages_of};
 use spr_io::{Bay, MemBay, MemStore};
 use stack_accept::Mounted;
 use std::alloc::Global;

@@ -1,6 +1,6 @@
 //! The stack of a case.
 
-use run_defs::StoreKey;
+use script_meaning::StoreKey;
 use stack_accept::{Mounted, accept};
 use stack_text::parse_stack;
 use std::alloc::{AllocError, Global};

@@ -5,7 +5,7 @@ use disk_format::{BadImage, ImageWhy};
 use disk_layer::OpenWhy;
 use file_stores::{Stop, stopped};
 use page_ground::StoreFault;
-use run_defs::StoreKey;
+use script_meaning::StoreKey;
 use spr_io::MemSink;
 use spr_report::Status;
 use stack_accept::Mounted;

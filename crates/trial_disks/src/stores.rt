@@ -6,7 +6,7 @@ use crate::stop::say_stop;
 use file_stores::{
     FileStores, Held, by_file, give_back, put_files, rooms_of, shape_of, stores_of, take_stores,
 };
-use run_defs::StoreKey;
+use script_meaning::StoreKey;
 use spr_io::{MemBay, MemStore, Store};
 use stack_accept::Mounted;
 use std::alloc::Global;

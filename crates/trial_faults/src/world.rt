@@ -5,12 +5,12 @@ use crate::outcome::{Outcome, Told};
 use crate::setting::{FileShape, Setting};
 use crate::wrong::Wrong;
 use hist_plain::OpenGate;
-use seen_values::Text;
 use spr_io::{MemBay, MemShelf, MemSink, MemStore};
 use spr_run::spring;
 use std::alloc::{AllocError, Global};
 use std::sync::Wait;
 use std::thread::Threads;
+use value_types::Text;
 
 /// The most bytes that a sink takes at once.
 const WIDTH: u32 = 64;

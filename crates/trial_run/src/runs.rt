@@ -6,7 +6,6 @@ use crate::stores::{count_faults, look, put_store};
 use crate::texts::Texts;
 use crate::written::Written;
 use hist_plain::OpenGate;
-use seen_values::Text;
 use spr_client::LineGate;
 use spr_io::MemBay;
 use spr_report::{Status, finish};
@@ -15,6 +14,7 @@ use std::alloc::{AllocError, Global};
 use std::sync::Wait;
 use std::thread::Threads;
 use trial_words::{Failing, Halt, end_step, number, say_text, say_whether};
+use value_types::Text;
 
 /// What the steps of a case have made so far.
 #[derive(Drop)]

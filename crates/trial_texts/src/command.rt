@@ -1,10 +1,10 @@
 //! What the words of the command line ask for.
 
 use crate::say::plain;
-use seen_values::Text;
 use spr_run::{Asked, WordsErr, read_words};
 use std::alloc::{AllocError, Global};
 use trial_words::say;
+use value_types::Text;
 
 /// `command WORD ..`: the command that the words ask for.
 pub fn step(alloc: Global, words: &[&str], answer: &mut String) -> Result<(), AllocError> {

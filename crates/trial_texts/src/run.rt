@@ -11,11 +11,11 @@ use run_texts::{
     unknown_line,
 };
 use script_text::{Script, parse_script, print_script};
-use seen_values::Text;
 use spr_io::{MemShelf, MemSink};
 use stack_accept::Mounted;
 use std::alloc::{AllocError, Global};
 use trial_words::{say, say_text};
+use value_types::Text;
 
 /// The shelf of a command, and the writes of its sink that are to fail.
 #[derive(Drop)]

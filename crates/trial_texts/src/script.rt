@@ -2,9 +2,9 @@
 
 use crate::say::{count_of, say_again};
 use script_text::{Call, CallLine, Reply, Script, parse_script, print_script, put_reply};
-use seen_values::{Bytes, Items, Text};
 use std::alloc::{AllocError, Global};
 use trial_words::{say, say_text};
+use value_types::{Bytes, Items, Text};
 
 /// `script CALL ..` over the text of a script.
 pub fn step(

@@ -1,11 +1,11 @@
 //! Stacks: their texts, and what is mounted of them.
 
 use crate::say::say_again;
-use seen_values::Text;
 use stack_accept::{FileEntry, GroundPlan, Mounted, NodeEntry, Unfit, accept, put_check};
 use stack_text::{parse_stack, print_stack};
 use std::alloc::{AllocError, Global};
 use trial_words::{say, say_text};
+use value_types::Text;
 
 /// `stack CALL ..` over the text of a stack.
 pub fn step(

@@ -1,9 +1,9 @@
 //! Texts, bytes, paths and lists, made and lent again.
 
 use crate::say::count_of;
-use seen_values::{Bytes, Items, Path, Text};
 use std::alloc::{AllocError, Global};
 use trial_words::{say, say_text};
+use value_types::{Bytes, Items, Path, Text};
 
 /// `value KIND ..`: makes a value of a kind, and tells what it lends.
 pub fn step(alloc: Global, words: &[&str], answer: &mut String) -> Result<(), AllocError> {

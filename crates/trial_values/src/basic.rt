@@ -9,12 +9,12 @@ use crate::say::{bytes_of, count_of, door_of, say_hex, small_of};
 use crate::stack::{leads_to_view, mounted};
 use domain_doors::{Domain, NoDoor};
 use marshal_buf::{Buf, Door, Reader};
-use seen_values::Text;
 use stack_accept::Mounted;
 use std::alloc::{AllocError, Global};
 use sub_basic::{CLUSTER, Cluster, SINGLETON, Singleton};
 use sub_core::{Object, ObjectErr, Registry, Route, Subcontract, unmarshal_any};
 use trial_words::say;
+use value_types::Text;
 
 /// Both kinds.
 struct Both;

@@ -3,9 +3,9 @@
 use crate::say::{bytes_of, count_of, door_of, small_of};
 use idl_reader::{IdlType, Word};
 use marshal_value::Value;
-use seen_values::{Bytes, Text};
 use std::alloc::{AllocError, Global};
 use std::boxed::Box;
+use value_types::{Bytes, Text};
 
 /// The type of a name.
 fn named(alloc: Global, name: &str) -> Result<IdlType, AllocError> {

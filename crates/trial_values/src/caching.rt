@@ -9,12 +9,12 @@ use crate::say::{count_of, door_of, say_hex, small_of};
 use crate::stack::{leads_to_view, mounted};
 use domain_doors::Domain;
 use marshal_buf::{Buf, Door, Reader};
-use seen_values::Text;
 use stack_accept::Mounted;
 use std::alloc::{AllocError, Global};
 use sub_caching::{CACHING, Caching};
 use sub_core::{MANAGER, Object, ObjectErr, Route, Subcontract};
 use trial_words::say;
+use value_types::Text;
 
 /// An object with a door of a domain.
 fn object(alloc: Global, door: usize) -> Result<Object, AllocError>

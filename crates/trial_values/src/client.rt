@@ -9,10 +9,10 @@ use crate::say::{say_hex, short_of, small_of};
 use crate::stack::mounted;
 use client_objects::{Found, NotReceived, ObjectKind, Objects, bound_object};
 use marshal_buf::Buf;
-use seen_values::Text;
 use stack_accept::Mounted;
 use std::alloc::{AllocError, Global};
 use trial_words::say;
+use value_types::Text;
 
 /// `client CALL ..` over the stack of the case.
 pub fn step(

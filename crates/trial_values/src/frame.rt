@@ -227,7 +227,8 @@ fn call_frame(alloc: Global, call: FileCall, answer: &mut String) -> Result<(), 
         Ok(received) => {
             let (subcontract, tag) = (received.subcontract(), received.tag());
             writeln!(answer, "subcontract {subcontract} tag {tag}")?;
-            let read = through_frame(alloc, &ops, page_size, 1, 0, received.into_call())?;
+            let (call, mut frame) = (received.into_call(), Buf::new(alloc));
+            let read = through_frame(alloc, &ops, page_size, 1, 0, &call, &mut frame)?;
             let (subcontract, tag) = (read.subcontract(), read.tag());
             writeln!(
                 answer,

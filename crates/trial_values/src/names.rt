@@ -11,10 +11,10 @@ use client_objects::start_names;
 use hist_lock::Storied;
 use marshal_buf::Door;
 use name_context::{MAX_PARTS, NameCall, NameErr, Names, Stored};
-use seen_values::{Path, Text};
 use spr_report::put_names;
 use std::alloc::{AllocError, Global};
 use trial_words::say;
+use value_types::{Path, Text};
 
 /// The names of a case.
 #[derive(Drop)]

@@ -7,13 +7,13 @@ ghost use Rattle.sub_core.specs.Forms.{IsNameOf};
 use crate::say::{bytes_of, door_of, say_door, say_hex, short_of, small_of};
 use domain_doors::{Domain, NoDoor};
 use marshal_buf::{Buf, Reader};
-use seen_values::Text;
 use std::alloc::{AllocError, Global};
 use sub_core::{
     Form, MANAGER, Object, ObjectErr, Registry, consume_held, copy_held, marshal_as, read_fields,
     unmarshal_any, unmarshal_as,
 };
 use trial_words::say;
+use value_types::Text;
 
 /// A registry of two subcontracts: 7, whose objects are tagged, and 8, whose objects name a manager.
 struct Both;

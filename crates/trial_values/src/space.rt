@@ -5,12 +5,12 @@ ghost use Rattle.std.specs.Prelude.{◌≡◌, ◌<◌, ◌≤◌, length};
 use crate::say::{count_of, small_of};
 use crate::stack::{is_view, mounted};
 use memory_object::{CacheRights, MemoryObject};
-use run_defs::{disk_name, file_name, file_named, pages_of, view_of};
-use seen_values::Text;
+use script_meaning::{disk_name, file_name, file_named, pages_of, view_of};
 use stack_accept::Mounted;
 use std::alloc::{AllocError, Global};
 use tower_core::Right;
 use trial_words::say;
+use value_types::Text;
 use vmm_space::{MAX_ADDRESS, Place, Space, SpaceErr};
 
 /// A space over one file or more.

@@ -14,7 +14,7 @@ pub enum Act {
     Access {
         /// The access.
         op: Op,
-        /// The life.
+        /// The life of the node now.
         life: u32,
     },
     /// A sync.

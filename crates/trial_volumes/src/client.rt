@@ -11,7 +11,6 @@ use crate::stack::{lines_of, stack_of, volume};
 use hist_plain::{Event, Op, OpenGate};
 use marshal_buf::Buf;
 use script_text::{CallLine, Said, put_reply};
-use seen_values::Path;
 use spr_client::{Client, run_phase};
 use spr_volume::{Pass, Volume};
 use stack_accept::Mounted;
@@ -20,6 +19,7 @@ use std::alloc::{AllocError, Global};
 use std::sync::Wait;
 use trial_parts::{Ram, name_of, operations, page_shown, refused_write};
 use trial_words::{Halt, number};
+use value_types::Path;
 
 /// Binds an object of a subcontract, with no more than its number, under a name.
 fn bind_stranger<R: Wait>(

@@ -12,12 +12,12 @@ ghost use Rattle.trial_volumes.specs.Alike.{IsFor};
 use hist_lock::Storied;
 use marshal_buf::Buf;
 use name_context::{MAX_PARTS, NameErr, Names};
-use seen_values::{Path, Text};
 use spr_volume::{Pass, Volume};
 use std::alloc::{AllocError, Global};
 use std::sync::Wait;
 use trial_parts::Ram;
 use trial_words::Halt;
+use value_types::{Path, Text};
 
 /// The path of a word; `/` is the root.
 fn path_of(alloc: Global, word: &str) -> Result<Option<Path>, Halt>

@@ -9,9 +9,8 @@ ghost use Rattle.spr_client.specs.Lines.{AreCalls, IsCallOf};
 ghost use Rattle.trial_volumes.specs.Alike.{IsFor};
 
 use client_objects::start_names;
-use run_defs::{file_named, layer_of, view_of};
+use script_meaning::{file_named, layer_of, view_of};
 use script_text::{Call, CallLine, parse_script};
-use seen_values::{Items, Path, Text};
 use spr_volume::{Pass, Volume};
 use stack_accept::{Mounted, accept};
 use stack_engine::Tower;
@@ -20,6 +19,7 @@ use std::alloc::Global;
 use text_words::is_name;
 use trial_parts::{Ram, SIZE, copy_tree, tower_over};
 use trial_words::Halt;
+use value_types::{Items, Path, Text};
 use vmm_space::MAX_ADDRESS;
 
 /// The mounted stack of a text.

@@ -1,13 +1,13 @@
 //! A region of a space, and what an address in it leads to.
 
 use crate::why::TranslateErr;
-use seen_values::Text;
 use tower_core::Right;
+use value_types::Text;
 
 /// A region: a file's first pages, at addresses that follow one another.
 #[derive(Debug, Drop)]
 pub struct Region {
-    /// Its name.
+    /// The client's own name for the region.
     pub name: Text,
     /// The number of the file.
     pub file: u32,

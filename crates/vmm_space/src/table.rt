@@ -11,10 +11,10 @@ use crate::MAX_ADDRESS;
 use crate::regions::{Place, Region};
 use crate::why::{NoRegion, SpaceErr, TranslateErr};
 use memory_object::CacheRights;
-use seen_values::Text;
 use stack_accept::{FileEntry, Mounted};
 use std::alloc::{AllocError, Global};
 use std::marker::Model;
+use value_types::Text;
 
 /// The regions of a client's address space. Contracts see the page size, each file's number of pages, and the regions in
 /// the order in which they were mapped.

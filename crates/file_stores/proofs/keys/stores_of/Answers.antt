@@ -1,6 +1,6 @@
 use Rattle.std.proofs.Common.{◌≡◌, ◌++◌, List, length, ap, sym, subst, ◌∙◌, arith}
 use Rattle.std.specs.List.{flat_map, range_with_len}
-use Rattle.run_defs.specs.declared.store.StoreKey.{StoreKey}
+use Rattle.script_meaning.specs.declared.store.StoreKey.{StoreKey}
 use Rattle.file_stores.specs.Keys.{stores_of_file, stores_of, AreStores}
 use Rattle.file_stores.proofs.StackLaws.{stores-are, rows-more}
 use Rattle.file_stores.proofs.keys.stores_of.Goals as goal

@@ -1,5 +1,5 @@
 use Rattle.std.proofs.Common.{◌≡◌, ◌++◌, List, length, ap, sym, subst, ◌∙◌}
-use Rattle.run_defs.specs.declared.store.StoreKey.{StoreKey}
+use Rattle.script_meaning.specs.declared.store.StoreKey.{StoreKey}
 use Rattle.file_stores.specs.Keys.{stores_of_file, AreStores}
 use Rattle.file_stores.proofs.FileLaws.{file-stores}
 use Rattle.file_stores.proofs.keys.stores_of_one.Goals as goal

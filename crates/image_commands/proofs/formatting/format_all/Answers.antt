@@ -1,5 +1,5 @@
 use Rattle.std.proofs.Common.{List, length, take, subst, ap, ◌∙◌, arith}
-use Rattle.run_defs.specs.declared.store.StoreKey.{StoreKey}
+use Rattle.script_meaning.specs.declared.store.StoreKey.{StoreKey}
 use Rattle.file_stores.specs.declared.stop.Stop.{Stop}
 use Rattle.file_stores.specs.Held.{StoreSeen, IsUntaken}
 use Rattle.file_stores.specs.Stop.{stop_text, stop_status}

@@ -1,6 +1,6 @@
 use Rattle.std.proofs.Common.{◌≡◌, ℕ, List, length, get_or, Option, None, sym, ap, subst, ◌∙◌}
 use Rattle.std.proofs.lemmas.List.{with_items_is}
-use Rattle.run_defs.specs.Stack.{pages_of}
+use Rattle.script_meaning.specs.Stack.{pages_of}
 use Rattle.page_ground.specs.Pages.{cut}
 use Rattle.mirror_layer.specs.declared.came.Notice.{Notice}
 use Rattle.file_stores.specs.declared.stop.Stop.TheVariants as stops

@@ -1,5 +1,5 @@
 use Rattle.std.proofs.Common.{List, subst, ◌∙◌}
-use Rattle.run_defs.specs.declared.store.StoreKey.{StoreKey}
+use Rattle.script_meaning.specs.declared.store.StoreKey.{StoreKey}
 use Rattle.spr_report.specs.declared.status.Status.TheVariants.{Memory}
 use Rattle.spr_report.specs.Writing.{Finishes}
 use Rattle.file_stores.specs.Stop.{lost_text}

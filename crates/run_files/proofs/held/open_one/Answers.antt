@@ -3,7 +3,7 @@ use Rattle.stack_engine.specs.Start as engines
 use Rattle.file_stores.specs.Under.{seen_under}
 use Rattle.run_files.specs.Held.{BeganOn, paged}
 use Rattle.run_files.proofs.HeldLaws.{opens-of}
-use Rattle.run_defs.specs.Stack.{pages_of}
+use Rattle.script_meaning.specs.Stack.{pages_of}
 use Rattle.file_stores.specs.Files.{FileSeen}
 use Rattle.file_stores.proofs.OpenLaws.{opened-number}
 use Rattle.file_stores.proofs.StoreLaws.{unopened-lasts}

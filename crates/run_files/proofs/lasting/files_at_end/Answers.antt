@@ -10,8 +10,8 @@ use Rattle.tower_log.specs.Log.{trail_of}
 use Rattle.tower_log.specs.Trail.{TrailSeen}
 use Rattle.tower_log.specs.declared.logged.Logged.{Logged}
 use Rattle.stack_accept.specs.Mount.{Mount}
-use Rattle.run_defs.specs.Log.{log_of}
-use Rattle.run_defs.specs.Stack.{pages_of}
+use Rattle.script_meaning.specs.Log.{log_of}
+use Rattle.script_meaning.specs.Stack.{pages_of}
 use Rattle.run_files.specs.Lasting.{CanPlay}
 use Rattle.run_files.specs.Begun.{begun_as, file_then}
 use Rattle.file_stores.proofs.Lists.{there}

@@ -2,7 +2,7 @@ use Rattle.std.proofs.Common.{◌≡◌, ℕ, List, length, map, Some}
 use Rattle.std.specs.Prelude.{slice_get}
 use Rattle.hist_plain.specs.File.{Counted}
 use Rattle.tower_log.specs.Log.{trail_of}
-use Rattle.run_defs.specs.Log.{log_of}
+use Rattle.script_meaning.specs.Log.{log_of}
 use Rattle.run_files.specs.Begun.{begun_as, file_then}
 use Rattle.run_files.proofs.lasting.files_at_end.Given as goal
 

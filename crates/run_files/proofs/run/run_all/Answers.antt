@@ -1,5 +1,5 @@
 use Rattle.std.proofs.Common.{List, length, take, subst, sym, ap, ◌∙◌, arith}
-use Rattle.run_defs.specs.declared.store.StoreKey.{StoreKey}
+use Rattle.script_meaning.specs.declared.store.StoreKey.{StoreKey}
 use Rattle.spr_report.specs.Writing.{Finishes}
 use Rattle.file_stores.specs.declared.stop.Stop.{Stop}
 use Rattle.file_stores.specs.Keys.{AreStores, stores_of}

@@ -5,8 +5,8 @@ use Rattle.script_text.specs.declared.script.Reply.{Reply}
 use Rattle.script_text.specs.declared.script.Said.{Said}
 use Rattle.script_text.specs.declared.script.Script.{Script}
 use Rattle.stack_accept.specs.Mount.{Mount}
-use Rattle.run_defs.specs.declared.store.StoreKey.{StoreKey}
-use Rattle.run_defs.specs.Stack.{pages_of}
+use Rattle.script_meaning.specs.declared.store.StoreKey.{StoreKey}
+use Rattle.script_meaning.specs.Stack.{pages_of}
 use Rattle.tower_log.specs.declared.logged.Logged.{Logged}
 use Rattle.tower_log.specs.Trail.{TrailSeen}
 use Rattle.mirror_layer.specs.declared.came.Notice.{Notice}

@@ -1,7 +1,7 @@
 use Rattle.std.proofs.Common.{◌≡◌, List, Option, map, length, sym, ap, subst, ◌∙◌}
 use Rattle.script_text.specs.declared.script.Script.{Script}
 use Rattle.stack_accept.specs.Mount.{Mount}
-use Rattle.run_defs.specs.declared.store.StoreKey.{StoreKey}
+use Rattle.script_meaning.specs.declared.store.StoreKey.{StoreKey}
 use Rattle.mirror_layer.specs.declared.came.Notice.{Notice}
 use Rattle.spr_report.specs.Writing.{Finishes}
 use Rattle.stack_engine.specs.Tower.{TowerSeen}

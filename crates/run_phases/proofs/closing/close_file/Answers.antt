@@ -1,8 +1,8 @@
 use Rattle.std.proofs.Common.{[], refl, sym, ◌∙◌, arith}
 use Rattle.hist_plain.specs.declared.event.Keep.TheVariants as keeps
 use Rattle.hist_plain.specs.Plain.{Told}
-use Rattle.run_defs.specs.Plan.{Request, ends, asking, sync, plan_call, reply_of}
-use Rattle.run_defs.specs.Fits.{no_client}
+use Rattle.script_meaning.specs.Plan.{Request, ends, asking, sync, plan_call, reply_of}
+use Rattle.script_meaning.specs.Fits.{no_client}
 use Rattle.spr_client.proofs.LineLaws.{done-answered, done-refused}
 use Rattle.run_phases.proofs.ClosingLaws.{layer-above, refusal-not-done, sync-ends}
 use Rattle.run_phases.proofs.closing.close_file.Goals as goal

@@ -2,7 +2,7 @@ use Rattle.std.proofs.Common.{◌<◌, ◌≤◌, List, length, get_or, ap, subs
 use Rattle.std.specs.List.{flat_map}
 use Rattle.std.proofs.lemmas.List.{take_all}
 use Rattle.script_text.specs.declared.script.CallLine.{CallLine}
-use Rattle.run_defs.specs.Fits.{lines_of}
+use Rattle.script_meaning.specs.Fits.{lines_of}
 use Rattle.run_phases.proofs.StartLaws.{few-lines, lines-more, phase-of}
 use Rattle.run_phases.proofs.start.lines_of.Goals as goal
 

@@ -1,6 +1,6 @@
 use Rattle.std.proofs.Common.{◌≡◌, length, take}
 use Rattle.std.specs.List.{flat_map}
-use Rattle.run_defs.specs.Fits.{lines_of}
+use Rattle.script_meaning.specs.Fits.{lines_of}
 use Rattle.run_phases.proofs.start.lines_of.Given as goal
 
 -- the lines of the phases so far are counted

@@ -1,7 +1,7 @@
 use Rattle.std.proofs.Common.{◌<◌, ◌≤◌, List, length, get_or, vec_capacity, ap, subst, sym, ◌∙◌}
 use Rattle.std.specs.List.{flat_map}
 use Rattle.script_text.specs.declared.script.ClientLine.{ClientLine}
-use Rattle.run_defs.specs.Fits.{lines_of}
+use Rattle.script_meaning.specs.Fits.{lines_of}
 use Rattle.run_phases.specs.declared.worker.Worker.{Worker}
 use Rattle.run_phases.specs.Workers.{IsStarted, AreStarted, HaveRoom}
 use Rattle.run_phases.proofs.StartLaws.{started-next, room-more}

@@ -1,6 +1,6 @@
 use Rattle.std.proofs.Common.{[], refl, sym, ◌∙◌}
 use Rattle.hist_plain.specs.Plain.{Told}
-use Rattle.run_defs.specs.Plan.{Request, ends, asking, plan_call, reply_of}
+use Rattle.script_meaning.specs.Plan.{Request, ends, asking, plan_call, reply_of}
 use Rattle.spr_client.specs.Calls.{ask_of}
 use Rattle.spr_client.proofs.LineLaws.{done-answered, done-refused}
 use Rattle.spr_client.proofs.ending.end_layer.Goals as goal

@@ -2,8 +2,8 @@ use Rattle.std.proofs.Common.{◌≡◌, ◌≢◌, ℕ, true, ap, refl, sym, �
 use Rattle.hist_plain.specs.Event.{fits_page}
 use Rattle.client_objects.specs.Objects.{object_of, word_of}
 use Rattle.client_objects.specs.declared.kind.ObjectKind.TheVariants.{Reconnectable}
-use Rattle.run_defs.specs.Stack.{pages_of}
-use Rattle.run_defs.specs.Plan.{access, asking, node_at, plan_access, plan_call}
+use Rattle.script_meaning.specs.Stack.{pages_of}
+use Rattle.script_meaning.specs.Plan.{access, asking, node_at, plan_access, plan_call}
 use Rattle.spr_client.proofs.LineLaws.{access-once, access-unfit, done-as, done-none, named-none, named-some}
 use Rattle.spr_client.proofs.Targets.{found-none, found-some}
 use Rattle.spr_client.proofs.files.access_line.Goals as goal

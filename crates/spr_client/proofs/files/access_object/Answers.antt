@@ -1,6 +1,6 @@
 use Rattle.std.proofs.Common.{ℕ, sym, ap, ◌∙◌}
 use Rattle.hist_plain.specs.declared.event.Op.{Op}
-use Rattle.run_defs.specs.Plan.{asking, access, node_at, plan_call}
+use Rattle.script_meaning.specs.Plan.{asking, access, node_at, plan_call}
 use Rattle.spr_client.proofs.LineLaws.{done-as, done-lacks}
 use Rattle.spr_client.proofs.files.access_object.Goals as goal
 

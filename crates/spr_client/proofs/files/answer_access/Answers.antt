@@ -1,7 +1,7 @@
 use Rattle.std.proofs.Common.{ℕ, List, refl, sym, ◌∙◌}
 use Rattle.std.proofs.lemmas.List.{with_items_is}
 use Rattle.hist_plain.specs.Plain.{Told}
-use Rattle.run_defs.specs.Plan.{Request, ends, asking, access, plan_call, reply_of}
+use Rattle.script_meaning.specs.Plan.{Request, ends, asking, access, plan_call, reply_of}
 use Rattle.spr_client.proofs.LineLaws.{done-answered, done-refused}
 use Rattle.spr_client.proofs.files.answer_access.Goals as goal
 

@@ -1,6 +1,6 @@
 use Rattle.std.proofs.Common.{ℕ, [], refl, sym, ap, ◌∙◌}
 use Rattle.client_objects.specs.Objects.{object_of}
-use Rattle.run_defs.specs.Plan.{Request, plan_sync, plan_call, asking, sync, ends, reply_of}
+use Rattle.script_meaning.specs.Plan.{Request, plan_sync, plan_call, asking, sync, ends, reply_of}
 use Rattle.hist_plain.specs.Plain.{Told}
 use Rattle.spr_client.proofs.LineLaws.{done-none, done-as, done-answered, done-lacks, done-refused, named-none, named-some}
 use Rattle.spr_client.proofs.Targets.{found-none, found-some}

@@ -1,7 +1,7 @@
 use Rattle.std.proofs.Common.{◌≡◌, ℕ, List, ap, sym, ◌∙◌}
 use Rattle.hist_plain.specs.declared.event.Op.TheVariants as ops
 use Rattle.client_objects.specs.Objects.{object_of, word_of}
-use Rattle.run_defs.specs.Plan.{Plan, plan_access, plan_named}
+use Rattle.script_meaning.specs.Plan.{Plan, plan_access, plan_named}
 use Rattle.spr_client.proofs.LineLaws.{done-lacks, done-as, clone-is}
 use Rattle.spr_client.proofs.files.write_line.Goals as goal
 

@@ -1,8 +1,8 @@
 use Rattle.std.proofs.Common.{◌≡◌, ◌+◌, ◌++◌, [], ◌∷◌, List, length, length-append, take, sym, ap, subst, ◌∙◌, arith, append_assoc}
 use Rattle.script_text.specs.declared.script.CallLine.{CallLine}
 use Rattle.script_text.specs.declared.script.Said.{Said}
-use Rattle.run_defs.specs.Fits.{lines_of}
-use Rattle.run_defs.specs.Plan.{plan}
+use Rattle.script_meaning.specs.Fits.{lines_of}
+use Rattle.script_meaning.specs.Plan.{plan}
 use Rattle.spr_volume.specs.Passes.{Knows}
 use Rattle.spr_client.specs.declared.client.Client.{Client}
 use Rattle.spr_client.specs.Lines.{IsOnMachine, LineDone, LinesDone}

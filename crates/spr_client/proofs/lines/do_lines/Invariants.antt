@@ -1,6 +1,6 @@
 use Rattle.std.proofs.Common.{◌≡◌, ◌++◌, List, take, vec_capacity}
 use Rattle.script_text.specs.declared.script.Said.{Said}
-use Rattle.run_defs.specs.Fits.{lines_of}
+use Rattle.script_meaning.specs.Fits.{lines_of}
 use Rattle.spr_client.specs.Lines.{IsOnMachine, LinesDone}
 use Rattle.spr_client.proofs.lines.do_lines.Given as goal
 

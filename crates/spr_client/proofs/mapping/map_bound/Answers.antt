@@ -5,7 +5,7 @@ use Rattle.script_text.specs.declared.script.Reply.{Reply}
 use Rattle.script_text.specs.declared.script.Reply.TheVariants as replies
 use Rattle.vmm_space.specs.declared.regions.Region.{Region}
 use Rattle.vmm_space.specs.Spaces.{SpaceShape, with_region}
-use Rattle.run_defs.specs.Plan.{Plan, ends, asking, access, life_in, living, mapping, plan_mapped, region_of, reply_of}
+use Rattle.script_meaning.specs.Plan.{Plan, ends, asking, access, life_in, living, mapping, plan_mapped, region_of, reply_of}
 use Rattle.spr_client.specs.Lines.{IsOnMachine, PlanDone}
 use Rattle.spr_client.proofs.LineLaws.{plan-lacks}
 use Rattle.spr_client.proofs.MapLaws.{memory-alone}

@@ -1,6 +1,6 @@
 use Rattle.std.proofs.Common.{sym, ◌∙◌}
 use Rattle.client_objects.specs.Objects.{object_of}
-use Rattle.run_defs.specs.Plan.{plan_map}
+use Rattle.script_meaning.specs.Plan.{plan_map}
 use Rattle.spr_client.proofs.LineLaws.{done-none, named-none}
 use Rattle.spr_client.proofs.Targets.{found-none}
 use Rattle.spr_client.proofs.mapping.map_line.Goals as goal

@@ -3,7 +3,7 @@ use Rattle.script_text.specs.declared.script.Reply.{Reply}
 use Rattle.script_text.specs.declared.script.Reply.TheVariants as replies
 use Rattle.memory_object.specs.declared.binding.MemoryObject.{MemoryObject}
 use Rattle.vmm_space.specs.Spaces.{refusal}
-use Rattle.run_defs.specs.Plan.{Plan, ends, plan_mapped, region_of}
+use Rattle.script_meaning.specs.Plan.{Plan, ends, plan_mapped, region_of}
 use Rattle.spr_client.proofs.LineLaws.{done-as, done-lacks, done-none, line_of}
 use Rattle.spr_client.proofs.MapLaws.{map-bound, map-refused, map-unmanaged, rights-file}
 use Rattle.spr_client.proofs.Spaces.{manager_leads}

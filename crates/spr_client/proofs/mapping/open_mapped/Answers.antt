@@ -4,7 +4,7 @@ use Rattle.hist_plain.specs.Plain.{Told}
 use Rattle.script_text.specs.declared.script.Reply.{Reply}
 use Rattle.vmm_space.specs.Spaces.{SpaceShape, with_region}
 use Rattle.client_objects.specs.declared.state.ClientState.{ClientState}
-use Rattle.run_defs.specs.Plan.{Plan, Request, ends, asking, access, life_in, living, mapping, plan_mapped, reply_of}
+use Rattle.script_meaning.specs.Plan.{Plan, Request, ends, asking, access, life_in, living, mapping, plan_mapped, reply_of}
 use Rattle.spr_client.specs.Calls.{CallDone}
 use Rattle.spr_client.specs.Lines.{PlanDone}
 use Rattle.spr_client.proofs.LineLaws.{no-bytes, plan-ok, plan-refused}

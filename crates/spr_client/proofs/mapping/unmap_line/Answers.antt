@@ -1,7 +1,7 @@
 use Rattle.std.proofs.Common.{◌≡◌, ℕ, List, true, false, sym, ap, subst, ◌∙◌}
 use Rattle.script_text.specs.declared.script.Reply.TheVariants as replies
 use Rattle.vmm_space.specs.Spaces.{SpaceShape, has_region, without_region}
-use Rattle.run_defs.specs.Plan.{ends, mapping}
+use Rattle.script_meaning.specs.Plan.{ends, mapping}
 use Rattle.spr_client.specs.Lines.{IsSpaceOf}
 use Rattle.spr_client.proofs.LineLaws.{done-left, done-none}
 use Rattle.spr_client.proofs.MapLaws.{unmap-done, unmap-none}

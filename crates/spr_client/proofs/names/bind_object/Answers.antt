@@ -3,7 +3,7 @@ use Rattle.script_text.specs.declared.script.Reply.TheVariants as replies
 use Rattle.text_words.specs.Words.{path_word}
 use Rattle.name_context.specs.declared.entry.NameCall.TheVariants as names_calls
 use Rattle.client_objects.specs.Stored.{bound_object}
-use Rattle.run_defs.specs.Plan.{binding, ends, refused_as}
+use Rattle.script_meaning.specs.Plan.{binding, ends, refused_as}
 use Rattle.spr_client.specs.Names.{IsAt}
 use Rattle.client_objects.specs.Laws.{MayKeep}
 use Rattle.spr_client.proofs.BoundLaws.{has_parts, may_keep}

@@ -2,7 +2,7 @@ use Rattle.std.proofs.Common.{ℕ, List, length, None, Some, refl, sym, ap, subs
 use Rattle.script_text.specs.declared.script.Reply.TheVariants as replies
 use Rattle.name_context.specs.declared.entry.NameCall.TheVariants as names_calls
 use Rattle.name_context.specs.Listed.{listed}
-use Rattle.run_defs.specs.Plan.{asking_names, ends, refused_as}
+use Rattle.script_meaning.specs.Plan.{asking_names, ends, refused_as}
 use Rattle.spr_client.specs.Names.{IsAt}
 use Rattle.spr_client.proofs.LineLaws.{done-lacks, names-end, names-refused}
 use Rattle.spr_client.proofs.NamesLaws.{refused_at_part}

@@ -2,7 +2,7 @@ use Rattle.std.proofs.Common.{List, ℕ, None, refl, sym, ap, ◌∙◌}
 use Rattle.script_text.specs.declared.script.Reply.TheVariants as replies
 use Rattle.name_context.specs.declared.entry.NameCall.TheVariants as names_calls
 use Rattle.name_context.specs.Listed.{listed}
-use Rattle.run_defs.specs.Plan.{asking_names, ends}
+use Rattle.script_meaning.specs.Plan.{asking_names, ends}
 use Rattle.spr_client.proofs.LineLaws.{names-end, names-refused}
 use Rattle.spr_client.proofs.NamesLaws.{root_memory}
 use Rattle.spr_client.proofs.names.list_root.Goals as goal

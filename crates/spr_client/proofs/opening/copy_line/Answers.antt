@@ -2,7 +2,7 @@ use Rattle.std.proofs.Common.{◌≡◌, ℕ, List, Option, None, Some, sym, ap,
 use Rattle.script_text.specs.declared.script.Reply.TheVariants as replies
 use Rattle.client_objects.specs.declared.target.Target.{Target}
 use Rattle.client_objects.specs.Objects.{OpenObject, object_of, with_object, word_of}
-use Rattle.run_defs.specs.Plan.{ends, holding, plan_copy}
+use Rattle.script_meaning.specs.Plan.{ends, holding, plan_copy}
 use Rattle.spr_client.proofs.LineLaws.{done-left, done-none, done-lacks, named-none, named-some}
 use Rattle.spr_client.proofs.Targets.{found-none, found-some, on_machine-copy}
 use Rattle.spr_client.proofs.opening.copy_line.Goals as goal

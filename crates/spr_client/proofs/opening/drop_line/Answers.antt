@@ -3,7 +3,7 @@ use Rattle.std.specs.List.{AllByRecursion}
 use Rattle.script_text.specs.declared.script.Reply.TheVariants as replies
 use Rattle.client_objects.specs.Objects.{IsOnStack, OpenObject, object_of}
 use Rattle.client_objects.proofs.OpenLaws.{on_stack-without}
-use Rattle.run_defs.specs.Plan.{ends, holding, plan_drop}
+use Rattle.script_meaning.specs.Plan.{ends, holding, plan_drop}
 use Rattle.spr_client.proofs.LineLaws.{done-none, named-none, named-some}
 use Rattle.spr_client.proofs.Targets.{found-none, found-some}
 use Rattle.spr_client.proofs.opening.drop_line.Goals as goal

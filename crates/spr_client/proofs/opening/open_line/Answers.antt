@@ -3,7 +3,7 @@ use Rattle.name_context.specs.declared.entry.NameCall.TheVariants as names_calls
 use Rattle.name_context.specs.Names.{Kept, kept_at, kept_object}
 use Rattle.client_objects.specs.Objects.{object_of}
 use Rattle.client_objects.specs.Stored.{received, received_word}
-use Rattle.run_defs.specs.Plan.{asking_names, plan_found, refused_as}
+use Rattle.script_meaning.specs.Plan.{asking_names, plan_found, refused_as}
 use Rattle.spr_client.specs.Lines.{PlanDone}
 use Rattle.spr_client.specs.Names.{IsAt}
 use Rattle.spr_client.proofs.LineLaws.{done-none, done-lacks, names-refused, names-then, open-exists, open-new}

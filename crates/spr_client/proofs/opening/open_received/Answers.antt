@@ -6,7 +6,7 @@ use Rattle.script_text.specs.declared.script.Reply.{Reply}
 use Rattle.script_text.specs.declared.script.Reply.TheVariants as replies
 use Rattle.client_objects.specs.declared.state.ClientState.{ClientState}
 use Rattle.client_objects.specs.Objects.{OpenObject, with_object}
-use Rattle.run_defs.specs.Plan.{Plan, Request, ends, asking, access, holding, life_in, node_at, opened, plan_found, reply_of}
+use Rattle.script_meaning.specs.Plan.{Plan, Request, ends, asking, access, holding, life_in, node_at, opened, plan_found, reply_of}
 use Rattle.spr_client.specs.Calls.{CallDone}
 use Rattle.spr_client.specs.Lines.{PlanDone}
 use Rattle.spr_client.proofs.LineLaws.{no-bytes, plan-lacks, plan-ok, plan-refused}

@@ -7,7 +7,7 @@ use Rattle.client_objects.specs.Objects.{OpenObject}
 use Rattle.client_objects.specs.declared.why.NotReceived.{NotReceived}
 use Rattle.client_objects.specs.Received.{RefusesReceived}
 use Rattle.client_objects.specs.Stored.{received, received_word}
-use Rattle.run_defs.specs.Plan.{ends, holding, plan_found}
+use Rattle.script_meaning.specs.Plan.{ends, holding, plan_found}
 use Rattle.spr_client.specs.Lines.{PlanDone}
 use Rattle.spr_client.proofs.LineLaws.{found-lacks, plan-none}
 use Rattle.spr_client.proofs.Targets.{on_machine-either, received_target}

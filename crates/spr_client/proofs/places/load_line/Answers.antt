@@ -1,7 +1,7 @@
 use Rattle.std.proofs.Common.{false, sym, ap, ◌∙◌}
 use Rattle.script_text.specs.declared.script.Reply.{Reply}
 use Rattle.vmm_space.specs.Spaces.{translation}
-use Rattle.run_defs.specs.Plan.{ends, loading}
+use Rattle.script_meaning.specs.Plan.{ends, loading}
 use Rattle.spr_client.proofs.LineLaws.{done-as, done-none}
 use Rattle.spr_client.proofs.Translated.{place-err, place-ok, place-of}
 use Rattle.spr_client.proofs.places.load_line.Goals as goal

@@ -1,7 +1,7 @@
 use Rattle.std.proofs.Common.{ℕ, ◌<◌, length, true, sym, ap, subst, ◌∙◌}
 use Rattle.script_text.specs.declared.script.Reply.{Reply}
 use Rattle.vmm_space.specs.Spaces.{translation}
-use Rattle.run_defs.specs.Plan.{ends, storing}
+use Rattle.script_meaning.specs.Plan.{ends, storing}
 use Rattle.spr_client.specs.Lines.{IsPlaceOf}
 use Rattle.spr_client.proofs.LineLaws.{done-as, done-none}
 use Rattle.spr_client.proofs.Translated.{page-small, place-err, place-min, place-of, place-ok, translation-min}

@@ -2,8 +2,8 @@ use Rattle.std.proofs.Common.{◌≡◌, ◌⊎◌, ◌-◌, inl, inr, ℕ, List
 use Rattle.std.proofs.lemmas.List.{with_items_is}
 use Rattle.hist_plain.specs.Event.{fits_page}
 use Rattle.hist_plain.specs.declared.event.Op.{Op}
-use Rattle.run_defs.specs.Stack.{pages_of}
-use Rattle.run_defs.specs.Plan.{access, asking, is_revoked, node_at, plan_after, plan_try}
+use Rattle.script_meaning.specs.Stack.{pages_of}
+use Rattle.script_meaning.specs.Plan.{access, asking, is_revoked, node_at, plan_after, plan_try}
 use Rattle.spr_client.specs.declared.client.Client.{Client}
 use Rattle.spr_client.specs.Calls.{CallDone}
 use Rattle.spr_client.specs.Lines.{PlanDone}

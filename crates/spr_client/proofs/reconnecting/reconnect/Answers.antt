@@ -4,7 +4,7 @@ use Rattle.name_context.specs.declared.entry.NameCall.TheVariants as names_calls
 use Rattle.name_context.specs.Names.{Kept, kept_at}
 use Rattle.client_objects.specs.declared.target.Found.{Found}
 use Rattle.client_objects.specs.Stored.{received}
-use Rattle.run_defs.specs.Plan.{asking_names, plan_reopened, refused_as}
+use Rattle.script_meaning.specs.Plan.{asking_names, plan_reopened, refused_as}
 use Rattle.spr_client.specs.Lines.{PlanDone}
 use Rattle.spr_client.specs.Names.{IsAt}
 use Rattle.spr_client.proofs.LineLaws.{plan-names-lacks, plan-names-refused, plan-names-then}

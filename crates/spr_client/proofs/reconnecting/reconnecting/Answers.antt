@@ -1,7 +1,7 @@
 use Rattle.std.proofs.Common.{◌≡◌, Some, sym, subst, ◌∙◌}
 use Rattle.text_words.specs.Words.{path_of}
 use Rattle.client_objects.specs.Objects.{word_of}
-use Rattle.run_defs.specs.Plan.{Plan}
+use Rattle.script_meaning.specs.Plan.{Plan}
 use Rattle.spr_client.specs.Lines.{PlanDone}
 use Rattle.spr_client.proofs.BoundLaws.{read_parts}
 use Rattle.spr_client.proofs.LineLaws.{access-again, done-lacks, line_of}

@@ -6,7 +6,7 @@ use Rattle.name_context.specs.Names.{kept_object}
 use Rattle.client_objects.specs.Found.{door_to}
 use Rattle.client_objects.specs.Objects.{OpenObject, with_target}
 use Rattle.client_objects.specs.Reconnected.{reconnected}
-use Rattle.run_defs.specs.Plan.{access, asking, holding, rerouting}
+use Rattle.script_meaning.specs.Plan.{access, asking, holding, rerouting}
 use Rattle.spr_client.specs.Calls.{CallDone}
 use Rattle.spr_client.proofs.ReconnectLaws.{led-on, led-there, reopened-bad, reopened-lacks, reopened-leads, reopened-refused, reopened-route}
 use Rattle.spr_client.proofs.reconnecting.reopen.Goals as goal

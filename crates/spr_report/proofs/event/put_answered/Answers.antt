@@ -1,6 +1,6 @@
 use Rattle.std.proofs.Common.{map, ◌++◌}
 use Rattle.std.specs.Fmt.{decimal}
-use Rattle.run_defs.specs.Stack.{node_names}
+use Rattle.script_meaning.specs.Stack.{node_names}
 use Rattle.tower_log.specs.Log.{bytes_with}
 use Rattle.spr_report.specs.Report.{event_words, told_words}
 use Rattle.spr_report.proofs.Words.{line_put, spaced_twice}

@@ -1,6 +1,6 @@
 use Rattle.std.proofs.Common.{◌∷◌, [], map, codes}
 use Rattle.std.specs.Fmt.{decimal}
-use Rattle.run_defs.specs.Stack.{name_in, node_names}
+use Rattle.script_meaning.specs.Stack.{name_in, node_names}
 use Rattle.spr_report.proofs.Words.{then_word}
 use Rattle.spr_report.proofs.event.put_event.Goals as goal
 

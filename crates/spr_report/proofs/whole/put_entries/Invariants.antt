@@ -1,6 +1,6 @@
 use Rattle.std.proofs.Common.{◌≡◌, ◌++◌, IfSome, drop, map}
 use Rattle.tower_log.specs.Log.{entries_of}
-use Rattle.run_defs.specs.Stack.{node_names}
+use Rattle.script_meaning.specs.Stack.{node_names}
 use Rattle.spr_report.specs.Report.{entry_lines}
 use Rattle.spr_report.specs.Tracing.{AreNextOf}
 use Rattle.spr_report.specs.Traced.{traced_by}

@@ -1,6 +1,6 @@
 use Rattle.std.proofs.Common.{◌≡◌, ℕ, refl, sym, ap, ◌∙◌}
 use Rattle.disk_format.specs.declared.shape.ImageShape.{ImageShape}
-use Rattle.run_defs.specs.Stack.{pages_of}
+use Rattle.script_meaning.specs.Stack.{pages_of}
 use Rattle.file_stores.specs.Files.{FileSeen}
 use Rattle.file_stores.specs.Under.{Under, One, Many, seen_under}
 use Rattle.file_stores.specs.Reading.{shape_under}

@@ -9,7 +9,7 @@ use Rattle.tower_log.specs.Log.{trail_of, place_of, told_by}
 use Rattle.name_context.specs.declared.entry.NameEntry.{NameEntry}
 use Rattle.name_context.specs.Names.{Name}
 use Rattle.name_context.specs.History.{after, names_after}
-use Rattle.run_defs.specs.Log.{items_from, items, Item, NameItem, entered, noted, who, by_caller, name_items_from, names_by}
+use Rattle.script_meaning.specs.Log.{items_from, items, Item, NameItem, entered, noted, who, by_caller, name_items_from, names_by}
 
 pub trail_of-append : (xs ys : List Logged) → trail_of (xs ++ ys) ≡ trail_of xs ++ trail_of ys
 trail_of-append [] ys = refl

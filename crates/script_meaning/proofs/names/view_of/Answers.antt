@@ -3,8 +3,8 @@ use Rattle.std.specs.Prelude.{◌&&◌}
 use Rattle.std.specs.Str.{bytes_eq}
 use Rattle.stack_accept.specs.declared.entries.NodeEntry.{NodeEntry}
 use Rattle.stack_accept.specs.Mount.{is_view}
-use Rattle.run_defs.proofs.Views.{view-upper}
-use Rattle.run_defs.proofs.names.view_of.Goals as goal
+use Rattle.script_meaning.proofs.Views.{view-upper}
+use Rattle.script_meaning.proofs.names.view_of.Goals as goal
 
 -- src/names.rt:61:1
 pub returns-in-Some-clause-upper : goal.returns-in-Some-clause-upper

@@ -25,7 +25,7 @@ use Rattle.name_context.specs.declared.entry.NameErr.{NameErr}
 use Rattle.name_context.specs.declared.entry.NameErr.TheVariants as refusals
 use Rattle.name_context.specs.declared.entry.NameEntry.{NameEntry}
 use Rattle.name_context.specs.Names.{Kept, Name, kept_at, kept_object}
-use Rattle.name_context.specs.Listed.{listed}
+use Rattle.name_context.specs.Listed.{listed, parts_of}
 use Rattle.client_objects.specs.declared.state.ClientState.{ClientState}
 use Rattle.client_objects.specs.declared.target.Target.{Target}
 use Rattle.client_objects.specs.Objects.{OpenObject, object_of, with_object, with_target, without, word_of}
@@ -44,8 +44,8 @@ use Rattle.vmm_space.specs.declared.why.SpaceErr.TheVariants as spaces
 use Rattle.vmm_space.specs.declared.why.TranslateErr.{TranslateErr}
 use Rattle.vmm_space.specs.declared.why.TranslateErr.TheVariants as places
 use Rattle.vmm_space.specs.Spaces.{SpaceShape, blank_of, with_region, without_region, has_region, refusal, translation}
-use Rattle.run_defs.specs.Stack.{pages_of, view_of, layer_of, file_named}
-use Rattle.run_defs.specs.Log.{Item, NameItem, entered, noted}
+use Rattle.script_meaning.specs.Stack.{pages_of, view_of, layer_of, file_named}
+use Rattle.script_meaning.specs.Log.{Item, NameItem, entered, noted}
 
 -- what a line may ask of a file
 pub data Ask : Type 0 where
@@ -105,10 +105,9 @@ reply_of told = by_answer told.answer told.bytes where
   by_answer (answers.Life life) bytes = replies.Life life
   by_answer (answers.Revoked life) bytes = replies.Revoked life
 
--- a part of a path; the root has none
+-- the text of a part of a path; a part that it has not is empty
 abbrev pub part_of : Option (List (List ℕ)) → ℕ → List ℕ
-part_of None part = []
-part_of (Some path) part = slice_index_or path part []
+part_of path part = slice_index_or (parts_of path) part []
 
 -- what a refusal of the names answers a line of the script
 abbrev pub refused_as : Option (List (List ℕ)) → NameErr → Reply

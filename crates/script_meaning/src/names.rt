@@ -4,10 +4,10 @@ ghost use Rattle.std.specs.Prelude.{◌≡◌, ◌<◌, ◌&&◌, IfSome, length
 ghost use Rattle.std.specs.Str.{bytes_eq};
 ghost use Rattle.stack_accept.specs.Mount.{is_view};
 ghost use Rattle.tower_core.specs.TreeShape.{IsUpper};
-ghost use Rattle.run_defs.specs.Stack.{disk_name, file_name, layer_of, pages_of, view_of, file_named};
+ghost use Rattle.script_meaning.specs.Stack.{disk_name, file_name, layer_of, pages_of, view_of, file_named};
 
-use seen_values::Text;
 use stack_accept::{FileEntry, Mounted, NodeEntry};
+use value_types::Text;
 
 /// The name of the disk of a number; a number without a disk has the empty name.
 pub fn disk_name(mount: &Mounted, disk: u32) -> &str

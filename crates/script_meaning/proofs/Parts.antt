@@ -17,11 +17,11 @@ use Rattle.tower_log.specs.Log.{trail_of, place_of}
 use Rattle.stack_accept.specs.Mount.{Mount}
 use Rattle.name_context.specs.declared.entry.NameEntry.{NameEntry}
 use Rattle.name_context.specs.History.{NamesSeen}
-use Rattle.run_defs.specs.Log.{Histories, items_from, items, Item, NameItem, entered, noted, who, by_caller, name_items, names_by, log_at, IsFull}
+use Rattle.script_meaning.specs.Log.{Histories, items_from, items, Item, NameItem, entered, noted, who, by_caller, name_items, names_by, log_at, IsFull}
 use Rattle.client_objects.specs.declared.state.ClientState.{ClientState}
-use Rattle.run_defs.specs.Plan.{Plan, ends, calls, asks_names, unknown, Request, Ask, NamesAsk, NamesTold, Made, at_file, with_names, Makes, Asks, AsksNames, told_names, Goes, Refuses, plan}
-use Rattle.run_defs.specs.Fits.{made_on, made_with_names, SyncsFrom, SyncsInOrder, GoesOn, NamesGoOn, AllGoOn, Did, Gone, Went, Worked, Phased, Does, Line, Acts, InOrder, last_cut, lines_of, IsAnswered}
-use Rattle.run_defs.proofs.Logs.{length-trail_of-append}
+use Rattle.script_meaning.specs.Plan.{Plan, ends, calls, asks_names, unknown, Request, Ask, NamesAsk, NamesTold, Made, at_file, with_names, Makes, Asks, AsksNames, told_names, Goes, Refuses, plan}
+use Rattle.script_meaning.specs.Fits.{made_on, made_with_names, SyncsFrom, SyncsInOrder, GoesOn, NamesGoOn, AllGoOn, Did, Gone, Went, Worked, Phased, Does, Line, Acts, InOrder, last_cut, lines_of, IsAnswered}
+use Rattle.script_meaning.proofs.Logs.{length-trail_of-append}
 
 pub goes_on_same : (h k : List Logged) → k ≡ h → GoesOn h k
 goes_on_same h k e = record { more = []; log = e ∙ sym (append-nil h) }

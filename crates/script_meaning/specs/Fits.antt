@@ -17,9 +17,9 @@ use Rattle.tower_log.specs.declared.logged.Logged.{Logged}
 use Rattle.tower_log.specs.Log.{place_of, trail_of}
 use Rattle.name_context.specs.declared.entry.NameEntry.{NameEntry}
 use Rattle.name_context.specs.History.{NamesSeen, IsStory}
-use Rattle.run_defs.specs.Log.{Histories, Item, NameItem, entered, noted, items, name_items, names_by, by_caller, who, log_at, IsFull}
+use Rattle.script_meaning.specs.Log.{Histories, Item, NameItem, entered, noted, items, name_items, names_by, by_caller, who, log_at, IsFull}
 use Rattle.client_objects.specs.declared.state.ClientState.{ClientState}
-use Rattle.run_defs.specs.Plan.{Plan, Made, at_file, with_names, plan, plan_call, start_state, asking, sync, Goes}
+use Rattle.script_meaning.specs.Plan.{Plan, Made, at_file, with_names, plan, plan_call, start_state, asking, sync, Goes}
 
 -- a line for which memory lacked before it did anything
 pub record Lacks (kept : ClientState) (made : List Made) (said : Reply) (left : ClientState) : Type 0 where
