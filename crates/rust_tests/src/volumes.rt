@@ -351,8 +351,10 @@ fn others_act_during_a_miss(rt: HostRuntime) -> Result<(), Fail> {
 fn shared(alloc: Global) -> Result<SharedTower<Ram>, Fail>
     ensures lower { IfOk result (λ s. IsUpper (tree_in s.began.engine) 1) }
 {
-    let tower = tower(alloc)?;
-    Ok(SharedTower::new(tower))
+    match SharedTower::new(alloc, tower(alloc)?) {
+        Ok(shared) => Ok(shared),
+        Err(_tower) => Err(Fail::from(AllocError)),
+    }
 }
 
 /// Tries an open of the lower layer.

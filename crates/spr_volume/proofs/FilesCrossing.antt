@@ -6,7 +6,7 @@ use denote.Struct.Tuple.{TupleAt, field_at, parts, type_at}
 use mir.Syntax.{Sym}
 use Rattle.std.proofs.Common.{List, [], ◌∷◌}
 use denote.Param.Send.{AllSend, IsSend, IsSync, recorded_send, recorded_sync, sendable, struct_send, struct_sync, view_send, view_sync}
-use Rattle.std.proofs.Crossing.{Vec-send, Vec-sync, crosses}
+use Rattle.std.proofs.Crossing.{Box-send, Vec-send, Vec-sync, crosses}
 use Rattle.page_ground.specs.declared.ground.Ground.{Ghosts}
 use Rattle.tower_log.specs.contracts.logged.Logged as Logged
 use Rattle.stack_engine.specs.contracts.tower.Tower as Tower
@@ -28,7 +28,7 @@ module _ (G : RattleType) (ghosts : Ghosts G.Denot) (ground : IsSend G) where
   shared_send =
       view_send (shared.the_row G ghosts) _ _ _ _
       (recorded_send (shared.the_field G ghosts).row _ _ (shared.the_type G ghosts).to_one
-      (struct_send (shape (shared.the_type G ghosts)) (tower.the_send G ghosts ground, (search crosses, (search sendable, tt)))))
+      (struct_send (shape (shared.the_type G ghosts)) (Box-send _ (tower.the_send G ghosts ground), (search crosses, (search sendable, tt)))))
 
   lock_send : IsSend (HistLock.the_row (Shared.the_row G ghosts) Logged.the_row (Tower.the_row G ghosts) (storied.ghosts G ghosts storied.no_dict))
   lock_send = lock.the_send (Shared.the_row G ghosts) Logged.the_row (Tower.the_row G ghosts) (storied.ghosts G ghosts storied.no_dict) shared_send

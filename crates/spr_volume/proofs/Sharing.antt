@@ -21,3 +21,10 @@ needed_later began now later = record { more = later.more; log_is = later.log; n
 pub asked_now : (P : TreeShape → PagedFile → Type 0) (began now : TowerSeen) (s : SharedSeen) → (let x : SharedSeen = record { began = began; tower = now } in x) ≡ s → IsLater began.engine now.engine → P (tree_in s.began.engine) (file_in s.began.engine) → P (tree_in now.engine) (file_in now.engine)
 asked_now P began now s is later asked =
     at_same P began.engine.tables now.engine.tables later.file (subst (λ (x : SharedSeen). P (tree_in x.began.engine) (file_in x.began.engine)) (sym is) asked)
+
+-- a tower that is lent by what holds it is the one that is held
+pub viewed : (began held lent : TowerSeen) (s : SharedSeen) → lent ≡ held → (let x : SharedSeen = record { began = began; tower = held } in x) ≡ s → (let x : SharedSeen = record { began = began; tower = lent } in x) ≡ s
+viewed began held lent s same is = subst (λ (t : TowerSeen). (let x : SharedSeen = record { began = began; tower = t } in x) ≡ s) (sym same) is
+
+pub later_lent : (began : EngineSeen) (held lent : TowerSeen) → lent ≡ held → IsLater began held.engine → IsLater began lent.engine
+later_lent began held lent same later = subst (λ (t : TowerSeen). IsLater began t.engine) (sym same) later

@@ -3,7 +3,7 @@
 use denote.RattleType.{RattleType}
 use denote.Struct.Declared.{shape}
 use denote.Param.Send.{IsSend, IsSync, recorded_send, sendable, struct_send, view_send}
-use Rattle.std.proofs.Crossing.{crosses}
+use Rattle.std.proofs.Crossing.{Box-send, crosses}
 use Rattle.page_ground.specs.declared.ground.Ground.{Ghosts}
 use Rattle.tower_log.specs.contracts.logged.Logged as Logged
 use Rattle.stack_engine.specs.contracts.tower.Tower as Tower
@@ -21,7 +21,7 @@ module _ (G : RattleType) (ghosts : Ghosts G.Denot) (ground : IsSend G) where
   shared_send =
       view_send (inside.the_row G ghosts) _ _ _ _
       (recorded_send (inside.the_field G ghosts).row _ _ (inside.the_type G ghosts).to_one
-      (struct_send (shape (inside.the_type G ghosts)) (tower.the_send G ghosts ground, (search crosses, (search sendable, tt)))))
+      (struct_send (shape (inside.the_type G ghosts)) (Box-send _ (tower.the_send G ghosts ground), (search crosses, (search sendable, tt)))))
 
   module _ (storied : Storied.Ghosts (Shared.the_row G ghosts).Denot Logged.the_row.Denot (Tower.the_row G ghosts).Denot) where
     pub seat_send : IsSend (Seat.the_row (Shared.the_row G ghosts) Logged.the_row (Tower.the_row G ghosts) storied)

@@ -1,9 +1,9 @@
 //! Rows of locks and of seats, one for each file of a volume, in the order of the files.
 
-ghost use Rattle.std.specs.Prelude.{◌≡◌, ◌+◌, ◌<◌, ◌≤◌, ◌++◌, [], IfOk, List, OnOk, length, map, reverse, vec_capacity};
+ghost use Rattle.std.specs.Prelude.{◌≡◌, ◌+◌, ◌<◌, ◌≤◌, ◌++◌, [], IfErr, IfOk, List, OnOk, length, map, reverse, vec_capacity};
 ghost use Rattle.std.specs.List.{AllByRecursion};
 ghost use Rattle.stack_engine.specs.Tower.{TowerSeen};
-ghost use Rattle.spr_volume.specs.Rows.{AreClosed, AreFree, AreFresh, AreMet, AreNeighbours, AreWhole, IsClosed, IsWhole, IsWithin, above, below};
+ghost use Rattle.spr_volume.specs.Rows.{AreClosed, AreFree, AreFresh, AreMet, AreNeighbours, AreWhole, IsClosed, IsFresh, IsWhole, IsWithin, above, below};
 
 use crate::shared_tower::SharedTower;
 use hist_lock::{HistLock, Seat};
@@ -53,18 +53,36 @@ pub(crate) fn lock_all<G: Ground>(
     ensures room { length locks.new.items + length towers.new.items ≤ vec_capacity towers.new }
 {
     while let Some(tower) = towers.pop() {
-        match HistLock::new(alloc, SharedTower::new(tower), 0, callers) {
+        match lock_tower(alloc, tower, callers) {
             Ok((lock, seat)) => {
                 locks.push_reserved(lock);
                 seats.push_reserved(seat);
             }
-            Err(shared) => {
-                towers.push_reserved(shared.into_tower());
+            Err(tower) => {
+                towers.push_reserved(tower);
                 return Err(AllocError);
             }
         }
     }
     Ok(())
+}
+
+/// Puts a lock round a tower, for the callers from 0 up to `callers`, with the seat of all of them; or gives the tower back, if memory
+/// ran out.
+fn lock_tower<G: Ground>(
+    alloc: Global,
+    tower: Tower<G>,
+    callers: u32,
+) -> Result<(HistLock<SharedTower<G>>, Seat<SharedTower<G>>), Tower<G>>
+    requires { 0 < callers }
+    ensures fresh { IfOk result (λ r. IsFresh callers tower r.0 r.1) }
+    ensures err { IfErr result (λ back. back ≡ tower) }
+{
+    let shared = SharedTower::new(alloc, tower)?;
+    match HistLock::new(alloc, shared, 0, callers) {
+        Ok(row) => Ok(row),
+        Err(shared) => Err(shared.into_tower()),
+    }
 }
 
 /// Ends a lock with the seat of all its callers.

@@ -21,12 +21,14 @@ use hist_lock::Storied;
 use hist_plain::{Keep, Op};
 use page_ground::Ground;
 use stack_engine::{End, Logged, Moved, StepErr, Tower};
+use std::alloc::Global;
 use std::marker::Model;
 use std::snapshot::Snapshot;
 
-/// A tower as its callers share it: it is the tower that was handed in, later on. What it was then stays known.
+/// A tower as its callers share it: it is the tower that was handed in, later on. What it was then stays known. It stands on the
+/// heap, so that a lock which hands it on moves none of it.
 pub struct SharedTower<G: Ground> {
-    tower: Tower<G>,
+    tower: Box<Tower<G>>,
     began: Snapshot<Tower<G>>,
     /// How many things the tower's log has.
     logged: u64,
@@ -37,9 +39,9 @@ impl<G: Ground> Model for SharedTower<G> {
 
     ghost Value = { SharedSeen };
 
-    ghost view = { λ s. record { began = s.began.value; tower = s.tower } };
+    ghost view = { λ s. record { began = s.began.value; tower = s.tower.value } };
 
-    ghost invariant = { λ s. IsShared s.began.value.engine s.tower.engine s.logged };
+    ghost invariant = { λ s. IsShared s.began.value.engine s.tower.value.engine s.logged };
 }
 
 impl<G: Ground> Storied for SharedTower<G> {
@@ -61,16 +63,20 @@ impl<G: Ground> Storied for SharedTower<G> {
 }
 
 impl<G: Ground> SharedTower<G> {
-    /// The tower, from now on shared.
-    pub fn new(tower: Tower<G>) -> SharedTower<G>
-        ensures { result ≡ shared tower }
+    /// The tower, from now on shared; or the tower back, if memory ran out.
+    pub fn new(alloc: Global, tower: Tower<G>) -> Result<SharedTower<G>, Tower<G>>
+        ensures ok { IfOk result (λ s. s ≡ shared tower) }
+        ensures err { IfErr result (λ back. back ≡ tower) }
     {
         let began = Snapshot::of(&tower);
         let logged = tower.log_len();
-        SharedTower {
-            tower,
-            began,
-            logged,
+        match Box::new(alloc, tower) {
+            Ok(tower) => Ok(SharedTower {
+                tower,
+                began,
+                logged,
+            }),
+            Err(failed) => Err(failed.value),
         }
     }
 
@@ -86,7 +92,7 @@ impl<G: Ground> SharedTower<G> {
             logged: _logged,
         } = self;
         tower.sound();
-        tower
+        Box::into_inner(tower)
     }
 
     /// What holds of every shared tower: it is the one that was handed in, later on, its answers are the plain file's, and each page
@@ -126,11 +132,12 @@ impl<G: Ground> SharedTower<G> {
         ensures fails { IfErr result (Fails caller self.old.tower self.new.tower) }
         ensures idle { (AccessNeedsDisks self.old.tower.engine node life op.now → ⊥) → self.new.tower.engine.ground ≡ self.old.tower.engine.ground }
     {
-        let number = self.tower.number(caller);
-        self.tower.sound();
-        let result = self.tower.advance(caller, number, node, life, op, out);
-        self.tower.sound();
-        self.logged = self.tower.log_len();
+        let tower = &mut *self.tower;
+        let number = tower.number(caller);
+        tower.sound();
+        let result = tower.advance(caller, number, node, life, op, out);
+        tower.sound();
+        self.logged = tower.log_len();
         result
     }
 
@@ -153,11 +160,12 @@ impl<G: Ground> SharedTower<G> {
         ensures fails { IfErr result (Fails caller self.old.tower self.new.tower) }
         ensures idle { (SyncNeedsDisks self.old.tower.engine node from (λ page. pushed_as caller page keep self.old.tower.turns) → ⊥) → self.new.tower.engine.ground ≡ self.old.tower.engine.ground }
     {
-        let number = self.tower.number(caller);
-        self.tower.sound();
-        let result = self.tower.advance_sync(caller, number, node, from, keep);
-        self.tower.sound();
-        self.logged = self.tower.log_len();
+        let tower = &mut *self.tower;
+        let number = tower.number(caller);
+        tower.sound();
+        let result = tower.advance_sync(caller, number, node, from, keep);
+        tower.sound();
+        self.logged = tower.log_len();
         result
     }
 
@@ -173,11 +181,12 @@ impl<G: Ground> SharedTower<G> {
         ensures fails { IfErr result (Fails caller self.old.tower self.new.tower) }
         ensures idle { (EndNeedsDisks self.old.tower.engine node → ⊥) → self.new.tower.engine.ground ≡ self.old.tower.engine.ground }
     {
-        let number = self.tower.number(caller);
-        self.tower.sound();
-        let result = self.tower.advance_end(caller, number, node, end);
-        self.tower.sound();
-        self.logged = self.tower.log_len();
+        let tower = &mut *self.tower;
+        let number = tower.number(caller);
+        tower.sound();
+        let result = tower.advance_end(caller, number, node, end);
+        tower.sound();
+        self.logged = tower.log_len();
         result
     }
 }

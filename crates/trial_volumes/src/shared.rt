@@ -147,7 +147,9 @@ pub fn shared_step(
         file: tower.file(),
         nodes: tower.tree().nodes(),
     };
-    let mut shared = SharedTower::new(tower);
+    let Ok(mut shared) = SharedTower::new(alloc, tower) else {
+        return Err(Halt::Memory);
+    };
     let done = do_lines(alloc, &mut shared, size, text.as_str(), answer);
     let (things, nodes) = (shared.len(), size.nodes);
     let (mut disk, _trail) = shared.into_tower().close();
