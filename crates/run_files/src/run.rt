@@ -70,20 +70,27 @@ fn traced_by(ops: &Ops, trace: bool) -> Option<Ops>
 }
 
 /// Writes the report of a run and its status; if memory runs out for the report, a line for each store that is lost.
-fn tell<K: Sink>(alloc: Global, run: &Run<'_>, status: Status, sink: &mut K) -> Status
+fn tell<R: Threads + Sync, K: Sink>(
+    rt: &R,
+    alloc: Global,
+    run: &Run<'_>,
+    status: Status,
+    sink: &mut K,
+) -> Status
     requires logs { AreReported run.now.mount.now run.now.mount.now.files (map (λ t. t.log) run.now.logs.now) }
     requires said { length run.now.said.now ≡ length run.now.script.now.clients }
     requires closing { length run.now.closing.now ≡ length run.now.mount.now.files }
     ensures { Tells run.now.mount.now run.now.script.now run.now.traced (record { logs = map (λ t. t.log) run.now.logs.now; names = run.now.names.now }) (map (λ v. v.items) run.now.said.now) run.now.closing.now run.now.lost.now status (K.told sink.old) (K.told sink.new) result }
 {
-    match report(alloc, run) {
+    match report(rt, alloc, run) {
         Ok(text) => finish(sink, &[&text], status),
         Err(AllocError) => finish_lost(sink, run.mount, run.lost, Status::Memory),
     }
 }
 
 /// Closes the files that the script was run over, gives their stores back, tells of their disks, and writes the report.
-fn end_run<B: Bay, K: Sink, N: Sink>(
+fn end_run<R: Threads + Sync, B: Bay, K: Sink, N: Sink>(
+    rt: &R,
     alloc: Global,
     given: &Given<'_>,
     trace: bool,
@@ -122,7 +129,7 @@ fn end_run<B: Bay, K: Sink, N: Sink>(
         lost: &lost,
     };
     let status = status_of(&answers.said, &answers.closing, &lost);
-    tell(alloc, &run, status, sink)
+    tell(rt, alloc, &run, status, sink)
 }
 
 /// Closes the files that were opened, gives all stores back, and writes why the script was not run.
@@ -224,7 +231,7 @@ fn run_open<R: Threads + Wait + Sync, B: Bay, K: Sink, N: Sink, T: LineGate>(
                 lost,
             };
             end_run(
-                alloc, given, trace, bay, sink, notices, files, names, answers,
+                rt, alloc, given, trace, bay, sink, notices, files, names, answers,
             )
         }
         Err(towers) => {

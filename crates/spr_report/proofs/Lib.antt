@@ -1,6 +1,7 @@
 pub mod Words
 pub mod Writes
 mod Traces
+mod PartTexts
 pub mod NamesWords
 pub mod NamesPartLaws
 mod Joined

@@ -1,5 +1,5 @@
 -- The text that a run writes which reached its phases, without the line of its status.
-use Rattle.std.specs.Prelude.{ℕ, suc, List, [], ◌∷◌, ◌++◌, map, codes, Option, Some, None}
+use Rattle.std.specs.Prelude.{◌≡◌, ℕ, suc, List, [], ◌∷◌, ◌++◌, map, codes, slice_get, Option, Some, None}
 use Rattle.std.specs.List.{flat_map}
 use Rattle.std.specs.Fmt.{decimal}
 use Rattle.hex.specs.Hex.{encode_lower}
@@ -46,6 +46,14 @@ client_part disks name said = line_of (codes "client" ∷ name ∷ []) ++ flat_m
 abbrev pub client_parts : List (List ℕ) → List ClientLine → List (List Said) → List ℕ
 client_parts disks (client ∷ clients) (said ∷ more) = client_part disks client.name said ++ client_parts disks clients more
 client_parts disks clients more = []
+
+-- the part of the client of a number, if there is such a client
+pub record IsClientText (disks : List (List ℕ)) (clients : List ClientLine) (all : List (List Said)) (number : ℕ) (text : List ℕ) : Type 0 where
+  pub client : ClientLine
+  pub said : List Said
+  pub client_is : slice_get clients number ≡ Some client
+  pub said_is : slice_get all number ≡ Some said
+  pub text_is : text ≡ client_part disks client.name said
 
 -- the words of an answer of the file
 abbrev pub told_words : Told → List (List ℕ)
@@ -110,6 +118,14 @@ abbrev pub file_parts : List (List ℕ) → Mount → Option Ops → ℕ → Lis
 file_parts callers mount traced number (file ∷ files) (log ∷ logs) =
     file_part callers mount traced number file log ++ file_parts callers mount traced (suc number) files logs
 file_parts callers mount traced number files logs = []
+
+-- the part of the file of a number, if there is such a file
+pub record IsFileText (callers : List (List ℕ)) (mount : Mount) (traced : Option Ops) (logs : List (List Logged)) (number : ℕ) (text : List ℕ) : Type 0 where
+  pub file : FileEntry
+  pub log : List Logged
+  pub file_is : slice_get mount.files number ≡ Some file
+  pub log_is : slice_get logs number ≡ Some log
+  pub text_is : text ≡ file_part callers mount traced number file log
 
 -- the names of the callers: the clients, and then mount
 abbrev pub callers_of : List ClientLine → List (List ℕ)

@@ -1,13 +1,13 @@
 //! The whole text of a run.
 
-ghost use Rattle.std.specs.Prelude.{◌≡◌, ◌++◌, IfSome, OnOk, IfOk, map, length};
+ghost use Rattle.std.specs.Prelude.{◌≡◌, ◌<◌, ◌++◌, ℕ, IfSome, IsOk, OnOk, IfOk, Some, map, length, slice_get};
 ghost use Rattle.std.specs.List.{flat_map};
 ghost use Rattle.stack_accept.specs.Sound.{IsInLimits};
 ghost use Rattle.script_meaning.specs.Stack.{node_names};
 ghost use Rattle.tower_log.specs.Log.{entries_of, trail_of};
 ghost use Rattle.spr_report.specs.Tracing.{IsNextOf, AreNextOf, IsReported, AreReported, traced_after};
 ghost use Rattle.spr_report.specs.Traced.{traced_by};
-ghost use Rattle.spr_report.specs.Report.{client_parts, entry_lines, file_part, file_parts, callers_of, closing_lines, lost_line, report};
+ghost use Rattle.spr_report.specs.Report.{IsClientText, IsFileText, client_parts, entry_lines, file_part, file_parts, callers_of, closing_lines, lost_line, report};
 
 use crate::answer::{put_client, put_closing};
 use crate::event::{Names, put_entry};
@@ -21,6 +21,7 @@ use script_meaning::StoreKey;
 use script_text::{ClientLine, Reply, Said, Script};
 use stack_accept::{FileEntry, Mounted};
 use std::alloc::{AllocError, Global};
+use std::thread::{Threads, map_indices};
 use text_words::{put, put_line};
 use tower_log::Trail;
 use value_types::Text;
@@ -58,19 +59,64 @@ fn caller_names<'a>(alloc: Global, clients: &'a [ClientLine]) -> Result<Vec<&'a 
     Ok(names)
 }
 
+/// The text of the part of the client of a number.
+fn client_text(alloc: Global, run: &Run<'_>, number: usize) -> Result<Vec<u8>, AllocError>
+    requires number { number < length run.now.script.now.clients }
+    requires said { length run.now.said.now ≡ length run.now.script.now.clients }
+    ensures { IfOk result (λ text. IsClientText run.now.mount.now.disks run.now.script.now.clients (map (λ v. v.items) run.now.said.now) number text.items) }
+{
+    let mut text = Vec::new(alloc);
+    let client = &run.script.clients.as_slice()[number];
+    let (disks, name) = (run.mount.disks(), client.name.as_str());
+    put_client(alloc, &mut text, disks, name, &run.said[number])?;
+    Ok(text)
+}
+
+/// The text of the part of each client, in the order of the clients. Each is made on a thread of its own, where one can be made.
+fn client_texts<R: Threads + Sync>(
+    rt: &R,
+    alloc: Global,
+    run: &Run<'_>,
+) -> Result<Vec<Result<Vec<u8>, AllocError>>, AllocError>
+    requires { length run.now.said.now ≡ length run.now.script.now.clients }
+    ensures len { IfOk result (λ texts. length texts.items ≡ length run.now.script.now.clients) }
+    ensures each { IfOk result (λ texts. (number : ℕ) (text : _) → slice_get texts.items number ≡ Some text → IfOk text (λ bytes. IsClientText run.now.mount.now.disks run.now.script.now.clients (map (λ v. v.items) run.now.said.now) number bytes.items)) }
+{
+    map_indices(
+        rt,
+        alloc,
+        run.script.clients.as_slice().len(),
+        &|number: usize| -> Result<Vec<u8>, AllocError>
+            requires { (number < length run.now.script.now.clients) × (length run.now.said.now ≡ length run.now.script.now.clients) }
+            ensures { IfOk result (λ text. IsClientText run.entry.now.mount.now.disks run.entry.now.script.now.clients (map (λ v. v.items) run.entry.now.said.now) number text.items) }
+        { client_text(alloc, run, number) },
+    )
+}
+
+/// Appends a text, if there was memory for it.
+fn put_text(out: &mut Vec<u8>, text: &Result<Vec<u8>, AllocError>) -> Result<(), AllocError>
+    ensures put { OnOk result (IfOk text.now (λ bytes. out.new.items ≡ out.old.items ++ bytes.items)) }
+    ensures there { OnOk result (IsOk text.now) }
+{
+    match text {
+        Ok(bytes) => put(out, bytes),
+        Err(_) => Err(AllocError),
+    }
+}
+
 /// Appends a part for each client.
-fn put_clients(
+fn put_clients<R: Threads + Sync>(
+    rt: &R,
     alloc: Global,
     out: &mut Vec<u8>,
-    disks: &[Text],
-    clients: &[ClientLine],
-    said: &[Vec<Said>],
+    run: &Run<'_>,
 ) -> Result<(), AllocError>
-    requires { length said.now ≡ length clients.now }
-    ensures { OnOk result (out.new.items ≡ out.old.items ++ client_parts disks.now clients.now (map (λ v. v.items) said.now)) }
+    requires { length run.now.said.now ≡ length run.now.script.now.clients }
+    ensures { OnOk result (out.new.items ≡ out.old.items ++ client_parts run.now.mount.now.disks run.now.script.now.clients (map (λ v. v.items) run.now.said.now)) }
 {
-    for (i, client) in clients.iter().enumerate() {
-        put_client(alloc, out, disks, client.name.as_str(), &said[i])?;
+    let texts = client_texts(rt, alloc, run)?;
+    for text in &texts {
+        put_text(out, text)?;
     }
     Ok(())
 }
@@ -125,8 +171,58 @@ fn put_file(
     put_entries(alloc, out, names, &mut tracer, log)
 }
 
+/// The text of the part of a file, which has this number.
+fn file_text(
+    alloc: Global,
+    names: &Names,
+    run: &Run<'_>,
+    number: usize,
+) -> Result<Vec<u8>, AllocError>
+    requires number { number < length run.now.mount.now.files }
+    requires logs { AreReported run.now.mount.now run.now.mount.now.files (map (λ t. t.log) run.now.logs.now) }
+    requires nodes { names.now.nodes.now ≡ run.now.mount.now.nodes }
+    ensures { IfOk result (λ text. IsFileText (map (λ n. n.now) names.now.callers.now) run.now.mount.now run.now.traced (map (λ t. t.log) run.now.logs.now) number text.items) }
+{
+    let mut text = Vec::new(alloc);
+    let file = &run.mount.files()[number];
+    put_file(
+        alloc,
+        &mut text,
+        names,
+        run,
+        number as u32,
+        file,
+        &run.logs[number],
+    )?;
+    Ok(text)
+}
+
+/// The text of the part of each file, in the order of the files. Each is made on a thread of its own, where one can be made.
+fn file_texts<R: Threads + Sync>(
+    rt: &R,
+    alloc: Global,
+    names: &Names,
+    run: &Run<'_>,
+) -> Result<Vec<Result<Vec<u8>, AllocError>>, AllocError>
+    requires logs { AreReported run.now.mount.now run.now.mount.now.files (map (λ t. t.log) run.now.logs.now) }
+    requires nodes { names.now.nodes.now ≡ run.now.mount.now.nodes }
+    ensures len { IfOk result (λ texts. length texts.items ≡ length run.now.mount.now.files) }
+    ensures each { IfOk result (λ texts. (number : ℕ) (text : _) → slice_get texts.items number ≡ Some text → IfOk text (λ bytes. IsFileText (map (λ n. n.now) names.now.callers.now) run.now.mount.now run.now.traced (map (λ t. t.log) run.now.logs.now) number bytes.items)) }
+{
+    map_indices(
+        rt,
+        alloc,
+        run.mount.files().len(),
+        &|number: usize| -> Result<Vec<u8>, AllocError>
+            requires { (number < length run.now.mount.now.files) × AreReported run.now.mount.now run.now.mount.now.files (map (λ t. t.log) run.now.logs.now) × (names.now.nodes.now ≡ run.now.mount.now.nodes) }
+            ensures { IfOk result (λ text. IsFileText (map (λ n. n.now) names.entry.now.callers.now) run.entry.now.mount.now run.entry.now.traced (map (λ t. t.log) run.entry.now.logs.now) number text.items) }
+        { file_text(alloc, names, run, number) },
+    )
+}
+
 /// Appends the part of each file.
-fn put_files(
+fn put_files<R: Threads + Sync>(
+    rt: &R,
     alloc: Global,
     out: &mut Vec<u8>,
     names: &Names,
@@ -136,8 +232,9 @@ fn put_files(
     requires nodes { names.now.nodes.now ≡ run.now.mount.now.nodes }
     ensures { OnOk result (out.new.items ≡ out.old.items ++ file_parts (map (λ n. n.now) names.now.callers.now) run.now.mount.now run.now.traced 0 run.now.mount.now.files (map (λ t. t.log) run.now.logs.now)) }
 {
-    for (i, file) in run.mount.files().iter().enumerate() {
-        put_file(alloc, out, names, run, i as u32, file, &run.logs[i])?;
+    let texts = file_texts(rt, alloc, names, run)?;
+    for text in &texts {
+        put_text(out, text)?;
     }
     Ok(())
 }
@@ -180,8 +277,13 @@ fn put_lost(out: &mut Vec<u8>, mount: &Mounted, lost: &[StoreKey]) -> Result<(),
 }
 
 /// The text of a run that reached its phases, without the line of its status: the answers of each
-/// client, the log of each file, the history of the names, the closing syncs that failed, and the stores that were lost.
-pub fn report(alloc: Global, run: &Run<'_>) -> Result<Vec<u8>, AllocError>
+/// client, the log of each file, the history of the names, the closing syncs that failed, and the stores that were lost. The parts of
+/// the clients are made at once, and then those of the files, each on a thread of its own where one can be made.
+pub fn report<R: Threads + Sync>(
+    rt: &R,
+    alloc: Global,
+    run: &Run<'_>,
+) -> Result<Vec<u8>, AllocError>
     requires logs { AreReported run.now.mount.now run.now.mount.now.files (map (λ t. t.log) run.now.logs.now) }
     requires said { length run.now.said.now ≡ length run.now.script.now.clients }
     requires closing { length run.now.closing.now ≡ length run.now.mount.now.files }
@@ -195,8 +297,8 @@ pub fn report(alloc: Global, run: &Run<'_>) -> Result<Vec<u8>, AllocError>
         callers: &callers,
         nodes: mount.nodes(),
     };
-    put_clients(alloc, &mut out, mount.disks(), clients, run.said)?;
-    put_files(alloc, &mut out, &names, run)?;
+    put_clients(rt, alloc, &mut out, run)?;
+    put_files(rt, alloc, &mut out, &names, run)?;
     put_names(alloc, &mut out, &callers, run.names)?;
     put_closings(alloc, &mut out, mount.disks(), mount.files(), run.closing)?;
     put_lost(&mut out, mount, run.lost)?;
