@@ -27,7 +27,7 @@ shut_files-trails-requires-clause-own g c κs within news told shut ended =
     (record { of = b.2; opened = b.3; end = suc (length c.args.given.now.script.now.clients); back = b.5.later; shut = shut; mades = map (λ m. m.items) c.args.files.made.items; told = told; made = b.4; ended = ended })
 
 pub tell-requires-clause-logs : goal.tell-requires-clause-logs
-tell-requires-clause-logs g c =
+tell-requires-clause-logs g c κs within =
     let mount = c.args.given.now.mount.now in
     let after : List TowerSeen = c.args.files.towers.items in
     let closed = c.shut_files-trails.ensures.closed in
