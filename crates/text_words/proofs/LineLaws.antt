@@ -1,8 +1,8 @@
 -- A text is its lines, and a line its words.
-use Rattle.std.proofs.Common.{◌≡◌, ℕ, zero, suc, ◌+◌, ◌-◌, ◌<◌, ◌≤◌, List, [], ◌∷◌, ◌++◌, length, take, drop, get_or, map, Bool, true, false, ◌&&◌, not, cond, eqb, ltb, Some, None, Result, Ok, Err, inl, inr, refl, sym, ap, subst, ◌∙◌, arith, append_assoc, length-drop}
+use Rattle.std.proofs.Common.{◌≡◌, ℕ, zero, suc, ◌+◌, ◌-◌, ◌<◌, List, [], ◌∷◌, ◌++◌, length, take, drop, get_or, map, Bool, true, false, ◌&&◌, not, cond, eqb, ltb, None, Result, Ok, Err, inl, inr, refl, sym, ap, subst, ◌∙◌, arith, append_assoc, length-drop}
 use Rattle.std.specs.Prelude.{IfOk, MatchResult}
 use Rattle.std.specs.List.{AllByRecursion, flat_map, join_with_byte, list_all, position, position_or_len}
-use Rattle.std.proofs.lemmas.Bool.{and_parts, and_from, cases_Bool, not-true, eqb-true, eq-eqb, ltb-false, not_from_false}
+use Rattle.std.proofs.lemmas.Bool.{and_parts, and_from, cases_Bool, not-true, eqb-true, eq-eqb, ltb-false}
 use Rattle.text_words.specs.declared.lines.LineWhy.{LineWhy}
 use Rattle.text_words.specs.declared.lines.LineWhy.TheVariants as why
 use Rattle.std.proofs.Math.Seq.{take-length}
@@ -10,7 +10,7 @@ use Rattle.std.proofs.lemmas.Bool.Decides.{nat_tests}
 use Rattle.std.proofs.lemmas.List.Splits.{join_with_byte-slice_split}
 use Rattle.text_words.proofs.Bytes.{list_all-weaker}
 use Rattle.text_words.specs.Lines.{Row, onto_row, rows_of, row_bytes, is_line_byte, has_bytes, words_in, words_at, is_word_byte, IsWord, AreWords, line_of, words_row, text_of, ReadsWords}
-use Rattle.text_words.proofs.Splits.{lacks, split_joined, split_all, IsParts, join_all, each, each_true, true_each}
+use Rattle.text_words.proofs.Splits.{lacks, lacks_from_none, none_parts, split_joined, split_all, IsParts, join_all, each, each_true, true_each}
 
 -- a byte in front of the rows
 onto_bytes : (b : ℕ) (rows : List Row) → flat_map row_bytes (onto_row b rows) ≡ b ∷ flat_map row_bytes rows
@@ -55,27 +55,12 @@ rows_split (b ∷ bs) (suc i) lt here before =
     let other : eqb b 10 ≡ false = before 0 (omega arith) in
     rw other (ap (onto_row b) (rows_split bs i (omega arith) here (λ k below. before (suc k) (omega arith))))
 
--- where no place has the byte, the list lacks it
-lacks_from_none : (bs : List ℕ) → length bs ≤ position_or_len (λ b. eqb b 10) bs → lacks 10 bs ≡ true
-lacks_from_none [] h = refl
-lacks_from_none (b ∷ bs) h =
-    elim (cases_Bool (eqb b 10)) [
-      | inl e ↦ absurd (omega (arith, rw e at h))
-      | inr e ↦
-          let rest : length bs ≤ position_or_len (λ c. eqb c 10) bs = omega (arith, rw e at h) in
-          and_from _ _ (not_from_false (eqb b 10) e) (lacks_from_none bs rest)
-    ]
-
-none_parts : (n : ℕ) (t : Bool) → cond t (Some n) None ≡ None → t ≡ false
-none_parts n true e = absurd cc
-none_parts n false e = refl
-
 -- a text with no line feed is one line
 pub rows_none : (text : List ℕ) → 0 < length text → position (λ b. eqb b 10) text ≡ None → rows_of text ≡ record { body = text; ended = false } ∷ []
 rows_none [] lt h = absurd (omega arith)
 rows_none (b ∷ bs) lt h =
     let past = none_parts (position_or_len (λ c. eqb c 10) (b ∷ bs)) (ltb (position_or_len (λ c. eqb c 10) (b ∷ bs)) (length (b ∷ bs))) h in
-    rows_alone b bs (lacks_from_none (b ∷ bs) (ltb-false _ _ past))
+    rows_alone b bs (lacks_from_none 10 (b ∷ bs) (ltb-false _ _ past))
 
 three : (a b c : Bool) (x words : List (List ℕ)) → cond (not a) (Err why.Byte) (cond (not b) (Err why.Space) (cond (not c) (Err why.End) (Ok x))) ≡ Ok words → (a ≡ true) × (b ≡ true) × (c ≡ true) × (x ≡ words)
 three true true true x words e = (refl, refl, refl, cc)

@@ -1,8 +1,13 @@
--- The first of some words, and then the others with a byte before each.
-use Rattle.std.proofs.Common.{◌≡◌, ℕ, ◌-◌, ◌≤◌, List, [], ◌∷◌, ◌++◌, length, take, drop, get_or, map, Bor, Result, Ok, Err, sym, ap, ◌∙◌, append_assoc, arith}
+-- The first of some words, and then the others with a byte before each; a digit; and hex, byte by byte.
+use Rattle.std.proofs.Common.{◌≡◌, ℕ, ◌+◌, ◌-◌, ◌/◌, ◌%◌, ◌<◌, ◌≤◌, List, [], ◌∷◌, ◌++◌, length, take, drop, get_or, slice_index, map, Bor, Result, Ok, Err, sym, ap, ◌∙◌, append_assoc, arith}
 use Rattle.std.specs.Prelude.{OnOk}
 use Rattle.std.specs.List.{flat_map, join_with_byte}
+use Rattle.std.specs.Fmt.{decimal}
 use Rattle.std.proofs.Math.Seq.{take-length}
+use Rattle.std.proofs.lemmas.Fmt.{decimal_digit}
+use Rattle.std.proofs.lemmas.List.{append-nil, drop_all}
+use Rattle.hex.specs.Hex.{encode_lower, encode_with, lower_digits}
+use Rattle.hex.proofs.Pairs.{encode_with-drop}
 use Rattle.text_words.specs.Lines.{spaced}
 use Rattle.text_words.specs.Words.{path_word}
 use Rattle.text_words.proofs.Splits.{join_spaced}
@@ -36,3 +41,25 @@ path_put (Ok x) out with_first new first d parts (part ∷ rest) some same f g h
     joined 47 (out ++ 32 ∷ []) with_first new part rest first_is (h ∙ ap (λ (ws : List (List ℕ)). with_first ++ flat_map (λ w. 47 ∷ w) ws) (others part rest))
     ∙ append_assoc out (32 ∷ []) (join_with_byte 47 (part ∷ rest)) ∙ ap (λ (ps : List (List ℕ)). out ++ 32 ∷ path_word ps) same
 path_put (Err e) out with_first new first d parts (part ∷ rest) some same f g h = h
+
+-- a number below ten is its digit
+pub one_digit : (n : ℕ) → n < 10 → decimal n ≡ (48 + n) ∷ []
+one_digit n small = decimal_digit n small
+
+-- the two digits of one byte more
+pub hex_put : (out one two bytes : List ℕ) (i high low : ℕ) → i < length bytes
+    → high ≡ slice_index lower_digits (get_or bytes i 0 / 16) → low ≡ slice_index lower_digits (get_or bytes i 0 % 16)
+    → one ≡ out ++ high ∷ [] → two ≡ one ++ low ∷ []
+    → two ++ encode_lower (drop (i + 1) bytes) ≡ out ++ encode_lower (drop i bytes)
+hex_put out one two bytes i high low lt is_high is_low first second =
+    let rest : List ℕ = encode_lower (drop (i + 1) bytes) in
+    let digits : high ∷ low ∷ rest ≡ encode_lower (drop i bytes) =
+    ap (λ (x : ℕ). x ∷ low ∷ rest) is_high ∙ ap (λ (x : ℕ). slice_index lower_digits (get_or bytes i 0 / 16) ∷ x ∷ rest) is_low ∙ sym (encode_with-drop lower_digits bytes i lt) in
+    ap (λ (bs : List ℕ). bs ++ rest) (second ∙ ap (λ (bs : List ℕ). bs ++ low ∷ []) first)
+    ∙ append_assoc (out ++ high ∷ []) (low ∷ []) rest ∙ append_assoc out (high ∷ []) (low ∷ rest)
+    ∙ ap (λ (bs : List ℕ). out ++ bs) digits
+
+-- no byte is left
+pub hex_put_all : (out bytes : List ℕ) (i : ℕ) → length bytes ≤ i → out ++ encode_lower (drop i bytes) ≡ out
+unfolding encode_with
+hex_put_all out bytes i past = rw (drop_all i bytes past) (append-nil out)

@@ -1,10 +1,10 @@
 //! Putting a text together in one buffer. Where memory runs out, what a call appended so far may
 //! stand at the buffer's end.
 
-ghost use Rattle.std.specs.Prelude.{◌≡◌, ◌++◌, ◌∷◌, [], OnOk, OnErr, List, ℕ, map};
+ghost use Rattle.std.specs.Prelude.{◌≡◌, ◌+◌, ◌*◌, ◌<◌, ◌≤◌, ◌++◌, ◌∷◌, [], OnOk, OnErr, List, ℕ, map, length, slice_index, vec_len, vec_capacity};
 ghost use Rattle.std.specs.List.{flat_map, join_with_byte};
 ghost use Rattle.std.specs.Fmt.{decimal};
-ghost use Rattle.hex.specs.Hex.{encode_lower};
+ghost use Rattle.hex.specs.Hex.{encode_lower, lower_digits};
 ghost use Rattle.text_words.specs.Lines.{line_of, spaced};
 ghost use Rattle.text_words.specs.Words.{path_word};
 
@@ -24,8 +24,19 @@ pub fn put(out: &mut Vec<u8>, bytes: &[u8]) -> Result<(), AllocError>
 pub fn put_word(out: &mut Vec<u8>, word: &[u8]) -> Result<(), AllocError>
     ensures { OnOk result (out.new.items ≡ out.old.items ++ 32 ∷ word.now) }
 {
-    put(out, b" ")?;
+    out.push(b' ')?;
     put(out, word)
+}
+
+/// Appends the digit of a number below ten, or nothing.
+#[tactic(auto, using(crate::proofs::Printing::one_digit))]
+fn put_digit(out: &mut Vec<u8>, number: u64) -> Result<(), AllocError>
+    requires { number < 10 }
+    ensures ok { OnOk result (out.new.items ≡ out.old.items ++ decimal number) }
+    ensures err { OnErr result (out.new.items ≡ out.old.items) }
+{
+    out.push(b'0' + number as u8)?;
+    Ok(())
 }
 
 /// Appends a number in decimal digits, or nothing.
@@ -33,6 +44,9 @@ pub fn put_number(out: &mut Vec<u8>, number: u64) -> Result<(), AllocError>
     ensures ok { OnOk result (out.new.items ≡ out.old.items ++ decimal number) }
     ensures err { OnErr result (out.new.items ≡ out.old.items) }
 {
+    if number < 10 {
+        return put_digit(out, number);
+    }
     let mut buffer = Buffer::new();
     put(out, buffer.format(number).as_bytes())
 }
@@ -41,16 +55,37 @@ pub fn put_number(out: &mut Vec<u8>, number: u64) -> Result<(), AllocError>
 pub fn put_spaced_number(out: &mut Vec<u8>, number: u64) -> Result<(), AllocError>
     ensures { OnOk result (out.new.items ≡ out.old.items ++ 32 ∷ decimal number) }
 {
-    put(out, b" ")?;
+    out.push(b' ')?;
     put_number(out, number)
 }
 
-/// Appends a space and bytes in hex.
-pub fn put_hex(alloc: Global, out: &mut Vec<u8>, bytes: &[u8]) -> Result<(), AllocError>
+/// The digit of hex for a number below sixteen.
+fn hex_digit(number: u8) -> u8
+    requires { number < 16 }
+    ensures { result ≡ slice_index lower_digits number }
+{
+    b"0123456789abcdef"[number as usize]
+}
+
+/// Appends bytes in hex, for which there is room.
+fn put_digits(out: &mut Vec<u8>, bytes: &[u8])
+    requires { vec_len out.old + 2 * length bytes.now ≤ vec_capacity out.old }
+    ensures { out.new.items ≡ out.old.items ++ encode_lower bytes.now }
+{
+    for byte in bytes {
+        out.push_reserved(hex_digit(*byte / 16));
+        out.push_reserved(hex_digit(*byte % 16));
+    }
+}
+
+/// Appends a space and bytes in hex. It takes no memory but for the text that it appends to.
+pub fn put_hex(_alloc: Global, out: &mut Vec<u8>, bytes: &[u8]) -> Result<(), AllocError>
     ensures { OnOk result (out.new.items ≡ out.old.items ++ 32 ∷ encode_lower bytes.now) }
 {
-    let text = hex::encode(alloc, bytes)?;
-    put_word(out, text.as_bytes())
+    out.reserve(2 * bytes.len() + 1)?;
+    out.push_reserved(b' ');
+    put_digits(out, bytes);
+    Ok(())
 }
 
 /// Appends a slash before each part.

@@ -1,0 +1,13 @@
+use Rattle.std.proofs.Common.{◌≡◌, ◌≤◌, ◌++◌, length, map}
+use Rattle.text_words.specs.Lines.{words_in}
+use Rattle.text_words.proofs.lines.split_words.Given as goal
+
+-- the words so far, and those that are left
+abbrev pub invariant-loop-end : goal.invariant-loop-end
+invariant-loop-end l = record {
+  words : map (λ word. word.now) l.words.items ++ words_in l.rest ≡ map (λ word. word.now) l.fn.words.items ++ words_in l.fn.body;
+  within : length l.rest ≤ length l.fn.body;
+}
+
+abbrev pub decreases-loop-end : goal.decreases-loop-end
+decreases-loop-end l = length l.rest
