@@ -1,11 +1,11 @@
 -- Lists that are split where a byte stands, and joined by it.
-use Rattle.std.proofs.Common.{◌≡◌, ℕ, ◌+◌, ◌-◌, ◌≤◌, List, [], ◌∷◌, ◌++◌, length, take, drop, map, Bor, Bool, true, false, cond, ◌&&◌, not, eqb, ltb, Some, None, inl, inr, subst, refl, sym, ap, ◌∙◌, arith}
-use Rattle.std.specs.List.{AllByRecursion, flat_map, join_with_byte, list_all, position, position_or_len, slice_split, onto_first}
+use Rattle.std.proofs.Common.{◌≡◌, ℕ, ◌-◌, ◌≤◌, List, [], ◌∷◌, ◌++◌, length, take, drop, Bool, true, false, cond, ◌&&◌, not, eqb, Some, None, inl, inr, subst, refl, sym, ap, ◌∙◌, arith}
+use Rattle.std.specs.List.{AllByRecursion, flat_map, join_with_byte, list_all, position_or_len, slice_split, onto_first}
 use Rattle.std.specs.Str.{IsAscii}
-use Rattle.std.proofs.lemmas.Bool.{and_parts, not-true, eq-eqb, and_from, cases_Bool, not_from_false, ltb-true, ltb-false}
-use Rattle.std.proofs.lemmas.List.{append-nil, append_assoc, length-drop, map_push, take_rest}
+use Rattle.std.proofs.lemmas.Bool.{and_parts, not-true, eq-eqb, and_from, cases_Bool, not_from_false}
+use Rattle.std.proofs.lemmas.List.{append-nil, length-drop, take_rest}
 use Rattle.std.proofs.lemmas.List.Folds.{list_all-append}
-use Rattle.std.proofs.lemmas.List.Splits.{slice_split-cons_yes, slice_split-cons_no, slice_split_first}
+use Rattle.std.proofs.lemmas.List.Splits.{slice_split-cons_yes, slice_split-cons_no}
 use Rattle.std.proofs.lemmas.Str.{IsAscii-append}
 use Rattle.std.proofs.lemmas.Str.Ascii.{IsAscii-cons, IsAscii-nil}
 
@@ -105,53 +105,6 @@ pub none_parts : (n : ℕ) (t : Bool) → cond t (Some n) None ≡ None → t �
 none_parts n true e = absurd cc
 none_parts n false e = refl
 
-some_parts : (n i : ℕ) (t : Bool) → cond t (Some n) None ≡ Some i → (t ≡ true) × (n ≡ i)
-some_parts n i true e = (refl, cc)
-some_parts n i false e = absurd cc
-
--- a list is split at the first place of the byte, as a slice is cut
-pub split_at_first : (c : ℕ) (bs : List ℕ) (i : ℕ) → position (λ b. eqb b c) bs ≡ Some i
-    → slice_split (λ b. eqb b c) bs ≡ take i bs ∷ slice_split (λ b. eqb b c) (take (length bs - (i + 1)) (drop (i + 1) bs))
-split_at_first c bs i e =
-    let n : ℕ = position_or_len (λ b. eqb b c) bs in
-    let at = some_parts n i (ltb n (length bs)) e in
-    let first = slice_split_first (λ b. eqb b c) bs 0 (ltb-true n (length bs) at.0) in
-    first ∙ ap (λ (k : ℕ). take k bs ∷ slice_split (λ b. eqb b c) (drop (k + 1) bs)) at.1
-    ∙ ap (λ (rest : List ℕ). take i bs ∷ slice_split (λ b. eqb b c) rest) (sym (take_rest bs (i + 1)))
-
--- a list that lacks the byte is the one part
-pub split_none : (c : ℕ) (bs : List ℕ) → position (λ b. eqb b c) bs ≡ None → slice_split (λ b. eqb b c) bs ≡ bs ∷ []
-split_none c bs e =
-    let n : ℕ = position_or_len (λ b. eqb b c) bs in
-    split_alone c bs (lacks_from_none c bs (ltb-false n (length bs) (none_parts n (ltb n (length bs)) e)))
-
 -- what stands behind a place is no longer than the list
 pub rest_within : (bs : List ℕ) (i n : ℕ) → length bs ≤ n → length (take (length bs - i) (drop i bs)) ≤ n
 rest_within bs i n h = omega (arith, ap length (take_rest bs i), length-drop i bs)
-
--- one more word, of those that are left
-pub word_put : (before now : List (Bor (List ℕ))) (word : Bor (List ℕ)) (rest : List ℕ) (i : ℕ) (whole : List (List ℕ))
-    → position (λ b. eqb b 32) rest ≡ Some i → word.now ≡ take i rest → now ≡ before ++ word ∷ []
-    → map (λ w. w.now) before ++ slice_split (λ b. eqb b 32) rest ≡ whole
-    → map (λ w. w.now) now ++ slice_split (λ b. eqb b 32) (take (length rest - (i + 1)) (drop (i + 1) rest)) ≡ whole
-word_put before now word rest i whole at is put so =
-    let after : List (List ℕ) = slice_split (λ b. eqb b 32) (take (length rest - (i + 1)) (drop (i + 1) rest)) in
-    let fronts : List (List ℕ) = map (λ (w : Bor (List ℕ)). w.now) before in
-    ap (λ (ws : List (Bor (List ℕ))). map (λ (w : Bor (List ℕ)). w.now) ws ++ after) put
-    ∙ ap (λ (ws : List (List ℕ)). ws ++ after) (map_push (λ (w : Bor (List ℕ)). w.now) before word)
-    ∙ append_assoc fronts (word.now ∷ []) after
-    ∙ ap (λ (w : List ℕ). fronts ++ w ∷ after) is
-    ∙ ap (λ (ws : List (List ℕ)). fronts ++ ws) (sym (split_at_first 32 rest i at))
-    ∙ so
-
--- the last word
-pub last_word_put : (before now : List (Bor (List ℕ))) (word : Bor (List ℕ)) (whole : List (List ℕ))
-    → position (λ b. eqb b 32) word.now ≡ None → now ≡ before ++ word ∷ []
-    → map (λ w. w.now) before ++ slice_split (λ b. eqb b 32) word.now ≡ whole
-    → map (λ w. w.now) now ≡ whole
-last_word_put before now word whole at put so =
-    let fronts : List (List ℕ) = map (λ (w : Bor (List ℕ)). w.now) before in
-    ap (λ (ws : List (Bor (List ℕ))). map (λ (w : Bor (List ℕ)). w.now) ws) put
-    ∙ map_push (λ (w : Bor (List ℕ)). w.now) before word
-    ∙ ap (λ (ws : List (List ℕ)). fronts ++ ws) (sym (split_none 32 word.now at))
-    ∙ so

@@ -1,6 +1,6 @@
 use Rattle.std.proofs.Common.{◌≡◌, ◌+◌, ◌-◌, ◌*◌, ◌≤◌, ◌++◌, length, drop, vec_len, vec_capacity}
 use Rattle.hex.specs.Hex.{encode_lower}
-use Rattle.text_words.proofs.print.put_digits.Given as goal
+use Rattle.text_words.proofs.print.put_hex_digits.Given as goal
 
 -- what is written, and what is left to write, for which there is room
 abbrev pub invariant-loop-byte : goal.invariant-loop-byte

@@ -1,6 +1,6 @@
 use Rattle.std.proofs.Common.{arith, sym, ◌∙◌}
 use Rattle.text_words.proofs.Printing.{hex_put, hex_put_all}
-use Rattle.text_words.proofs.print.put_digits.Goals as goal
+use Rattle.text_words.proofs.print.put_hex_digits.Goals as goal
 
 pub loop-byte-preserved : goal.loop-byte-preserved
 loop-byte-preserved c = record {
