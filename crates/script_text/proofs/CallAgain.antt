@@ -14,7 +14,7 @@ use Rattle.script_text.specs.Grammar.{IsCall, call_words, verb_word, sub_word, m
 use Rattle.script_text.specs.Reading.{◌>>=◌, verb_at, one_at, two_at, bind_at, read_at, write_at, map_at, args_at, call_at, name_at, path_at, sub_at, mode_at, number_at, address_at, hex_at}
 use Rattle.script_text.proofs.Fields.{Reads, step, name_reads, path_reads, root_reads, sub_reads, mode_reads, number_reads, address_reads, hex_reads}
 
-verb_again : (verb : Verb) → verb_at (verb_word verb) ≡ Ok verb
+pub verb_again : (verb : Verb) → verb_at (verb_word verb) ≡ Ok verb
 unfolding verb_at
 verb_again verbs.Context = refl
 verb_again verbs.Bind = refl

@@ -11,7 +11,7 @@ use crate::script::{CallLine, ClientLine, Script};
 use crate::why::ScriptWhy;
 use crate::{MAX_CLIENTS, MAX_LINE_BYTES, MAX_LINES};
 use std::alloc::{AllocError, Global};
-use text_words::{Line, is_name, text_of_name};
+use text_words::{Line, is_name, read_words, text_of_name};
 use value_types::Items;
 
 /// Whether a client has the name.
@@ -169,22 +169,23 @@ fn words_line(
     }
 }
 
-/// The script so far, with the line of this number.
+/// The script so far, with the line of this number. The list is for the line's words.
 #[tactic(auto, unfolding(crate::specs::Reading::line_at))]
-pub(crate) fn line_of(
+pub(crate) fn line_of<'a>(
     alloc: Global,
     script: Script,
     number: u32,
-    line: Line<'_>,
+    line: Line<'a>,
+    words: &mut Vec<&'a [u8]>,
 ) -> Result<Script, ScriptWhy>
     requires { length script.clients ≤ MAX_CLIENTS }
     ensures value { Gives result (line_at script number (row_of line.entry)) }
     ensures clients { IfOk result (λ longer. length longer.clients ≤ MAX_CLIENTS) }
     ensures number { OnOk result (number ≤ MAX_LINES) }
 {
-    let words = text_words::words_of(alloc, line)?;
+    read_words(words, line)?;
     if number > MAX_LINES || line.body.len() > MAX_LINE_BYTES {
         return Err(ScriptWhy::Long);
     }
-    words_line(alloc, script, number, &words)
+    words_line(alloc, script, number, words.as_slice())
 }

@@ -30,11 +30,12 @@ fn parse(alloc: Global, text: &[u8]) -> Result<Script, Refused>
         clients: Items::new(alloc),
         phases: Items::new(alloc),
     };
+    let mut words = Vec::new(alloc);
     let mut number: u32 = 1;
     let mut rest = text;
     while !rest.is_empty() {
         let (line, after) = split_line(rest);
-        script = match line_of(alloc, script, number, line) {
+        script = match line_of(alloc, script, number, line, &mut words) {
             Ok(longer) => longer,
             Err(why) => return Err(refused(number, why)),
         };

@@ -1,6 +1,6 @@
 //! The verbs of the calls.
 
-ghost use Rattle.std.specs.Prelude.{◌≡◌};
+ghost use Rattle.std.specs.Prelude.{◌≡◌, IfSome};
 ghost use Rattle.script_text.specs.Grammar.{verb_word};
 ghost use Rattle.script_text.specs.Reading.{Gives, named, verb_at};
 
@@ -91,10 +91,30 @@ fn named(verbs: &[Verb], word: &[u8]) -> Option<Verb>
     None
 }
 
+/// The verb of an access that a word is, if it is one: most lines of a long script make one.
+fn access_of(word: &[u8]) -> Option<Verb>
+    ensures { IfSome result (λ verb. word.now ≡ verb_word verb) }
+{
+    if word == b"read".as_slice() {
+        Some(Verb::Read)
+    } else if word == b"write".as_slice() {
+        Some(Verb::Write)
+    } else if word == b"load".as_slice() {
+        Some(Verb::Load)
+    } else if word == b"store".as_slice() {
+        Some(Verb::Store)
+    } else {
+        None
+    }
+}
+
 /// The verb that a word is.
 #[tactic(auto, unfolding(crate::specs::Reading::verb_at))]
 pub(crate) fn verb_of(word: &[u8]) -> Result<Verb, ScriptWhy>
     ensures { Gives result (verb_at word.now) }
 {
-    named(&VERBS, word).ok_or(ScriptWhy::Verb)
+    match access_of(word) {
+        Some(verb) => Ok(verb),
+        None => named(&VERBS, word).ok_or(ScriptWhy::Verb),
+    }
 }

@@ -1,16 +1,18 @@
 -- A text is its lines, and a line its words.
-use Rattle.std.proofs.Common.{◌≡◌, ℕ, zero, suc, ◌+◌, ◌-◌, ◌<◌, ◌≤◌, List, [], ◌∷◌, ◌++◌, length, take, drop, get_or, map, Bool, true, false, ◌&&◌, not, cond, eqb, ltb, Some, None, Result, Ok, Err, inl, inr, refl, sym, ap, subst, ◌∙◌, arith, append_assoc, length-drop}
+use Rattle.std.proofs.Common.{◌≡◌, ℕ, zero, suc, ◌+◌, ◌-◌, ◌<◌, List, [], ◌∷◌, ◌++◌, length, take, drop, get_or, map, Bor, ◌⊎◌, ◌≤◌, Bool, true, false, ◌&&◌, not, cond, eqb, ltb, None, Result, Ok, Err, inl, inr, refl, sym, ap, subst, ◌∙◌, arith, append_assoc, length-drop}
 use Rattle.std.specs.Prelude.{IfOk, MatchResult}
-use Rattle.std.specs.List.{AllByRecursion, flat_map, join_with_byte, list_all, position, position_or_len}
-use Rattle.std.proofs.lemmas.Bool.{and_parts, and_from, cases_Bool, not-true, eqb-true, eq-eqb, ltb-false, not_from_false}
+use Rattle.std.specs.List.{AllByRecursion, flat_map, join_with_byte, list_all, onto_first, position, position_or_len}
+use Rattle.std.proofs.lemmas.Bool.{and_parts, and_from, cases_Bool, not-true, eqb-true, eq-eqb, ltb-false}
 use Rattle.text_words.specs.declared.lines.LineWhy.{LineWhy}
 use Rattle.text_words.specs.declared.lines.LineWhy.TheVariants as why
 use Rattle.std.proofs.Math.Seq.{take-length}
 use Rattle.std.proofs.lemmas.Bool.Decides.{nat_tests}
-use Rattle.std.proofs.lemmas.List.Splits.{join_with_byte-slice_split}
+use Rattle.std.proofs.lemmas.List.{map_push}
+use Rattle.std.proofs.lemmas.List.Folds.{list_all_at}
+use Rattle.std.proofs.lemmas.List.Splits.{join_with_byte-slice_split, slice_split-cons_yes, slice_split-cons_no}
 use Rattle.text_words.proofs.Bytes.{list_all-weaker}
 use Rattle.text_words.specs.Lines.{Row, onto_row, rows_of, row_bytes, is_line_byte, has_bytes, words_in, words_at, is_word_byte, IsWord, AreWords, line_of, words_row, text_of, ReadsWords}
-use Rattle.text_words.proofs.Splits.{lacks, split_joined, split_all, IsParts, join_all, each, each_true, true_each}
+use Rattle.text_words.proofs.Splits.{lacks, lacks_from_none, none_parts, split_alone, split_joined, split_all, IsParts, join_all, each, each_true, true_each}
 
 -- a byte in front of the rows
 onto_bytes : (b : ℕ) (rows : List Row) → flat_map row_bytes (onto_row b rows) ≡ b ∷ flat_map row_bytes rows
@@ -55,27 +57,12 @@ rows_split (b ∷ bs) (suc i) lt here before =
     let other : eqb b 10 ≡ false = before 0 (omega arith) in
     rw other (ap (onto_row b) (rows_split bs i (omega arith) here (λ k below. before (suc k) (omega arith))))
 
--- where no place has the byte, the list lacks it
-lacks_from_none : (bs : List ℕ) → length bs ≤ position_or_len (λ b. eqb b 10) bs → lacks 10 bs ≡ true
-lacks_from_none [] h = refl
-lacks_from_none (b ∷ bs) h =
-    elim (cases_Bool (eqb b 10)) [
-      | inl e ↦ absurd (omega (arith, rw e at h))
-      | inr e ↦
-          let rest : length bs ≤ position_or_len (λ c. eqb c 10) bs = omega (arith, rw e at h) in
-          and_from _ _ (not_from_false (eqb b 10) e) (lacks_from_none bs rest)
-    ]
-
-none_parts : (n : ℕ) (t : Bool) → cond t (Some n) None ≡ None → t ≡ false
-none_parts n true e = absurd cc
-none_parts n false e = refl
-
 -- a text with no line feed is one line
 pub rows_none : (text : List ℕ) → 0 < length text → position (λ b. eqb b 10) text ≡ None → rows_of text ≡ record { body = text; ended = false } ∷ []
 rows_none [] lt h = absurd (omega arith)
 rows_none (b ∷ bs) lt h =
     let past = none_parts (position_or_len (λ c. eqb c 10) (b ∷ bs)) (ltb (position_or_len (λ c. eqb c 10) (b ∷ bs)) (length (b ∷ bs))) h in
-    rows_alone b bs (lacks_from_none (b ∷ bs) (ltb-false _ _ past))
+    rows_alone b bs (lacks_from_none 10 (b ∷ bs) (ltb-false _ _ past))
 
 three : (a b c : Bool) (x words : List (List ℕ)) → cond (not a) (Err why.Byte) (cond (not b) (Err why.Space) (cond (not c) (Err why.End) (Ok x))) ≡ Ok words → (a ≡ true) × (b ≡ true) × (c ≡ true) × (x ≡ words)
 three true true true x words e = (refl, refl, refl, cc)
@@ -135,6 +122,98 @@ words_again (word ∷ words) h =
     let some = true_each has_bytes (word ∷ words) (each {P = IsWord} {Q = λ w. has_bytes w ≡ true} (λ w is. (word_parts w is).0) (word ∷ words) h) in
     rw (bytes, split, some) refl
 
+take_whole : (bs : List ℕ) (n : ℕ) → n ≡ length bs → take n bs ≡ bs
+take_whole bs n e = rw e (take-length bs)
+
+rest_is : (text : List ℕ) (n : ℕ) → take (length text - n) (drop n text) ≡ drop n text
+rest_is text n = take_whole (drop n text) (length text - n) (sym (length-drop n text))
+
+not-false : (t : Bool) → not t ≡ false → t ≡ true
+not-false true e = refl
+not-false false e = absurd cc
+
+-- the first word of a line ends at its first space, and what stands before it is no reason to refuse the line
+pub word_split : (bs : List ℕ) (i : ℕ) → i < length bs → get_or bs i 0 ≡ 32 → ((k : ℕ) → k < i → not (is_word_byte (get_or bs k 0)) ≡ false)
+    → (words_in bs ≡ take i bs ∷ words_in (drop (suc i) bs)) × (list_all is_line_byte bs ≡ list_all is_line_byte (drop (suc i) bs))
+word_split [] i lt here before = absurd (omega arith)
+word_split (b ∷ bs) zero lt here before =
+    let space : is_line_byte b ≡ true = ap is_line_byte here in
+    (slice_split-cons_yes (λ c. eqb c 32) b bs (eq-eqb b 32 here), ap (λ (t : Bool). t && list_all is_line_byte bs) space)
+word_split (b ∷ bs) (suc i) lt here before =
+    let word : is_word_byte b ≡ true = not-false (is_word_byte b) (before 0 (omega arith)) in
+    let rest = word_split bs i (omega arith) here (λ k below. before (suc k) (omega arith)) in
+    let line : is_line_byte b ≡ true = line_byte b word in
+    let other : eqb b 32 ≡ false = not-true (eqb b 32) (no_space b word) in
+    (slice_split-cons_no (λ c. eqb c 32) b bs other ∙ ap (onto_first b) rest.0, ap (λ (t : Bool). t && list_all is_line_byte bs) line ∙ rest.1)
+
+words_from_none : (bs : List ℕ) → length bs ≤ position_or_len (λ b. not (is_word_byte b)) bs → list_all is_word_byte bs ≡ true
+words_from_none [] h = refl
+words_from_none (b ∷ bs) h =
+    elim (cases_Bool (is_word_byte b)) [
+      | inl e ↦
+          let rest : length bs ≤ position_or_len (λ c. not (is_word_byte c)) bs = omega (arith, rw e at h) in
+          and_from _ _ e (words_from_none bs rest)
+      | inr e ↦ absurd (omega (arith, rw e at h))
+    ]
+
+-- where each byte stands in a word, the line is one word
+pub one_word : (bs : List ℕ) → position (λ b. not (is_word_byte b)) bs ≡ None → (words_in bs ≡ bs ∷ []) × (list_all is_line_byte bs ≡ true)
+one_word bs e =
+    let n : ℕ = position_or_len (λ b. not (is_word_byte b)) bs in
+    let word = words_from_none bs (ltb-false n (length bs) (none_parts n (ltb n (length bs)) e)) in
+    (split_alone 32 bs (list_all-weaker is_word_byte (λ b. not (eqb b 32)) no_space bs word), list_all-weaker is_word_byte is_line_byte line_byte bs word)
+
+bad_byte : (b : ℕ) → not (is_word_byte b) ≡ true → (b ≡ 32 → ⊥) → is_line_byte b ≡ false
+bad_byte b h other = grind (arith, nat_tests, h)
+
+-- a byte that stands in no word, and is no space
+pub bad_line : (bs : List ℕ) (i : ℕ) → i < length bs → not (is_word_byte (get_or bs i 0)) ≡ true → (get_or bs i 0 ≡ 32 → ⊥) → list_all is_line_byte bs ≡ false
+bad_line bs i lt h other = list_all_at is_line_byte bs i 0 lt (bad_byte (get_or bs i 0) h other)
+
+-- one more word, of those that are left
+pub word_put : (before now : List (Bor (List ℕ))) (word : Bor (List ℕ)) (rest : List ℕ) (i : ℕ) (whole : List (List ℕ))
+    → words_in rest ≡ take i rest ∷ words_in (drop (suc i) rest) → word.now ≡ take i rest → now ≡ before ++ word ∷ []
+    → map (λ w. w.now) before ++ words_in rest ≡ whole
+    → map (λ w. w.now) now ++ words_in (take (length rest - (i + 1)) (drop (i + 1) rest)) ≡ whole
+word_put before now word rest i whole at is put so =
+    let next : suc i ≡ i + 1 = omega arith in
+    let cut : drop (suc i) rest ≡ take (length rest - (i + 1)) (drop (i + 1) rest) = ap (λ (n : ℕ). drop n rest) next ∙ sym (rest_is rest (i + 1)) in
+    let after : List (List ℕ) = words_in (take (length rest - (i + 1)) (drop (i + 1) rest)) in
+    let fronts : List (List ℕ) = map (λ (w : Bor (List ℕ)). w.now) before in
+    ap (λ (ws : List (Bor (List ℕ))). map (λ (w : Bor (List ℕ)). w.now) ws ++ after) put
+    ∙ ap (λ (ws : List (List ℕ)). ws ++ after) (map_push (λ (w : Bor (List ℕ)). w.now) before word)
+    ∙ append_assoc fronts (word.now ∷ []) after
+    ∙ ap (λ (w : List ℕ). fronts ++ w ∷ after) is
+    ∙ ap (λ (r : List ℕ). fronts ++ take i rest ∷ words_in r) (sym cut)
+    ∙ ap (λ (ws : List (List ℕ)). fronts ++ ws) (sym at)
+    ∙ so
+
+-- the bytes that are left decide
+pub bytes_left : (rest body : List ℕ) (i : ℕ) → list_all is_line_byte rest ≡ list_all is_line_byte (drop (suc i) rest) → list_all is_line_byte body ≡ list_all is_line_byte rest
+    → list_all is_line_byte body ≡ list_all is_line_byte (take (length rest - (i + 1)) (drop (i + 1) rest))
+bytes_left rest body i step so =
+    let next : suc i ≡ i + 1 = omega arith in
+    let cut : drop (suc i) rest ≡ take (length rest - (i + 1)) (drop (i + 1) rest) = ap (λ (n : ℕ). drop n rest) next ∙ sym (rest_is rest (i + 1)) in
+    so ∙ step ∙ ap (list_all is_line_byte) cut
+
+-- the last word
+pub last_word_put : (before now : List (Bor (List ℕ))) (word : Bor (List ℕ)) (whole : List (List ℕ))
+    → words_in word.now ≡ word.now ∷ [] → now ≡ before ++ word ∷ []
+    → map (λ w. w.now) before ++ words_in word.now ≡ whole
+    → map (λ w. w.now) now ≡ whole
+last_word_put before now word whole at put so =
+    let fronts : List (List ℕ) = map (λ (w : Bor (List ℕ)). w.now) before in
+    ap (λ (ws : List (Bor (List ℕ))). map (λ (w : Bor (List ℕ)). w.now) ws) put
+    ∙ map_push (λ (w : Bor (List ℕ)). w.now) before word
+    ∙ ap (λ (ws : List (List ℕ)). fronts ++ ws) (sym at)
+    ∙ so
+
+-- why words were not split
+pub split_refused : (row : Row) (w : LineWhy) → (w ≡ why.Memory) ⊎ ((w ≡ why.Byte) × (list_all is_line_byte row.body ≡ false)) → ReadsWords w (words_at row)
+unfolding words_at
+split_refused row w (inl memory) = rw memory tt
+split_refused row w (inr byte) = let bad = byte.1 in rw byte.0 (rw bad refl)
+
 feedless : (words : List (List ℕ)) → AreWords words → lacks 10 (join_with_byte 32 words) ≡ true
 feedless [] h = absurd h
 feedless (word ∷ words) h = list_all-weaker is_line_byte (λ b. not (eqb b 10)) no_feed (join_with_byte 32 (word ∷ words)) (line_bytes (word ∷ words) h)
@@ -145,12 +224,6 @@ rows_again [] h = refl
 rows_again (words ∷ lines) h =
     let regrouped : text_of (words ∷ lines) ≡ join_with_byte 32 words ++ 10 ∷ text_of lines = append_assoc (join_with_byte 32 words) (10 ∷ []) (text_of lines) in
     ap rows_of regrouped ∙ rows_front (join_with_byte 32 words) (text_of lines) (feedless words h.0) ∙ ap (λ (rows : List Row). words_row words ∷ rows) (rows_again lines h.1)
-
-take_whole : (bs : List ℕ) (n : ℕ) → n ≡ length bs → take n bs ≡ bs
-take_whole bs n e = rw e (take-length bs)
-
-rest_is : (text : List ℕ) (n : ℕ) → take (length text - n) (drop n text) ≡ drop n text
-rest_is text n = take_whole (drop n text) (length text - n) (sym (length-drop n text))
 
 -- the same, as a slice is cut
 pub cut_split : (text : List ℕ) (i : ℕ) → i < length text → get_or text i 0 ≡ 10 → ((k : ℕ) → k < i → eqb (get_or text k 0) 10 ≡ false)

@@ -1,9 +1,9 @@
 -- Lists that are split where a byte stands, and joined by it.
-use Rattle.std.proofs.Common.{◌≡◌, ℕ, List, [], ◌∷◌, ◌++◌, Bool, true, false, ◌&&◌, not, eqb, inl, inr, subst, refl, sym, ap, ◌∙◌}
-use Rattle.std.specs.List.{AllByRecursion, flat_map, join_with_byte, list_all, slice_split, onto_first}
+use Rattle.std.proofs.Common.{◌≡◌, ℕ, ◌-◌, ◌≤◌, List, [], ◌∷◌, ◌++◌, length, take, drop, Bool, true, false, cond, ◌&&◌, not, eqb, Some, None, inl, inr, subst, refl, sym, ap, ◌∙◌, arith}
+use Rattle.std.specs.List.{AllByRecursion, flat_map, join_with_byte, list_all, position_or_len, slice_split, onto_first}
 use Rattle.std.specs.Str.{IsAscii}
 use Rattle.std.proofs.lemmas.Bool.{and_parts, not-true, eq-eqb, and_from, cases_Bool, not_from_false}
-use Rattle.std.proofs.lemmas.List.{append-nil}
+use Rattle.std.proofs.lemmas.List.{append-nil, length-drop, take_rest}
 use Rattle.std.proofs.lemmas.List.Folds.{list_all-append}
 use Rattle.std.proofs.lemmas.List.Splits.{slice_split-cons_yes, slice_split-cons_no}
 use Rattle.std.proofs.lemmas.Str.{IsAscii-append}
@@ -89,3 +89,22 @@ split_all p c (b ∷ bs) h =
       | inl same ↦ subst (IsParts p c) (sym (slice_split-cons_yes (λ x. eqb x c) b bs same)) (new_part p c (slice_split (λ x. eqb x c) bs) rest)
       | inr other ↦ subst (IsParts p c) (sym (slice_split-cons_no (λ x. eqb x c) b bs other)) (first_part p c b parts.0 other (slice_split (λ x. eqb x c) bs) rest)
     ]
+
+-- where no place has the byte, the list lacks it
+pub lacks_from_none : (c : ℕ) (bs : List ℕ) → length bs ≤ position_or_len (λ b. eqb b c) bs → lacks c bs ≡ true
+lacks_from_none c [] h = refl
+lacks_from_none c (b ∷ bs) h =
+    elim (cases_Bool (eqb b c)) [
+      | inl e ↦ absurd (omega (arith, rw e at h))
+      | inr e ↦
+          let rest : length bs ≤ position_or_len (λ x. eqb x c) bs = omega (arith, rw e at h) in
+          and_from _ _ (not_from_false (eqb b c) e) (lacks_from_none c bs rest)
+    ]
+
+pub none_parts : (n : ℕ) (t : Bool) → cond t (Some n) None ≡ None → t ≡ false
+none_parts n true e = absurd cc
+none_parts n false e = refl
+
+-- what stands behind a place is no longer than the list
+pub rest_within : (bs : List ℕ) (i n : ℕ) → length bs ≤ n → length (take (length bs - i) (drop i bs)) ≤ n
+rest_within bs i n h = omega (arith, ap length (take_rest bs i), length-drop i bs)

@@ -7,7 +7,7 @@ mod numbers;
 mod print;
 mod words;
 
-pub use lines::{Line, LineWhy, lines_and_text, split_line, words_of};
+pub use lines::{Line, LineWhy, lines_and_text, read_words, split_line, words_of};
 pub use numbers::{address, number};
 pub use print::{
     put, put_hex, put_line, put_number, put_path, put_spaced, put_spaced_number, put_word,

@@ -1,10 +1,10 @@
 //! A text as lines, and a line as words.
 
-ghost use Rattle.std.specs.Prelude.{◌≡◌, ◌==◌, ◌∷◌, ◌<◌, IfOk, List, ℕ, length, map, position, Ok, MatchResult};
+ghost use Rattle.std.specs.Prelude.{◌≡◌, ◌==◌, ◌∷◌, ◌++◌, ◌<◌, ◌⊎◌, IfErr, IfOk, OnOk, List, ℕ, length, map, not, position, true, false, Ok, MatchResult};
 ghost use Rattle.std.specs.List.{AllByRecursion, flat_map, list_all};
-ghost use Rattle.text_words.specs.Lines.{row_of, rows_of, is_line_byte, has_bytes, words_in, words_at, AreWords, words_row, ReadsWords, row_bytes, text_of};
+ghost use Rattle.text_words.specs.Lines.{row_of, rows_of, is_line_byte, is_word_byte, has_bytes, words_in, words_at, AreWords, words_row, ReadsWords, row_bytes, text_of};
 
-use std::alloc::{AllocError, Global};
+use std::alloc::{AllocError, AllocFailed, Global};
 use thiserror::Error;
 
 /// A line of a text: its bytes without the line feed, and whether it ends with one. Only the last
@@ -32,6 +32,16 @@ pub enum LineWhy {
     /// Memory ran out.
     #[error("memory")]
     Memory,
+}
+
+impl<T: Drop> From<AllocFailed<T>> for LineWhy {
+    ghost use Rattle.text_words.specs.declared.lines.LineWhy.TheVariants.{Memory};
+
+    ghost from_gives = { λ _ e. e ≡ Memory };
+
+    fn from(_: AllocFailed<T>) -> LineWhy {
+        LineWhy::Memory
+    }
 }
 
 impl From<AllocError> for LineWhy {
@@ -75,18 +85,29 @@ pub fn split_line(text: &[u8]) -> (Line<'_>, &[u8])
     }
 }
 
-/// Whether each byte is one of space to `~`.
-fn are_line_bytes(body: &[u8]) -> bool
-    ensures { result ≡ list_all is_line_byte body.now }
+/// The place of the first byte that is not one of `!` to `~`, and so stands in no word.
+fn word_end(text: &[u8]) -> Option<usize>
+    ensures { result ≡ position (λ b. not (is_word_byte b)) text.now }
 {
-    body.iter().all(|b| b' ' <= *b && *b <= b'~')
+    text.iter().position(|b| !(b'!' <= *b && *b <= b'~'))
 }
 
-/// What stands between spaces.
-fn split_words(alloc: Global, body: &[u8]) -> Result<Vec<&[u8]>, AllocError>
-    ensures { IfOk result (λ words. map (λ word. word.now) words.items ≡ words_in body.now) }
+/// Appends what stands between spaces, unless a byte is not one of space to `~`.
+fn split_words<'a>(words: &mut Vec<&'a [u8]>, body: &'a [u8]) -> Result<(), LineWhy>
+    ensures bytes { OnOk result (list_all is_line_byte body.now ≡ true) }
+    ensures words { OnOk result (map (λ word. word.now) words.new.items ≡ map (λ word. word.now) words.old.items ++ words_in body.now) }
+    ensures err { IfErr result (λ why. (why ≡ LineWhy.Memory) ⊎ ((why ≡ LineWhy.Byte) × (list_all is_line_byte body.now ≡ false))) }
 {
-    body.split(|b| *b == b' ').collect(alloc)
+    let mut rest = body;
+    while let Some(end) = word_end(rest) {
+        if rest[end] != b' ' {
+            return Err(LineWhy::Byte);
+        }
+        words.push(&rest[..end])?;
+        rest = &rest[end + 1..];
+    }
+    words.push(rest)?;
+    Ok(())
 }
 
 /// Whether each word has a byte.
@@ -96,21 +117,29 @@ fn have_bytes(words: &[&[u8]]) -> bool
     words.iter().all(|word| !word.is_empty())
 }
 
-/// The words of a line, or the first reason why it has none.
+/// Puts the words of a line into a list, in place of what it has; or gives the first reason why it is
+/// no line of words. One list for all lines of a text takes memory for the most words of a line alone.
 #[tactic(auto, using(crate::proofs::Bytes::seen_all), unfolding(crate::specs::Lines::words_at))]
-fn checked_words(alloc: Global, line: Line<'_>) -> Result<Vec<&[u8]>, LineWhy>
-    ensures { MatchResult result (λ words. words_at (row_of line.entry) ≡ Ok (map (λ word. word.now) words.items)) (λ why. ReadsWords why (words_at (row_of line.entry))) }
+pub fn read_words<'a>(words: &mut Vec<&'a [u8]>, line: Line<'a>) -> Result<(), LineWhy>
+    ensures { MatchResult result (λ _. words_at (row_of line.entry) ≡ Ok (map (λ word. word.now) words.new.items)) (λ why. ReadsWords why (words_at (row_of line.entry))) }
 {
-    if !are_line_bytes(line.body) {
-        return Err(LineWhy::Byte);
-    }
-    let words = split_words(alloc, line.body)?;
-    if !have_bytes(&words) {
+    words.clear();
+    split_words(words, line.body)?;
+    if !have_bytes(words.as_slice()) {
         return Err(LineWhy::Space);
     }
     if !line.ended {
         return Err(LineWhy::End);
     }
+    Ok(())
+}
+
+/// The words of a line, or the first reason why it has none.
+fn checked_words(alloc: Global, line: Line<'_>) -> Result<Vec<&[u8]>, LineWhy>
+    ensures { MatchResult result (λ words. words_at (row_of line.entry) ≡ Ok (map (λ word. word.now) words.items)) (λ why. ReadsWords why (words_at (row_of line.entry))) }
+{
+    let mut words = Vec::new(alloc);
+    read_words(&mut words, line)?;
     Ok(words)
 }
 

@@ -1,9 +1,10 @@
 //! Reading numbers.
 
-ghost use Rattle.std.specs.Prelude.{◌≡◌, ◌<◌, ◌^◌, ℕ, IfSome, Option, Some, None};
+ghost use Rattle.std.specs.Prelude.{◌≡◌, ◌<◌, ◌≤◌, ◌^◌, ℕ, IfSome, Option, Some, None, length, true};
 ghost use Rattle.std.specs.Char.{is_ascii_digit};
 ghost use Rattle.std.specs.Fmt.{decimal};
 ghost use Rattle.std.specs.List.{list_all};
+ghost use Rattle.std.specs.Str.Parse.{digits_value};
 ghost use Rattle.text_words.specs.Numbers.{is_decimal, number_below, number_of, address_of};
 
 /// Whether each byte is a decimal digit.
@@ -23,6 +24,19 @@ fn is_decimal(word: &[u8]) -> bool
     }
 }
 
+/// The value of up to nine digits, which every `u64` can hold.
+fn short_value(digits: &[u8]) -> u64
+    requires short { length digits.now ≤ 9 }
+    requires digits { list_all is_ascii_digit digits.now ≡ true }
+    ensures { result ≡ digits_value 10 digits.now }
+{
+    let mut value = 0;
+    for digit in digits {
+        value = value * 10 + u64::from(*digit - b'0');
+    }
+    value
+}
+
 /// The number below the limit that a word is, if it is one.
 #[tactic(auto, unfolding(crate::specs::Numbers::number_below))]
 fn number_below(word: &[u8], limit: u64) -> Option<u64>
@@ -30,6 +44,10 @@ fn number_below(word: &[u8], limit: u64) -> Option<u64>
 {
     if !is_decimal(word) {
         return None;
+    }
+    if word.len() <= 9 {
+        let value = short_value(word);
+        return (value < limit).then_some(value);
     }
     let Ok(text) = str::from_utf8(word) else {
         return None;

@@ -1,16 +1,21 @@
 //! Putting a text together in one buffer. Where memory runs out, what a call appended so far may
 //! stand at the buffer's end.
 
-ghost use Rattle.std.specs.Prelude.{◌≡◌, ◌++◌, ◌∷◌, [], OnOk, OnErr, List, ℕ, map};
+ghost use Rattle.std.specs.Prelude.{◌≡◌, ◌+◌, ◌*◌, ◌<◌, ◌≤◌, ◌++◌, ◌∷◌, [], OnOk, OnErr, List, ℕ, map, length, slice_index, vec_len, vec_capacity};
 ghost use Rattle.std.specs.List.{flat_map, join_with_byte};
 ghost use Rattle.std.specs.Fmt.{decimal};
-ghost use Rattle.hex.specs.Hex.{encode_lower};
+ghost use Rattle.hex.specs.Hex.{encode_lower, lower_digits};
 ghost use Rattle.text_words.specs.Lines.{line_of, spaced};
 ghost use Rattle.text_words.specs.Words.{path_word};
 
-use itoa::Buffer;
 use std::alloc::{AllocError, Global};
 use value_types::{Path, Text};
+
+/// The most bytes that are put into hex without a text of their own; for more, it costs less to have one.
+const FEW_BYTES: usize = 64;
+
+/// The most digits of a number of 64 bits.
+const MOST_DIGITS: usize = 20;
 
 /// Appends some bytes, all or none of them.
 pub fn put(out: &mut Vec<u8>, bytes: &[u8]) -> Result<(), AllocError>
@@ -24,8 +29,40 @@ pub fn put(out: &mut Vec<u8>, bytes: &[u8]) -> Result<(), AllocError>
 pub fn put_word(out: &mut Vec<u8>, word: &[u8]) -> Result<(), AllocError>
     ensures { OnOk result (out.new.items ≡ out.old.items ++ 32 ∷ word.now) }
 {
-    put(out, b" ")?;
+    out.push(b' ')?;
     put(out, word)
+}
+
+/// Appends a number below a hundred in decimal digits, for which there is room.
+#[tactic(auto, using(crate::proofs::Printing::one_digit, crate::proofs::Printing::two_digits))]
+fn put_two(out: &mut Vec<u8>, number: u64)
+    requires small { number < 100 }
+    requires room { vec_len out.old + length (decimal number) ≤ vec_capacity out.old }
+    ensures written { out.new.items ≡ out.old.items ++ decimal number }
+    ensures len { vec_len out.new ≡ vec_len out.old + length (decimal number) }
+    ensures capacity { vec_capacity out.new ≡ vec_capacity out.old }
+{
+    if number < 10 {
+        out.push_reserved(b'0' + number as u8);
+    } else {
+        out.push_reserved(b'0' + (number / 10) as u8);
+        out.push_reserved(b'0' + (number % 10) as u8);
+    }
+}
+
+/// Appends a number in decimal digits, for which there is room: two digits at a time.
+fn put_digits(out: &mut Vec<u8>, number: u64)
+    requires { vec_len out.old + length (decimal number) ≤ vec_capacity out.old }
+    ensures written { out.new.items ≡ out.old.items ++ decimal number }
+    ensures len { vec_len out.new ≡ vec_len out.old + length (decimal number) }
+    ensures capacity { vec_capacity out.new ≡ vec_capacity out.old }
+{
+    if number < 100 {
+        return put_two(out, number);
+    }
+    put_digits(out, number / 100);
+    out.push_reserved(b'0' + (number / 10 % 10) as u8);
+    out.push_reserved(b'0' + (number % 10) as u8);
 }
 
 /// Appends a number in decimal digits, or nothing.
@@ -33,24 +70,66 @@ pub fn put_number(out: &mut Vec<u8>, number: u64) -> Result<(), AllocError>
     ensures ok { OnOk result (out.new.items ≡ out.old.items ++ decimal number) }
     ensures err { OnErr result (out.new.items ≡ out.old.items) }
 {
-    let mut buffer = Buffer::new();
-    put(out, buffer.format(number).as_bytes())
+    out.reserve(MOST_DIGITS)?;
+    put_digits(out, number);
+    Ok(())
 }
 
 /// Appends a space and a number in decimal digits.
 pub fn put_spaced_number(out: &mut Vec<u8>, number: u64) -> Result<(), AllocError>
     ensures { OnOk result (out.new.items ≡ out.old.items ++ 32 ∷ decimal number) }
 {
-    put(out, b" ")?;
+    out.push(b' ')?;
     put_number(out, number)
+}
+
+/// The digit of hex for a number below sixteen.
+fn hex_digit(number: u8) -> u8
+    requires { number < 16 }
+    ensures { result ≡ slice_index lower_digits number }
+{
+    b"0123456789abcdef"[number as usize]
+}
+
+/// Appends bytes in hex, for which there is room.
+fn put_hex_digits(out: &mut Vec<u8>, bytes: &[u8])
+    requires { vec_len out.old + 2 * length bytes.now ≤ vec_capacity out.old }
+    ensures { out.new.items ≡ out.old.items ++ encode_lower bytes.now }
+{
+    for byte in bytes {
+        out.push_reserved(hex_digit(*byte / 16));
+        out.push_reserved(hex_digit(*byte % 16));
+    }
+}
+
+/// Appends a space and a few bytes in hex, digit by digit.
+fn put_few(out: &mut Vec<u8>, bytes: &[u8]) -> Result<(), AllocError>
+    ensures { OnOk result (out.new.items ≡ out.old.items ++ 32 ∷ encode_lower bytes.now) }
+{
+    out.reserve(2 * bytes.len() + 1)?;
+    out.push_reserved(b' ');
+    put_hex_digits(out, bytes);
+    Ok(())
+}
+
+/// Appends a space and many bytes in hex, by a text of their own.
+#[inline(never)]
+fn put_many(alloc: Global, out: &mut Vec<u8>, bytes: &[u8]) -> Result<(), AllocError>
+    ensures { OnOk result (out.new.items ≡ out.old.items ++ 32 ∷ encode_lower bytes.now) }
+{
+    let text = hex::encode(alloc, bytes)?;
+    put_word(out, text.as_bytes())
 }
 
 /// Appends a space and bytes in hex.
 pub fn put_hex(alloc: Global, out: &mut Vec<u8>, bytes: &[u8]) -> Result<(), AllocError>
     ensures { OnOk result (out.new.items ≡ out.old.items ++ 32 ∷ encode_lower bytes.now) }
 {
-    let text = hex::encode(alloc, bytes)?;
-    put_word(out, text.as_bytes())
+    if bytes.len() <= FEW_BYTES {
+        put_few(out, bytes)
+    } else {
+        put_many(alloc, out, bytes)
+    }
 }
 
 /// Appends a slash before each part.
