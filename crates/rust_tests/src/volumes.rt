@@ -351,7 +351,8 @@ fn others_act_during_a_miss(rt: HostRuntime) -> Result<(), Fail> {
 fn shared(alloc: Global) -> Result<SharedTower<Ram>, Fail>
     ensures lower { IfOk result (λ s. IsUpper (tree_in s.began.engine) 1) }
 {
-    match SharedTower::new(alloc, tower(alloc)?) {
+    let tower = tower(alloc)?;
+    match SharedTower::new(alloc, tower) {
         Ok(shared) => Ok(shared),
         Err(_tower) => Err(Fail::from(AllocError)),
     }
