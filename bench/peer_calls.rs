@@ -91,12 +91,15 @@ fn main() {
             let ready = ready.clone();
             thread::spawn(move || {
                 ready.wait();
+                ready.wait();
                 calls(&files, client, count / clients, pages);
             })
         })
         .collect();
+    // All are there before the clock starts, and none begins before it.
     ready.wait();
     let began = Instant::now();
+    ready.wait();
     for thread in threads {
         thread.join().unwrap();
     }
