@@ -1,6 +1,7 @@
 //! What a client has between two lines of a script.
 
 use crate::objects::Objects;
+use link_lossy::Carrier;
 use vmm_space::Space;
 
 /// The state of a client.
@@ -12,4 +13,6 @@ pub struct ClientState {
     pub objects: Objects,
     /// Its address space: the regions that it has mapped.
     pub regions: Space,
+    /// What carries its calls to other machines, if they may be lost on the way.
+    pub carrier: Option<Carrier>,
 }

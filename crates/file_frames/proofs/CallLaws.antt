@@ -90,7 +90,7 @@ flagged numbers page_size subcontract tag (FileCall.Access ops.Open) = record { 
 flagged numbers page_size subcontract tag FileCall.Sync = record { low = omega arith; one_object = refl; body = refl }
 
 -- A CALL WITHIN ONE PAGE HAS A FRAME
-pub call_frame : (numbers : Ops) (page_size subcontract tag : ℕ) (call : FileCall) → Sized page_size → 1 ≤ subcontract → subcontract ≤ 4 → tag < 2 ^ 32 →
+pub call_frame : (numbers : Ops) (page_size subcontract tag : ℕ) (call : FileCall) → Sized page_size → 1 ≤ subcontract → subcontract ≤ 5 → tag < 2 ^ 32 →
     number_of numbers (operation_of call) < 2 ^ 16 → IsOnePage page_size call → IsFrame numbers (frame_of_call numbers page_size subcontract tag call)
 call_frame numbers page_size subcontract tag call sized low high tagged numbered one =
     let room = has_room page_size call sized one in

@@ -21,7 +21,7 @@ pub received_again : (ops : Ops) (page_size : ℕ) (r : Received) → IsPageSize
 received_again ops page_size r size is = call_again ops page_size r.subcontract r.tag r.call (page_sized page_size size) is.call
 
 -- a call within one page, of an object of a frame, can be read
-pub can_be_read : (page_size subcontract tag : ℕ) (call : FileCall) → (1 ≤ subcontract) × (subcontract ≤ 4) → tag < 2 ^ 32 → IsOnePage page_size call → IsReceived page_size (record { subcontract = subcontract; tag = tag; call = call })
+pub can_be_read : (page_size subcontract tag : ℕ) (call : FileCall) → (1 ≤ subcontract) × (subcontract ≤ 5) → tag < 2 ^ 32 → IsOnePage page_size call → IsReceived page_size (record { subcontract = subcontract; tag = tag; call = call })
 can_be_read page_size subcontract tag call known tagged one = record { subcontract_low = known.0; subcontract_high = known.1; tag = tagged; call = one }
 
 -- two calls of one frame are one

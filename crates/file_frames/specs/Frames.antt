@@ -44,6 +44,6 @@ received_bytes ops page_size r = call_bytes ops page_size r.subcontract r.tag r.
 -- what can be read: the subcontract is one, the tag has 32 bits, and the call is within one page
 pub record IsReceived (page_size : ℕ) (r : Received) : Type 0 where
   pub subcontract_low : 1 ≤ r.subcontract
-  pub subcontract_high : r.subcontract ≤ 4
+  pub subcontract_high : r.subcontract ≤ 5
   pub tag : r.tag < 2 ^ 32
   pub call : IsOnePage page_size r.call

@@ -38,7 +38,7 @@ impl Received {
         }
     }
 
-    /// The subcontract of the object, from 1 to 4.
+    /// The subcontract of the object, from 1 to 5.
     pub fn subcontract(&self) -> u16
         ensures { result ≡ self.now.subcontract }
     {

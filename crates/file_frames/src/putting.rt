@@ -21,7 +21,7 @@ pub(crate) fn head_of(
     call: &FileCall,
 ) -> Head
     requires size { IsPageSize page_size }
-    requires subcontract { (1 ≤ subcontract) × (subcontract ≤ 4) }
+    requires subcontract { (1 ≤ subcontract) × (subcontract ≤ 5) }
     requires call { IsOnePage page_size call.now }
     ensures is { result ≡ head_of_call ops.now page_size subcontract tag call.now }
     ensures frame { IsFrame ops.now (frame_of_call ops.now page_size subcontract tag call.now) }
@@ -48,7 +48,7 @@ pub fn put_call(
     buf: &mut Buf,
 ) -> Result<(), AllocError>
     requires size { IsPageSize page_size }
-    requires subcontract { (1 ≤ subcontract) × (subcontract ≤ 4) }
+    requires subcontract { (1 ≤ subcontract) × (subcontract ≤ 5) }
     requires call { IsOnePage page_size call.now }
     requires few { length buf.old.bytes < 2 ^ 31 }
     ensures ok { OnOk result

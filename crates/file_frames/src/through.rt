@@ -25,7 +25,7 @@ pub fn through_frame(
     buf: &mut Buf,
 ) -> Result<Received, AllocError>
     requires size { IsPageSize page_size }
-    requires subcontract { (1 ≤ subcontract) × (subcontract ≤ 4) }
+    requires subcontract { (1 ≤ subcontract) × (subcontract ≤ 5) }
     requires call { IsOnePage page_size call.now }
     ensures read { IfOk result (λ read. read ≡ record { subcontract = subcontract; tag = tag; call = call.now }) }
     ensures framed { OnOk result (buf.new.bytes ≡ call_bytes ops.now page_size subcontract tag call.now) }

@@ -18,7 +18,7 @@ use std::snapshot::Snapshot;
 use std::sync::Wait;
 
 /// How many times a seat looks at the serving number before it sleeps between its looks.
-const LOOKS: u32 = 100;
+const LOOKS: u32 = 400;
 
 /// A lock round a value that keeps a list. Callers take turns, in the order of their tickets. Contracts see which
 /// lock it is, its whole range of callers, and the value that it began with, with that value's list and fixed part.

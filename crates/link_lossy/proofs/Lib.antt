@@ -6,3 +6,4 @@ pub mod Losing
 pub mod Trying
 pub mod Ending
 pub mod Turns
+pub mod Carrying

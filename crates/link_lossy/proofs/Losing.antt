@@ -29,7 +29,7 @@ unfolding LoseAll
 one_more tries before mid after earlier lost = rw add-one (mid, earlier, lost)
 
 -- what a packet's fate is, by its number
-fate : (loses : ℕ → Bool) (lost : Bool) (before after : LinkSeen) → before.loses ≡ Some loses → Sends lost before after → lost ≡ loses (before.packets + 1)
+pub fate : (loses : ℕ → Bool) (lost : Bool) (before after : LinkSeen) → before.loses ≡ Some loses → Sends lost before after → lost ≡ loses (before.packets + 1)
 fate loses lost before after is s =
     let told : IfSome (Some loses) (λ l. lost ≡ l after.packets) = subst (λ (o : Option (ℕ → Bool)). IfSome o (λ l. lost ≡ l after.packets)) is s.told in
     told ∙ ap loses s.packets
@@ -44,7 +44,7 @@ pub record Told (loses : ℕ → Bool) (tries : ℕ) (before after : LinkSeen) :
 by_request : (loses : ℕ → Bool) (n : ℕ) → true ≡ loses n → (sent_by loses n ≡ 1) × (is_lost loses n ≡ true)
 by_request loses n e = (rw (← e) refl, rw (← e) refl)
 
-by_reply : (loses : ℕ → Bool) (n : ℕ) (second : Bool) → false ≡ loses n → second ≡ loses (n + 1) → (sent_by loses n ≡ 2) × (is_lost loses n ≡ second)
+pub by_reply : (loses : ℕ → Bool) (n : ℕ) (second : Bool) → false ≡ loses n → second ≡ loses (n + 1) → (sent_by loses n ≡ 2) × (is_lost loses n ≡ second)
 by_reply loses n second e f = (rw (← e) refl, rw (← e, ← f) refl)
 
 pub told : (loses : ℕ → Bool) (tries : ℕ) (before after : LinkSeen) → before.loses ≡ Some loses → LoseAll tries before after → Told loses tries before after

@@ -151,7 +151,7 @@ shown_of_answer number caller (answers.Revoked life) place bytes out r e long =
     let is : record { number = number; caller = caller; kind = 3; value = life; disk = 0; place = place; rest = [] } ≡ r = cc in
     ap (λ (x : ReturnedSeen). shown_by x out) (sym is)
 
-shown_so : (number caller : ℕ) (answer : Result Served ServeErr) (bytes out : List ℕ) (r : ReturnedSeen) → reply_of number caller answer bytes ≡ Some r → length bytes ≡ length out → shown_by r out ≡ shown answer bytes out
+pub shown_so : (number caller : ℕ) (answer : Result Served ServeErr) (bytes out : List ℕ) (r : ReturnedSeen) → reply_of number caller answer bytes ≡ Some r → length bytes ≡ length out → shown_by r out ≡ shown answer bytes out
 shown_so number caller (Ok served) bytes out r e long = shown_of_answer number caller served.answer served.place bytes out r e long
 shown_so number caller (Err (refusals.StoreFault disk count)) bytes out r e long = let is : record { number = number; caller = caller; kind = 4; value = count; disk = disk; place = 0; rest = [] } ≡ r = cc in ap (λ (x : ReturnedSeen). shown_by x out) (sym is)
 shown_so number caller (Err refusals.TrailFull) bytes out r e long = let is : record { number = number; caller = caller; kind = 5; value = 0; disk = 0; place = 0; rest = [] } ≡ r = cc in ap (λ (x : ReturnedSeen). shown_by x out) (sym is)

@@ -7,3 +7,4 @@ pub mod Services
 pub mod Ends
 pub mod Attempts
 pub mod Calls
+pub mod Carriers

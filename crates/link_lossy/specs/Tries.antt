@@ -33,3 +33,9 @@ packets_before loses packets (suc tries) = packets_before loses packets tries + 
 unfoldable pub all_lost : (ℕ → Bool) → ℕ → ℕ → Bool
 all_lost loses packets zero = true
 all_lost loses packets (suc tries) = all_lost loses packets tries && is_lost loses (packets_before loses packets tries + 1)
+
+-- HOW MANY PACKETS there are after a call of at most so many tries, where so many went before: it is tried until its request and its
+-- reply arrive
+unfoldable pub packets_after : (ℕ → Bool) → ℕ → ℕ → ℕ
+packets_after loses packets zero = packets
+packets_after loses packets (suc tries) = if is_lost loses (packets + 1) then packets_after loses (packets + sent_by loses (packets + 1)) tries else packets + 2

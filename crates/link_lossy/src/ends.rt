@@ -37,6 +37,13 @@ impl CallerEnd {
         CallerEnd { caller, next: 0 }
     }
 
+    /// How many numbers it has taken.
+    pub(crate) fn taken(&self) -> u64
+        ensures { result ≡ self.now.next }
+    {
+        self.next
+    }
+
     /// Takes the number of the next call.
     pub(crate) fn take_number(&mut self) -> u64
         requires { self.old.next + 1 < 2 ^ 64 }
@@ -133,6 +140,15 @@ impl ServerEnd {
             room: vec![in alloc; 0; MAX_OUT]?,
             reply,
         })
+    }
+
+    /// Keeps the reply to a call of this number.
+    pub(crate) fn keep_reply(&mut self, number: u64, reply: &Returned<'_>)
+        requires { length reply.now.rest ≤ MAX_OUT }
+        ensures { self.new ≡ record { caller = self.old.caller; last = Some number; reply = reply_bytes reply.now } }
+    {
+        keep(reply, &mut self.reply);
+        self.last = Some(number);
     }
 
     /// Lends the bytes of the reply that it keeps.

@@ -4,6 +4,7 @@
 #![tactic(auto)]
 
 mod calling;
+mod carrier;
 mod ends;
 mod law;
 mod link;
@@ -18,6 +19,7 @@ mod why;
 mod writing;
 
 pub use calling::{TRIES, call};
+pub use carrier::Carrier;
 pub use ends::{CallerEnd, ServerEnd};
 pub use law::{calls_in_turn, test_tells_the_number};
 pub use link::{Link, Lost};

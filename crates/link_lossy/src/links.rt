@@ -43,8 +43,8 @@ impl Link for SureLink {
 /// A link that loses exactly the packets whose number, counted from 1 over both ways, a number divides.
 #[derive(Debug, Drop)]
 pub struct EveryLink {
-    every: u32,
-    given: u64,
+    pub(crate) every: u32,
+    pub(crate) given: u64,
 }
 
 /// Whether a number divides that of a packet, which is not 0.
@@ -58,7 +58,8 @@ fn divides(every: u32, packet: u64) -> bool
 impl EveryLink {
     /// A link that loses the packets whose number `n` divides, and was given none yet. With 0 it loses none.
     pub fn new(n: u32) -> EveryLink
-        ensures { ⟦<EveryLink as Link>⟧.seen result ≡ every_seen n 0 }
+        ensures seen { ⟦<EveryLink as Link>⟧.seen result ≡ every_seen n 0 }
+        ensures is { result ≡ record { every = n; given = 0 } }
     {
         EveryLink { every: n, given: 0 }
     }

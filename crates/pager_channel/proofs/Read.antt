@@ -86,7 +86,7 @@ all_laid bytes fits long =
 
 record Passed (ops : Ops) (h : Head) (zeros : ℕ) (which : Operation) : Type 0 where
   pub subcontract_low : 1 ≤ h.subcontract
-  pub subcontract_high : h.subcontract ≤ 4
+  pub subcontract_high : h.subcontract ≤ 5
   pub flags : h.flags < 16
   pub one_object : is_to_cache h.flags && is_to_file h.flags ≡ false
   pub operation : which_of ops h.flags h.operation ≡ Some which
@@ -103,13 +103,13 @@ passed ops h pad which e =
     let d = bind_ok _ _ which c.2 in
     let f = bind_ok _ _ which d.2 in
     let g = bind_ok _ _ which f.2 in
-    let sub = both (leb 1 h.subcontract) (leb h.subcontract 4) (tested_ok _ _ _ _ a.1) in
+    let sub = both (leb 1 h.subcontract) (leb h.subcontract 5) (tested_ok _ _ _ _ a.1) in
     let flags = both (ltb h.flags 16) (not (is_to_cache h.flags && is_to_file h.flags)) (tested_ok _ _ _ _ b.1) in
     let named = found_ok (which_of ops h.flags h.operation) FrameWhy.Operation 2 c.0 c.1 in
     let same = ok_same c.0 which g.2 in
     record {
       subcontract_low = leb-true 1 h.subcontract sub.0;
-      subcontract_high = leb-true h.subcontract 4 sub.1;
+      subcontract_high = leb-true h.subcontract 5 sub.1;
       flags = less h.flags 16 flags.0;
       one_object = negated (is_to_cache h.flags && is_to_file h.flags) flags.1;
       operation = named ∙ ap Some same;

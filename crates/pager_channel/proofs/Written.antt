@@ -115,7 +115,7 @@ lt-ltb a b h = grind (arith, nat_tests)
 head_passes : (ops : Ops) (h : Head) (which : Operation) → IsHead h → which_of ops h.flags h.operation ≡ Some which → head_tested ops h 0 ≡ Ok which
 unfolding head_tested
 head_passes ops h which fits op =
-    rw (le-leb 1 h.subcontract fits.subcontract_low, le-leb h.subcontract 4 fits.subcontract_high, lt-ltb h.flags 16 fits.flags, fits.one_object, op, le-leb h.size 4096 fits.size, le-leb h.access 2 fits.access) refl
+    rw (le-leb 1 h.subcontract fits.subcontract_low, le-leb h.subcontract 5 fits.subcontract_high, lt-ltb h.flags 16 fits.flags, fits.one_object, op, le-leb h.size 4096 fits.size, le-leb h.access 2 fits.access) refl
 
 rest_passes : (all : ℕ) (h : Head) (many : ℕ) → many ≡ data_size h → rest_tested all h many ≡ Ok tt
 unfolding rest_tested

@@ -23,7 +23,7 @@ frame_bytes h body = first_part h ++ (second_part h ++ body)
 -- what every frame's head is. Its flags name one object
 pub record IsHead (h : Head) : Type 0 where
   pub subcontract_low : 1 ≤ h.subcontract
-  pub subcontract_high : h.subcontract ≤ 4
+  pub subcontract_high : h.subcontract ≤ 5
   pub flags : h.flags < 16
   pub one_object : is_to_cache h.flags && is_to_file h.flags ≡ false
   pub number : h.operation < 2 ^ 16

@@ -46,7 +46,7 @@ pad_at bytes = number_of 2 (drop 22 bytes)
 -- the tests of a head, and of the number where two zeros stand
 unfoldable pub head_tested : Ops → Head → ℕ → Result Operation BadFrame
 head_tested ops h pad = do
-  a ← wants (nat_le 1 h.subcontract && nat_le h.subcontract 4) why.Subcontract 0
+  a ← wants (nat_le 1 h.subcontract && nat_le h.subcontract 5) why.Subcontract 0
   b ← wants (nat_lt h.flags 16 && not (is_to_cache h.flags && is_to_file h.flags)) why.Flags 21
   which ← finds (which_of ops h.flags h.operation) why.Operation 2
   d ← wants (nat_le h.size 4096) why.Size 16

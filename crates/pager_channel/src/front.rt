@@ -10,7 +10,7 @@ use crate::flags::{DATA, has_flag};
 /// highest byte comes first.
 #[derive(Clone, Copy, Debug, PartialEq, Eq)]
 pub struct Head {
-    /// The subcontract of the object, from 1 to 4; 2 in the frames of a channel.
+    /// The subcontract of the object, from 1 to 5; 2 in the frames of a channel.
     pub subcontract: u16,
     /// The number of the operation in the interface of the object.
     pub operation: u16,

@@ -78,7 +78,7 @@ fn test_head(ops: &Ops, head: &Head, pad: u16) -> Result<Operation, BadFrame>
 {
     let subcontract = head.subcontract;
     test(
-        1 <= subcontract && subcontract <= 4,
+        1 <= subcontract && subcontract <= 5,
         FrameWhy::Subcontract,
         0,
     )?;

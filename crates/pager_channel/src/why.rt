@@ -9,7 +9,7 @@ pub enum FrameWhy {
     /// The bytes end within the head or the data.
     #[error("short")]
     Short,
-    /// The subcontract is none of 1 to 4.
+    /// The subcontract is none of 1 to 5.
     #[error("subcontract")]
     Subcontract,
     /// A flag above 8 is set, or the flags name two objects.

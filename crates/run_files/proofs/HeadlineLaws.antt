@@ -40,7 +40,7 @@ left-headline mount closing log f g notices leaves tells =
     }
 
 pub headline-is : Headline
-headline-is mount script before after h said closing lost notices played file f g at to tells =
+headline-is mount loss script before after h said closing lost notices played file f g at to tells =
     let files = played.of.each file f at in
     let leaves = played.leaves file f g at to in
     subst (λ n. IsHeadline mount n (log_of h.logs file) f g (live_of leaves.closed)) files.0 (left-headline mount (slice_get closing file) (log_of h.logs file) f g (get_or played.told file []) leaves tells)

@@ -271,10 +271,10 @@ starts-are end (t ∷ ts) (u ∷ us) back none =
     ap (λ (l : List Logged). l ∷ logs ts) none.0 ∙ ap (λ (ls : List (List Logged)). start_of (log_in u.engine) ∷ ls) (starts-are end ts us back.1 none.1)
 
 -- the run of the files
-pub played-over : (mount : Mount) (script : Script) (before mid after : BaySeen) (towers towers_after : List TowerSeen) (names : NamesSeen) (olds news : List FileSeen) (lost : List StoreKey) (said : List (List Said)) (closing : List Reply)
-    → IsMount mount → IsTaken mount before mid (stores_of mount) (stores_in olds) → (run : IsRunOver mount towers towers_after olds news) → ArePlayed mount script towers towers_after names said closing → AreGiven mount mid after (stores_in news) lost
-    → Played mount script before after (record { logs = logs towers_after; names = names }) said closing lost (all_notices mount run.told)
-played-over mount script before mid after towers towers_after names olds news lost said closing is_mount taken run played given =
+pub played-over : (mount : Mount) (loss : Option ℕ) (script : Script) (before mid after : BaySeen) (towers towers_after : List TowerSeen) (names : NamesSeen) (olds news : List FileSeen) (lost : List StoreKey) (said : List (List Said)) (closing : List Reply)
+    → IsMount mount → IsTaken mount before mid (stores_of mount) (stores_in olds) → (run : IsRunOver mount towers towers_after olds news) → ArePlayed mount loss script towers towers_after names said closing → AreGiven mount mid after (stores_in news) lost
+    → Played mount loss script before after (record { logs = logs towers_after; names = names }) said closing lost (all_notices mount run.told)
+played-over mount loss script before mid after towers towers_after names olds news lost said closing is_mount taken run played given =
     let unwritten = unwritten-opened mount olds towers run.opened in
     record {
       olds = olds;
@@ -287,23 +287,23 @@ played-over mount script before mid after towers towers_after names olds news lo
       stores = are-back mount (length script.clients) towers towers_after olds news closing run played.closed before mid after lost taken given;
       leaves = leaves mount (length script.clients) towers towers_after olds news closing run played.closed;
       files = of-files mount (length script.clients) towers towers_after olds news closing run played.closed (stands-by-first mount is_mount) played.closing_each;
-      fits = subst (λ (ls : List (List Logged)). FitsScript mount script (record { logs = ls; names = unnamed mount }) (record { logs = logs towers_after; names = names }) said closing) (starts-are run.end towers towers_after run.back unwritten) (played.fits (shut-numbered 0 towers_after news run.shut));
+      fits = subst (λ (ls : List (List Logged)). FitsScript mount loss script (record { logs = ls; names = unnamed mount }) (record { logs = logs towers_after; names = names }) said closing) (starts-are run.end towers towers_after run.back unwritten) (played.fits (shut-numbered 0 towers_after news run.shut));
       answered = played.answered;
     }
 
 -- its files are those that were taken
-pub played-olds : (mount : Mount) (script : Script) (before mid after : BaySeen) (towers towers_after : List TowerSeen) (names : NamesSeen) (olds news : List FileSeen) (lost : List StoreKey) (said : List (List Said)) (closing : List Reply)
-    → (is_mount : IsMount mount) → (taken : IsTaken mount before mid (stores_of mount) (stores_in olds)) → (run : IsRunOver mount towers towers_after olds news) → (played : ArePlayed mount script towers towers_after names said closing) → (given : AreGiven mount mid after (stores_in news) lost)
-    → (played-over mount script before mid after towers towers_after names olds news lost said closing is_mount taken run played given).olds ≡ olds
+pub played-olds : (mount : Mount) (loss : Option ℕ) (script : Script) (before mid after : BaySeen) (towers towers_after : List TowerSeen) (names : NamesSeen) (olds news : List FileSeen) (lost : List StoreKey) (said : List (List Said)) (closing : List Reply)
+    → (is_mount : IsMount mount) → (taken : IsTaken mount before mid (stores_of mount) (stores_in olds)) → (run : IsRunOver mount towers towers_after olds news) → (played : ArePlayed mount loss script towers towers_after names said closing) → (given : AreGiven mount mid after (stores_in news) lost)
+    → (played-over mount loss script before mid after towers towers_after names olds news lost said closing is_mount taken run played given).olds ≡ olds
 unfolding played-over
-played-olds mount script before mid after towers towers_after names olds news lost said closing is_mount taken run played given = refl
+played-olds mount loss script before mid after towers towers_after names olds news lost said closing is_mount taken run played given = refl
 
 -- the run, by what was written of it
-pub run-over : (mount : Mount) (script : Script) (traced : Option Ops) (before mid after : BaySeen) (towers towers_after : List TowerSeen) (names : NamesSeen) (olds news : List FileSeen) (lost : List StoreKey) (said : List (List Said)) (closing : List Reply)
-    (ls : List (List Logged)) (old new : SinkSeen) (status result : Status) → IsMount mount → IsTaken mount before mid (stores_of mount) (stores_in olds) → (run : IsRunOver mount towers towers_after olds news) → ArePlayed mount script towers towers_after names said closing
-    → AreGiven mount mid after (stores_in news) lost → ls ≡ logs towers_after → status ≡ status_of said closing lost → Tells mount script traced (record { logs = ls; names = names }) said closing lost status old new result → Written (SaysRun mount script traced before after (all_notices mount run.told)) old new result
-run-over mount script traced before mid after towers towers_after names olds news lost said closing ls old new status result is_mount taken run played given is how tells =
-    let p = played-over mount script before mid after towers towers_after names olds news lost said closing is_mount taken run played given in
+pub run-over : (mount : Mount) (loss : Option ℕ) (script : Script) (traced : Option Ops) (before mid after : BaySeen) (towers towers_after : List TowerSeen) (names : NamesSeen) (olds news : List FileSeen) (lost : List StoreKey) (said : List (List Said)) (closing : List Reply)
+    (ls : List (List Logged)) (old new : SinkSeen) (status result : Status) → IsMount mount → IsTaken mount before mid (stores_of mount) (stores_in olds) → (run : IsRunOver mount towers towers_after olds news) → ArePlayed mount loss script towers towers_after names said closing
+    → AreGiven mount mid after (stores_in news) lost → ls ≡ logs towers_after → status ≡ status_of said closing lost → Tells mount script traced (record { logs = ls; names = names }) said closing lost status old new result → Written (SaysRun mount loss script traced before after (all_notices mount run.told)) old new result
+run-over mount loss script traced before mid after towers towers_after names olds news lost said closing ls old new status result is_mount taken run played given is how tells =
+    let p = played-over mount loss script before mid after towers towers_after names olds news lost said closing is_mount taken run played given in
     ⊎_elim
     (λ done.
     record {

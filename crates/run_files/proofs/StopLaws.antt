@@ -201,9 +201,9 @@ module _ (mount : Mount) (stop : Stop) (olds news : List FileSeen) (of : AreFile
   }
 
 -- a run that ended before its phases
-pub run-stopped : (mount : Mount) (script : Script) (traced : Option Ops) (before after : BaySeen) (old new notices : SinkSeen) (result : Status) → Written (Stopped mount before after) old new result → WrittenBeside (SaysRun mount script traced before after) old new notices notices result
-run-stopped mount script traced before after old new notices result w =
-    written-alone (SaysRun mount script traced before after) old new notices result (record { text = w.text; status = w.status; says = stopped w.says.stop w.says.lost w.says.halted refl w.says.says w.says.ends; ends = w.ends })
+pub run-stopped : (mount : Mount) (loss : Option ℕ) (script : Script) (traced : Option Ops) (before after : BaySeen) (old new notices : SinkSeen) (result : Status) → Written (Stopped mount before after) old new result → WrittenBeside (SaysRun mount loss script traced before after) old new notices notices result
+run-stopped mount loss script traced before after old new notices result w =
+    written-alone (SaysRun mount loss script traced before after) old new notices result (record { text = w.text; status = w.status; says = stopped w.says.stop w.says.lost w.says.halted refl w.says.says w.says.ends; ends = w.ends })
 
 -- the stores could not all be taken
 pub untaken-writes : (mount : Mount) (before after : BaySeen) (lost : List StoreKey) (stop : Stop) (old new : SinkSeen) (result : Status) → Untaken mount before after (stores_of mount) lost stop → Finishes old new (stop_text mount stop lost) (stop_status stop) result

@@ -136,9 +136,9 @@ logs-read (t ∷ ts) [] (c ∷ cs) are = absurd are
 logs-read (t ∷ ts) (u ∷ us) [] are = absurd are
 
 -- what was played over files that were read was played over them as they were opened
-pub played-since : (mount : Mount) (script : Script) (ts us vs : List TowerSeen) (bs : List (List ℕ)) (names : NamesSeen) (said : List (List Said)) (closing : List Reply) → AreRead ts us bs → ArePlayed mount script us vs names said closing → ArePlayed mount script ts vs names said closing
-played-since mount script ts us vs bs names said closing are p = record {
-  fits = λ numbered. subst (λ (ls : List (List Logged)). FitsScript mount script (record { logs = ls; names = unnamed mount }) (record { logs = logs vs; names = names }) said closing) (logs-read ts us bs are) (p.fits numbered);
+pub played-since : (mount : Mount) (loss : Option ℕ) (script : Script) (ts us vs : List TowerSeen) (bs : List (List ℕ)) (names : NamesSeen) (said : List (List Said)) (closing : List Reply) → AreRead ts us bs → ArePlayed mount loss script us vs names said closing → ArePlayed mount loss script ts vs names said closing
+played-since mount loss script ts us vs bs names said closing are p = record {
+  fits = λ numbered. subst (λ (ls : List (List Logged)). FitsScript mount loss script (record { logs = ls; names = unnamed mount }) (record { logs = logs vs; names = names }) said closing) (logs-read ts us bs are) (p.fits numbered);
   answered = p.answered;
   closed = p.closed;
   later = back-since (suc (length script.clients)) ts us vs bs are p.later;
@@ -163,16 +163,16 @@ sized-bytes mount olds ts us bs of opened are at b is =
     subst (λ n. length b ≡ pages_of mount n * mount.page_size) own.0 begins.sized
 
 -- THE SUM, by what was written of it
-pub summed-over : (mount : Mount) (script : Script) (before mid after : BaySeen) (opened begun towers : List TowerSeen) (bytes : List (List ℕ)) (names : NamesSeen) (olds news : List FileSeen) (lost : List StoreKey) (said : List (List Said)) (closing : List Reply)
-    (ls : List (List Logged)) (old new : SinkSeen) (status result : Status) → IsMount mount → IsTaken mount before mid (stores_of mount) (stores_in olds) → (run : IsRunOver mount opened towers olds news) → AreRead opened begun bytes → ArePlayed mount script begun towers names said closing
-    → AreGiven mount mid after (stores_in news) lost → ls ≡ logs towers → status ≡ status_of said closing lost → SumTold mount script bytes ls said lost status old new result → Written (SaysSum mount script before after (all_notices mount run.told)) old new result
-summed-over mount script before mid after opened begun towers bytes names olds news lost said closing ls old new status result is_mount taken run are played given is how sum = by sum
+pub summed-over : (mount : Mount) (loss : Option ℕ) (script : Script) (before mid after : BaySeen) (opened begun towers : List TowerSeen) (bytes : List (List ℕ)) (names : NamesSeen) (olds news : List FileSeen) (lost : List StoreKey) (said : List (List Said)) (closing : List Reply)
+    (ls : List (List Logged)) (old new : SinkSeen) (status result : Status) → IsMount mount → IsTaken mount before mid (stores_of mount) (stores_in olds) → (run : IsRunOver mount opened towers olds news) → AreRead opened begun bytes → ArePlayed mount loss script begun towers names said closing
+    → AreGiven mount mid after (stores_in news) lost → ls ≡ logs towers → status ≡ status_of said closing lost → SumTold mount script bytes ls said lost status old new result → Written (SaysSum mount loss script before after (all_notices mount run.told)) old new result
+summed-over mount loss script before mid after opened begun towers bytes names olds news lost said closing ls old new status result is_mount taken run are played given is how sum = by sum
   where
-    p : Played mount script before after (record { logs = logs towers; names = names }) said closing lost (all_notices mount run.told)
-    p = played-over mount script before mid after opened towers names olds news lost said closing is_mount taken run (played-since mount script opened begun towers bytes names said closing are played) given
+    p : Played mount loss script before after (record { logs = logs towers; names = names }) said closing lost (all_notices mount run.told)
+    p = played-over mount loss script before mid after opened towers names olds news lost said closing is_mount taken run (played-since mount loss script opened begun towers bytes names said closing are played) given
 
     same : p.olds ≡ olds
-    same = played-olds mount script before mid after opened towers names olds news lost said closing is_mount taken run (played-since mount script opened begun towers bytes names said closing are played) given
+    same = played-olds mount loss script before mid after opened towers names olds news lost said closing is_mount taken run (played-since mount loss script opened begun towers bytes names said closing are played) given
 
     ends-as : (lasts : List Counted) → ((file : ℕ) (b : List ℕ) (last : Counted) → slice_get bytes file ≡ Some b → slice_get lasts file ≡ Some last → last.file ≡ file_then (begun_as mount file (record { bytes = b })) (trail_of (log_of ls file))) → length lasts ≡ length bytes
         → (file : ℕ) (f : FileSeen) (last : Counted) → slice_get olds file ≡ Some f → slice_get lasts file ≡ Some last → EndsAs mount f (log_of (logs towers) file) last
@@ -189,7 +189,7 @@ summed-over mount script before mid after opened begun towers bytes names olds n
               (subst (λ n. last.file ≡ file_then (begun_as mount n (record { bytes = b.0 })) (trail_of (log_of ls file))) (sym own.0) (ends file b.0 last b.1 at));
         }
 
-    by : SumTold mount script bytes ls said lost status old new result → Written (SaysSum mount script before after (all_notices mount run.told)) old new result
+    by : SumTold mount script bytes ls said lost status old new result → Written (SaysSum mount loss script before after (all_notices mount run.told)) old new result
     by (told lasts are_lasts done) = record {
       text = summary (summed_calls script) said lasts ++ lost_text mount lost;
       status = status;
@@ -232,10 +232,10 @@ unplayed-why mount caller olds ts us stop of opened are halt = ⊎_elim (λ e. m
         unread u.at disk count (subst (λ n. stop ≡ stops.Store (record { file = n; disk = disk }) count) number e) (log_at-tower us u.at u.new u.there ∙ log)
 
 -- THE SCRIPT WAS NOT RUN over files that were opened
-pub unplayed-over : (mount : Mount) (script : Script) (before mid after : BaySeen) (opened towers : List TowerSeen) (olds news : List FileSeen) (lost : List StoreKey) (stop : Stop) (old new : SinkSeen) (result : Status) → IsMount mount → IsTaken mount before mid (stores_of mount) (stores_in olds)
+pub unplayed-over : (mount : Mount) (loss : Option ℕ) (script : Script) (before mid after : BaySeen) (opened towers : List TowerSeen) (olds news : List FileSeen) (lost : List StoreKey) (stop : Stop) (old new : SinkSeen) (result : Status) → IsMount mount → IsTaken mount before mid (stores_of mount) (stores_in olds)
     → (run : IsRunOver mount opened towers olds news) → AreTried (length script.clients) opened towers → IsHalt (length script.clients) towers stop → AreGiven mount mid after (stores_in news) lost
-    → Finishes old new (stop_text mount stop lost) (stop_status stop) result → Written (SaysSum mount script before after (all_notices mount run.told)) old new result
-unplayed-over mount script before mid after opened towers olds news lost stop old new result is_mount taken run are halt given done =
+    → Finishes old new (stop_text mount stop lost) (stop_status stop) result → Written (SaysSum mount loss script before after (all_notices mount run.told)) old new result
+unplayed-over mount loss script before mid after opened towers olds news lost stop old new result is_mount taken run are halt given done =
     let caller : ℕ = length script.clients in
     record {
       text = stop_text mount stop lost;
@@ -270,14 +270,14 @@ unplayed-over mount script before mid after opened towers olds news lost stop ol
     never caller ts file t e at = absurd (no-item file Done e)
 
 -- the files could not be taken or opened
-pub sum-stopped : (mount : Mount) (script : Script) (before after : BaySeen) (old new notices : SinkSeen) (result : Status) → Written (Stopped mount before after) old new result → WrittenBeside (SaysSum mount script before after) old new notices notices result
-sum-stopped mount script before after old new notices result w =
-    written-alone (SaysSum mount script before after) old new notices result (record { text = w.text; status = w.status; says = stopped w.says.stop w.says.lost w.says.halted refl w.says.says w.says.ends; ends = w.ends })
+pub sum-stopped : (mount : Mount) (loss : Option ℕ) (script : Script) (before after : BaySeen) (old new notices : SinkSeen) (result : Status) → Written (Stopped mount before after) old new result → WrittenBeside (SaysSum mount loss script before after) old new notices notices result
+sum-stopped mount loss script before after old new notices result w =
+    written-alone (SaysSum mount loss script before after) old new notices result (record { text = w.text; status = w.status; says = stopped w.says.stop w.says.lost w.says.halted refl w.says.says w.says.ends; ends = w.ends })
 
 -- whatever is to be written of it
-pub wanted-stopped : (mount : Mount) (script : Script) (ops : Ops) (wanted : Wanted) (before after : BaySeen) (old new notices : SinkSeen) (result : Status) → Written (Stopped mount before after) old new result → WrittenBeside (SaysWanted mount script ops wanted before after) old new notices notices result
-wanted-stopped mount script ops (Report trace) before after old new notices result w = run-stopped mount script (traced_by ops trace) before after old new notices result w
-wanted-stopped mount script ops Sum before after old new notices result w = sum-stopped mount script before after old new notices result w
+pub wanted-stopped : (mount : Mount) (loss : Option ℕ) (script : Script) (ops : Ops) (wanted : Wanted) (before after : BaySeen) (old new notices : SinkSeen) (result : Status) → Written (Stopped mount before after) old new result → WrittenBeside (SaysWanted mount loss script ops wanted before after) old new notices notices result
+wanted-stopped mount loss script ops (Report trace) before after old new notices result w = run-stopped mount loss script (traced_by ops trace) before after old new notices result w
+wanted-stopped mount loss script ops Sum before after old new notices result w = sum-stopped mount loss script before after old new notices result w
 
 -- the text of a sum, if there was memory for it
 pub text-sums : (mount : Mount) (begun : List (List ℕ)) (ls : List (List Logged)) (calls script_calls : List CallLine) (said : List (List Said)) (files lasts : List Counted) (q : Result (Vec ℕ) AllocError) → calls ≡ script_calls → files ≡ lasts → AreLasts mount begun ls lasts
@@ -297,9 +297,9 @@ unwritten-read (t ∷ ts) [] (c ∷ cs) are none = absurd are
 unwritten-read (t ∷ ts) (u ∷ us) [] are none = absurd are
 
 -- THE RUN IS OVER, of files that were read
-abbrev pub read-over : (mount : Mount) (script : Script) (olds news : List FileSeen) (opened begun towers : List TowerSeen) (bytes : List (List ℕ)) (names : NamesSeen) (said : List (List Said)) (closing : List Reply) (mades tolds : List (List (Option Notice))) → AreFiles mount olds → OpensEach mount olds opened → AreMade mount olds opened mades
-    → AreRead opened begun bytes → ArePlayed mount script begun towers names said closing → AreShut 0 towers news → AreEnded 0 towers news mades tolds → IsRunOver mount opened towers olds news
-read-over mount script olds news opened begun towers bytes names said closing mades tolds of opens made are played shut ended = record {
+abbrev pub read-over : (mount : Mount) (loss : Option ℕ) (script : Script) (olds news : List FileSeen) (opened begun towers : List TowerSeen) (bytes : List (List ℕ)) (names : NamesSeen) (said : List (List Said)) (closing : List Reply) (mades tolds : List (List (Option Notice))) → AreFiles mount olds → OpensEach mount olds opened → AreMade mount olds opened mades
+    → AreRead opened begun bytes → ArePlayed mount loss script begun towers names said closing → AreShut 0 towers news → AreEnded 0 towers news mades tolds → IsRunOver mount opened towers olds news
+read-over mount loss script olds news opened begun towers bytes names said closing mades tolds of opens made are played shut ended = record {
   of = of;
   opened = opens;
   end = suc (length script.clients);
@@ -327,16 +327,16 @@ tried-over mount caller olds news opened towers mades tolds of opens made are sh
 }
 
 -- how many towers there are
-pub many-read : (mount : Mount) (script : Script) (olds : List FileSeen) (opened begun towers : List TowerSeen) (bytes : List (List ℕ)) (names : NamesSeen) (said : List (List Said)) (closing : List Reply) → AreFiles mount olds → OpensEach mount olds opened
-    → AreRead opened begun bytes → ArePlayed mount script begun towers names said closing → length towers ≡ length mount.files
-many-read mount script olds opened begun towers bytes names said closing of opens are played =
+pub many-read : (mount : Mount) (loss : Option ℕ) (script : Script) (olds : List FileSeen) (opened begun towers : List TowerSeen) (bytes : List (List ℕ)) (names : NamesSeen) (said : List (List Said)) (closing : List Reply) → AreFiles mount olds → OpensEach mount olds opened
+    → AreRead opened begun bytes → ArePlayed mount loss script begun towers names said closing → length towers ≡ length mount.files
+many-read mount loss script olds opened begun towers bytes names said closing of opens are played =
     same-number (suc (length script.clients)) begun towers played.later ∙ ((length-read opened begun bytes are).0 ∙ (opens-length mount olds opened opens ∙ of.number))
 
 pub many-tried : (mount : Mount) (caller : ℕ) (olds : List FileSeen) (opened towers : List TowerSeen) → AreFiles mount olds → OpensEach mount olds opened → AreTried caller opened towers → length towers ≡ length mount.files
 many-tried mount caller olds opened towers of opens are = length-tried caller opened towers are ∙ (opens-length mount olds opened opens ∙ of.number)
 
 -- the towers are still those of the stack
-pub stack-read : (mount : Mount) (script : Script) (olds : List FileSeen) (opened begun towers : List TowerSeen) (bytes : List (List ℕ)) (names : NamesSeen) (said : List (List Said)) (closing : List Reply) → AreFiles mount olds → OpensEach mount olds opened
-    → AreRead opened begun bytes → ArePlayed mount script begun towers names said closing → AreOfStack mount towers
-stack-read mount script olds opened begun towers bytes names said closing of opens are played =
+pub stack-read : (mount : Mount) (loss : Option ℕ) (script : Script) (olds : List FileSeen) (opened begun towers : List TowerSeen) (bytes : List (List ℕ)) (names : NamesSeen) (said : List (List Said)) (closing : List Reply) → AreFiles mount olds → OpensEach mount olds opened
+    → AreRead opened begun bytes → ArePlayed mount loss script begun towers names said closing → AreOfStack mount towers
+stack-read mount loss script olds opened begun towers bytes names said closing of opens are played =
     towers-stay mount (suc (length script.clients)) opened towers (back-since (suc (length script.clients)) opened begun towers bytes are played.later) (towers-opened mount olds opened of opens)

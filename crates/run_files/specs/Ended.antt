@@ -12,9 +12,10 @@ abbrev pub is_memory : Reply → Bool
 is_memory replies.Memory = true
 is_memory reply = false
 
--- the answers of a store's failure and of a full trail
+-- the answers of a store's failure, of a call that a link lost, and of a full trail
 abbrev pub is_fault : Reply → Bool
 is_fault (replies.Store disk count) = true
+is_fault (replies.Link count) = true
 is_fault replies.TrailFull = true
 is_fault reply = false
 
@@ -33,7 +34,7 @@ any_lost [] = false
 any_lost (key ∷ lost) = true
 
 -- An answer that memory ran out, a client's or a closing one, comes first; then a store that was lost; then an answer of a
--- store's failure or of a full trail, or a closing sync that is not done.
+-- store's failure, of a call that a link lost or of a full trail, or a closing sync that is not done.
 abbrev pub status_by : Bool → Bool → Bool → Bool → Bool → Status
 status_by lacks memory lost fault done =
     if lacks || memory then Memory

@@ -37,6 +37,6 @@ pub record IsHeadline (mount : Mount) (file : ℕ) (log : List Logged) (f g : Fi
 -- each file of a run whose stores tell what they hold has it, on the disks that are live at the end; that the history begins with all that a caller had
 -- seen, and holds its calls once each, is `Played` (fits)
 abbrev pub Headline : Type 0
-Headline = (mount : Mount) (script : Script) (before after : BaySeen) (h : Histories) (said : List (List Said)) (closing : List Reply) (lost : List StoreKey) (notices : List ℕ) (played : Played mount script before after h said closing lost notices)
+Headline = (mount : Mount) (loss : Option ℕ) (script : Script) (before after : BaySeen) (h : Histories) (said : List (List Said)) (closing : List Reply) (lost : List StoreKey) (notices : List ℕ) (played : Played mount loss script before after h said closing lost notices)
     → (file : ℕ) (f g : FileSeen) (at : slice_get played.olds file ≡ Some f) (to : slice_get played.news file ≡ Some g) → TellsAll f
     → IsHeadline mount file (log_of h.logs file) f g (live_of (played.leaves file f g at to).closed)

@@ -1,5 +1,5 @@
 -- What a script over the files did.
-use Rattle.std.specs.Prelude.{◌≡◌, ℕ, suc, List, [], length, slice_get, Some}
+use Rattle.std.specs.Prelude.{◌≡◌, ℕ, suc, List, [], length, slice_get, Some, Option}
 use Rattle.std.specs.List.{AllByRecursion}
 use Rattle.hist_plain.specs.History.{IsNumbered}
 use Rattle.script_text.specs.declared.script.Script.{Script}
@@ -39,9 +39,9 @@ unnamed mount = record { began = names_at_start mount; history = [] }
 -- THE PHASES AND THE CLOSING SYNCS, by what the pass of all callers knew before them and knows after them: what it knows fits the
 -- script, if nobody else did anything; each line has its answer; and a file whose closing sync is done has nothing of the callers
 -- behind the place that the sync is from
-pub record IsPlayed (mount : Mount) (script : Script) (p q : Knows) (said : List (List Said)) (closing : List Reply) : Type 0 where
+pub record IsPlayed (mount : Mount) (loss : Option ℕ) (script : Script) (p q : Knows) (said : List (List Said)) (closing : List Reply) : Type 0 where
   pub pass : q ≡ as_known p q
-  pub fits : AreMadeUpTo (length script.clients) (histories mount q) → FitsScript mount script (histories mount p) (histories mount q) said closing
+  pub fits : AreMadeUpTo (length script.clients) (histories mount q) → FitsScript mount loss script (histories mount p) (histories mount q) said closing
   pub answered : EachAnswered script said
   pub closed : (file : ℕ) → slice_get closing file ≡ Some Done → EndsQuietly p.first p.end (length script.clients) (known q file)
   pub said_each : length said ≡ length script.clients
@@ -63,8 +63,8 @@ pub record IsClosed (caller : ℕ) (t : TowerSeen) : Type 0 where
   pub whole : IsWhole t.engine
 
 -- the logs and the answers fit the script, each line has its answer, and a file whose closing sync is done is closed
-pub record ArePlayed (mount : Mount) (script : Script) (before after : List TowerSeen) (names : NamesSeen) (said : List (List Said)) (closing : List Reply) : Type 0 where
-  pub fits : AllByRecursion (λ log. IsNumbered (trail_of log)) (logs after) → FitsScript mount script (record { logs = logs before; names = unnamed mount }) (record { logs = logs after; names = names }) said closing
+pub record ArePlayed (mount : Mount) (loss : Option ℕ) (script : Script) (before after : List TowerSeen) (names : NamesSeen) (said : List (List Said)) (closing : List Reply) : Type 0 where
+  pub fits : AllByRecursion (λ log. IsNumbered (trail_of log)) (logs after) → FitsScript mount loss script (record { logs = logs before; names = unnamed mount }) (record { logs = logs after; names = names }) said closing
   pub answered : EachAnswered script said
   pub closed : (file : ℕ) (t : TowerSeen) → slice_get closing file ≡ Some Done → slice_get after file ≡ Some t → IsClosed (length script.clients) t
   pub later : AreBack (suc (length script.clients)) before after

@@ -81,7 +81,7 @@ abbrev pub before_all : Mount → Histories → Histories
 before_all mount h = record { logs = map start_of h.logs; names = record { began = names_at_start mount; history = [] } }
 
 -- THE SCRIPT WAS RUN OVER THE FILES
-pub record Played (mount : Mount) (script : Script) (before after : BaySeen) (h : Histories) (said : List (List Said)) (closing : List Reply) (lost : List StoreKey) (notices : List ℕ) : Type 0 where
+pub record Played (mount : Mount) (loss : Option ℕ) (script : Script) (before after : BaySeen) (h : Histories) (said : List (List Said)) (closing : List Reply) (lost : List StoreKey) (notices : List ℕ) : Type 0 where
   -- the stores of each file as they were taken, and as they came back, but for those that were lost
   pub olds : List FileSeen
   pub news : List FileSeen
@@ -95,7 +95,7 @@ pub record Played (mount : Mount) (script : Script) (before after : BaySeen) (h 
   pub lines : notices ≡ all_notices mount told
   -- the files' logs; and these, the names' history and the answers fit the script, in which each line has its answer
   pub files : AreOfFiles mount (length script.clients) closing h.logs
-  pub fits : FitsScript mount script (before_all mount h) h said closing
+  pub fits : FitsScript mount loss script (before_all mount h) h said closing
   pub answered : EachAnswered script said
 
 -- All stores were taken, and the script was not run: the first files were opened and closed again; the next one could not be opened, and
@@ -120,10 +120,10 @@ pub data Halted (mount : Mount) (before after : BaySeen) (lost : List StoreKey) 
 -- The ways in which a run ends over the files, each with its notices, its text and its status: the stores could not be taken or opened; the
 -- script was run, and this is the report, with the page messages if they are traced; or it was run, and memory ran out for the
 -- report.
-pub data SaysRun (mount : Mount) (script : Script) (traced : Option Ops) (before after : BaySeen) (notices text : List ℕ) (status : Status) : Type 0 where
+pub data SaysRun (mount : Mount) (loss : Option ℕ) (script : Script) (traced : Option Ops) (before after : BaySeen) (notices text : List ℕ) (status : Status) : Type 0 where
   stopped : (stop : Stop) (lost : List StoreKey) → Halted mount before after lost stop
-      → notices ≡ [] → text ≡ stop_text mount stop lost → status ≡ stop_status stop → SaysRun mount script traced before after notices text status
-  reported : (h : Histories) (said : List (List Said)) (closing : List Reply) (lost : List StoreKey) → Played mount script before after h said closing lost notices
-      → text ≡ report mount script traced h.logs h.names.history said closing lost → status ≡ status_of said closing lost → SaysRun mount script traced before after notices text status
-  ran_out : (h : Histories) (said : List (List Said)) (closing : List Reply) (lost : List StoreKey) → Played mount script before after h said closing lost notices
-      → text ≡ lost_text mount lost → status ≡ statuses.Memory → SaysRun mount script traced before after notices text status
+      → notices ≡ [] → text ≡ stop_text mount stop lost → status ≡ stop_status stop → SaysRun mount loss script traced before after notices text status
+  reported : (h : Histories) (said : List (List Said)) (closing : List Reply) (lost : List StoreKey) → Played mount loss script before after h said closing lost notices
+      → text ≡ report mount script traced h.logs h.names.history said closing lost → status ≡ status_of said closing lost → SaysRun mount loss script traced before after notices text status
+  ran_out : (h : Histories) (said : List (List Said)) (closing : List Reply) (lost : List StoreKey) → Played mount loss script before after h said closing lost notices
+      → text ≡ lost_text mount lost → status ≡ statuses.Memory → SaysRun mount loss script traced before after notices text status

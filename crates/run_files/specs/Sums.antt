@@ -54,8 +54,8 @@ pub record EndsAs (mount : Mount) (f : FileSeen) (log : List Logged) (last : Cou
   pub is : last.file ≡ file_then (begun_as mount f.file opening) (trail_of log)
 
 -- THE FILES WERE READ, AND THE SCRIPT WAS RUN OVER THEM; these are the files at the end
-pub record Summed (mount : Mount) (script : Script) (before after : BaySeen) (h : Histories) (said : List (List Said)) (closing : List Reply) (lost : List StoreKey) (notices : List ℕ) (lasts : List Counted) : Type 0 where
-  pub played : Played mount script before after h said closing lost notices
+pub record Summed (mount : Mount) (loss : Option ℕ) (script : Script) (before after : BaySeen) (h : Histories) (said : List (List Said)) (closing : List Reply) (lost : List StoreKey) (notices : List ℕ) (lasts : List Counted) : Type 0 where
+  pub played : Played mount loss script before after h said closing lost notices
   pub many : length lasts ≡ length mount.files
   pub ends : (file : ℕ) (f : FileSeen) (last : Counted) → slice_get played.olds file ≡ Some f → slice_get lasts file ≡ Some last → EndsAs mount f (log_of h.logs file) last
 
@@ -91,15 +91,15 @@ pub record NotPlayed (mount : Mount) (caller : ℕ) (before after : BaySeen) (lo
 -- The ways in which the run of a generated script ends over the files, each with its notices, its text and its status: the stores could not be taken or
 -- opened; the pages could not be read, or memory ran out before the script; the script was run, and this is its sum; or it was run, and
 -- memory ran out for the sum.
-pub data SaysSum (mount : Mount) (script : Script) (before after : BaySeen) (notices text : List ℕ) (status : Status) : Type 0 where
+pub data SaysSum (mount : Mount) (loss : Option ℕ) (script : Script) (before after : BaySeen) (notices text : List ℕ) (status : Status) : Type 0 where
   stopped : (stop : Stop) (lost : List StoreKey) → Halted mount before after lost stop
-      → notices ≡ [] → text ≡ stop_text mount stop lost → status ≡ stop_status stop → SaysSum mount script before after notices text status
+      → notices ≡ [] → text ≡ stop_text mount stop lost → status ≡ stop_status stop → SaysSum mount loss script before after notices text status
   unplayed : (stop : Stop) (lost : List StoreKey) → NotPlayed mount (length script.clients) before after lost stop notices
-      → text ≡ stop_text mount stop lost → status ≡ stop_status stop → SaysSum mount script before after notices text status
-  summed : (h : Histories) (said : List (List Said)) (closing : List Reply) (lost : List StoreKey) (lasts : List Counted) → Summed mount script before after h said closing lost notices lasts
-      → text ≡ summary (summed_calls script) said lasts ++ lost_text mount lost → status ≡ status_of said closing lost → SaysSum mount script before after notices text status
-  ran_out : (h : Histories) (said : List (List Said)) (closing : List Reply) (lost : List StoreKey) → Played mount script before after h said closing lost notices
-      → text ≡ lost_text mount lost → status ≡ statuses.Memory → SaysSum mount script before after notices text status
+      → text ≡ stop_text mount stop lost → status ≡ stop_status stop → SaysSum mount loss script before after notices text status
+  summed : (h : Histories) (said : List (List Said)) (closing : List Reply) (lost : List StoreKey) (lasts : List Counted) → Summed mount loss script before after h said closing lost notices lasts
+      → text ≡ summary (summed_calls script) said lasts ++ lost_text mount lost → status ≡ status_of said closing lost → SaysSum mount loss script before after notices text status
+  ran_out : (h : Histories) (said : List (List Said)) (closing : List Reply) (lost : List StoreKey) → Played mount loss script before after h said closing lost notices
+      → text ≡ lost_text mount lost → status ≡ statuses.Memory → SaysSum mount loss script before after notices text status
 
 -- the plain files that began with these bytes, each after all events of its log
 pub record AreLasts (mount : Mount) (begun : List (List ℕ)) (logs : List (List Logged)) (lasts : List Counted) : Type 0 where

@@ -1,5 +1,5 @@
 -- The ways in which a run ends, by what is to be written of it.
-use Rattle.std.specs.Prelude.{ℕ, List}
+use Rattle.std.specs.Prelude.{ℕ, List, Option}
 use Rattle.script_text.specs.declared.script.Script.{Script}
 use Rattle.stack_accept.specs.Mount.{Mount}
 use Rattle.pager_channel.specs.declared.numbers.Ops.{Ops}
@@ -10,6 +10,6 @@ use Rattle.run_files.specs.declared.run.Wanted.TheVariants.{Report, Sum}
 use Rattle.run_files.specs.Run.{SaysRun, traced_by}
 use Rattle.run_files.specs.Sums.{SaysSum}
 
-abbrev pub SaysWanted : Mount → Script → Ops → Wanted → BaySeen → BaySeen → List ℕ → List ℕ → Status → Type 0
-SaysWanted mount script ops (Report trace) before after = SaysRun mount script (traced_by ops trace) before after
-SaysWanted mount script ops Sum before after = SaysSum mount script before after
+abbrev pub SaysWanted : Mount → Option ℕ → Script → Ops → Wanted → BaySeen → BaySeen → List ℕ → List ℕ → Status → Type 0
+SaysWanted mount loss script ops (Report trace) before after = SaysRun mount loss script (traced_by ops trace) before after
+SaysWanted mount loss script ops Sum before after = SaysSum mount loss script before after

@@ -17,7 +17,10 @@ fn is_memory(reply: &Reply) -> bool
 fn is_fault(reply: &Reply) -> bool
     ensures { result ≡ is_fault reply.now }
 {
-    matches!(reply, Reply::Store { .. } | Reply::TrailFull)
+    matches!(
+        reply,
+        Reply::Store { .. } | Reply::Link { .. } | Reply::TrailFull
+    )
 }
 
 fn is_done(reply: &Reply) -> bool

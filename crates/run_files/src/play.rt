@@ -60,9 +60,10 @@ fn play_over<R: Threads + Wait + Sync, G: Ground + Send, T: LineGate>(
     requires pass { IsOf common.now.volume.now pass }
     requires all { (pass.first ≡ 0) × (pass.end ≡ suc (length script.now.clients)) }
     requires room { HasAnswerRoom common.now.mount.now script.now asked }
-    ensures { IsPlayed common.now.mount.now script.now pass result.0 (map (λ v. v.items) result.1.said.items) result.1.closing.items }
+    ensures { IsPlayed common.now.mount.now asked.loss script.now pass result.0 (map (λ v. v.items) result.1.said.items) result.1.closing.items }
 {
     let Asked {
+        loss: _loss,
         clients,
         mut said,
         mut closing,
@@ -100,7 +101,7 @@ pub(crate) fn play<R: Threads + Wait + Sync, G: Ground + Send, T: LineGate>(
     requires towers { AreOfStack mount.now towers.items }
     requires unwritten { AllByRecursion IsUnwritten towers.items }
     requires room { HasAnswerRoom mount.now script.now asked }
-    ensures played { IfOk result (λ r. ArePlayed mount.now script.now towers.items r.0.items r.1 (map (λ v. v.items) r.2.said.items) r.2.closing.items) }
+    ensures played { IfOk result (λ r. ArePlayed mount.now asked.loss script.now towers.items r.0.items r.1 (map (λ v. v.items) r.2.said.items) r.2.closing.items) }
     ensures back { IfErr result (λ back. back.items ≡ towers.items) }
 {
     let callers = script.clients.as_slice().len() as u32 + 1;

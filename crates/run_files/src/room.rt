@@ -21,6 +21,8 @@ use tower_log::Trail;
 /// Room for the answers of a run.
 #[derive(Drop)]
 pub(crate) struct Asked {
+    /// The number that divides those of the packets which each client's link loses, if calls to other machines may be lost.
+    pub loss: Option<u32>,
     /// The clients, each with room for its answers.
     pub clients: Vec<Worker>,
     /// Room for the clients' answers.
@@ -65,17 +67,20 @@ pub(crate) struct Files<S: Store> {
     pub lost: Vec<StoreKey>,
 }
 
-/// Makes room for the answers of a script.
+/// Makes room for the answers of a script, whose clients lose packets by this number, if there is one.
 pub(crate) fn room_for_answers(
     alloc: Global,
     mount: &Mounted,
     script: &Script,
+    loss: Option<u32>,
 ) -> Result<Asked, AllocError>
     requires { IsScript script.now }
-    ensures { IfOk result (HasAnswerRoom mount.now script.now) }
+    ensures room { IfOk result (HasAnswerRoom mount.now script.now) }
+    ensures loss { IfOk result (λ asked. asked.loss ≡ loss) }
 {
     Ok(Asked {
-        clients: workers_of(alloc, mount, script)?,
+        loss,
+        clients: workers_of(alloc, mount, script, loss)?,
         said: Vec::with_capacity(alloc, script.clients.as_slice().len())?,
         closing: Vec::with_capacity(alloc, mount.files().len())?,
     })

@@ -1,6 +1,6 @@
 //! A run over the files of a stack: their stores are taken, opened, run over and given back, and the report is written.
 
-ghost use Rattle.std.specs.Prelude.{◌≡◌, [], List, length, map};
+ghost use Rattle.std.specs.Prelude.{◌≡◌, ℕ, [], List, None, Option, length, map};
 ghost use Rattle.std.specs.List.{AllByRecursion};
 ghost use Rattle.script_text.specs.Grammar.{IsScript};
 ghost use Rattle.stack_accept.specs.Sound.{IsMount};
@@ -103,7 +103,7 @@ fn end_run<R: Threads + Sync, B: Bay, K: Sink, N: Sink>(
 ) -> Status
     requires mount { IsMount given.now.mount.now }
     requires stores { AreStores given.now.mount.now (stores_of given.now.mount.now) }
-    requires begun { (olds : List FileSeen) × (begun : List TowerSeen) × AreFiles given.now.mount.now olds × OpensEach given.now.mount.now olds begun × AreMade given.now.mount.now olds begun (map (λ m. m.items) files.made.items) × ArePlayed given.now.mount.now given.now.script.now begun files.towers.items names (map (λ v. v.items) answers.said.items) answers.closing.items }
+    requires begun { (olds : List FileSeen) × (begun : List TowerSeen) × AreFiles given.now.mount.now olds × OpensEach given.now.mount.now olds begun × AreMade given.now.mount.now olds begun (map (λ m. m.items) files.made.items) × (loss : Option ℕ) × ArePlayed given.now.mount.now loss given.now.script.now begun files.towers.items names (map (λ v. v.items) answers.said.items) answers.closing.items }
     requires towers { AreOfStack given.now.mount.now files.towers.items }
     requires made { length files.made.items ≡ length files.towers.items }
     requires said { length answers.said.items ≡ length given.now.script.now.clients }
@@ -114,8 +114,8 @@ fn end_run<R: Threads + Sync, B: Bay, K: Sink, N: Sink>(
     requires back { IsRoom (length (stores_of given.now.mount.now)) files.back }
     requires lost { IsRoom (length (stores_of given.now.mount.now)) files.lost }
     ensures ended { (before : BaySeen) (olds : List FileSeen) (begun : List TowerSeen) → IsTaken given.now.mount.now before (B.told bay.old) (stores_of given.now.mount.now) (stores_in olds) → AreFiles given.now.mount.now olds → OpensEach given.now.mount.now olds begun
-        → AreMade given.now.mount.now olds begun (map (λ m. m.items) files.made.items) → ArePlayed given.now.mount.now given.now.script.now begun files.towers.items names (map (λ v. v.items) answers.said.items) answers.closing.items
-        → WrittenBeside (SaysRun given.now.mount.now given.now.script.now (traced_by given.now.ops.now trace) before (B.told bay.new)) (K.told sink.old) (K.told sink.new) (N.told notices.old) (N.told notices.new) result }
+        → AreMade given.now.mount.now olds begun (map (λ m. m.items) files.made.items) → (loss : Option ℕ) → ArePlayed given.now.mount.now loss given.now.script.now begun files.towers.items names (map (λ v. v.items) answers.said.items) answers.closing.items
+        → WrittenBeside (SaysRun given.now.mount.now loss given.now.script.now (traced_by given.now.ops.now trace) before (B.told bay.new)) (K.told sink.old) (K.told sink.new) (N.told notices.old) (N.told notices.new) result }
 {
     let (trails, lost) = shut_files(given.mount, bay, notices, files);
     let run = Run {
@@ -197,7 +197,7 @@ fn run_open<R: Threads + Wait + Sync, B: Bay, K: Sink, N: Sink, T: LineGate>(
     requires lost { IsRoom (length (stores_of given.now.mount.now)) files.lost }
     ensures ended { (before : BaySeen) (olds : List FileSeen) → IsTaken given.now.mount.now before (B.told bay.old) (stores_of given.now.mount.now) (stores_in olds) → AreFiles given.now.mount.now olds
         → OpensEach given.now.mount.now olds files.towers.items → AreMade given.now.mount.now olds files.towers.items (map (λ m. m.items) files.made.items)
-        → WrittenBeside (SaysRun given.now.mount.now given.now.script.now (traced_by given.now.ops.now trace) before (B.told bay.new)) (K.told sink.old) (K.told sink.new) (N.told notices.old) (N.told notices.new) result }
+        → WrittenBeside (SaysRun given.now.mount.now asked.loss given.now.script.now (traced_by given.now.ops.now trace) before (B.told bay.new)) (K.told sink.old) (K.told sink.new) (N.told notices.old) (N.told notices.new) result }
 {
     let Files {
         towers,
@@ -278,7 +278,7 @@ fn run_as_wanted<R: Threads + Wait + Sync, B: Bay, K: Sink, N: Sink, T: LineGate
     requires lost { IsRoom (length (stores_of given.now.mount.now)) files.lost }
     ensures ended { (before : BaySeen) (olds : List FileSeen) → IsTaken given.now.mount.now before (B.told bay.old) (stores_of given.now.mount.now) (stores_in olds) → AreFiles given.now.mount.now olds
         → OpensEach given.now.mount.now olds files.towers.items → AreMade given.now.mount.now olds files.towers.items (map (λ m. m.items) files.made.items)
-        → WrittenBeside (SaysWanted given.now.mount.now given.now.script.now given.now.ops.now wanted before (B.told bay.new)) (K.told sink.old) (K.told sink.new) (N.told notices.old) (N.told notices.new) result }
+        → WrittenBeside (SaysWanted given.now.mount.now asked.loss given.now.script.now given.now.ops.now wanted before (B.told bay.new)) (K.told sink.old) (K.told sink.new) (N.told notices.old) (N.told notices.new) result }
 {
     match wanted {
         Wanted::Report { trace } => run_open(
@@ -316,7 +316,7 @@ fn run_taken<R: Threads + Wait + Sync, B: Bay, K: Sink, N: Sink, T: LineGate>(
     requires told { IsRoom (length given.now.mount.now.files) files.notices }
     requires back { IsRoom (length (stores_of given.now.mount.now)) files.back }
     requires lost { IsRoom (length (stores_of given.now.mount.now)) files.lost }
-    ensures ended { (before : BaySeen) → IsTaken given.now.mount.now before (B.told bay.old) (stores_of given.now.mount.now) (stores_in parts.items) → WrittenBeside (SaysWanted given.now.mount.now given.now.script.now given.now.ops.now wanted before (B.told bay.new)) (K.told sink.old) (K.told sink.new) (N.told notices.old) (N.told notices.new) result }
+    ensures ended { (before : BaySeen) → IsTaken given.now.mount.now before (B.told bay.old) (stores_of given.now.mount.now) (stores_in parts.items) → WrittenBeside (SaysWanted given.now.mount.now asked.loss given.now.script.now given.now.ops.now wanted before (B.told bay.new)) (K.told sink.old) (K.told sink.new) (N.told notices.old) (N.told notices.new) result }
 {
     let mut files = files;
     match open_files(
@@ -365,7 +365,7 @@ fn run_all<R: Threads + Wait + Sync, B: Bay, K: Sink, N: Sink, T: LineGate>(
     requires told { IsRoom (length given.now.mount.now.files) shelves.files.notices }
     requires back { IsRoom (length shelves.keys.items) shelves.files.back }
     requires lost { IsRoom (length shelves.keys.items) shelves.files.lost }
-    ensures { WrittenBeside (SaysWanted given.now.mount.now given.now.script.now given.now.ops.now wanted (B.told bay.old) (B.told bay.new)) (K.told sink.old) (K.told sink.new) (N.told notices.old) (N.told notices.new) result }
+    ensures { WrittenBeside (SaysWanted given.now.mount.now asked.loss given.now.script.now given.now.ops.now wanted (B.told bay.old) (B.told bay.new)) (K.told sink.old) (K.told sink.new) (N.told notices.old) (N.told notices.new) result }
 {
     let Shelves {
         keys,
@@ -396,6 +396,7 @@ fn run_as<R: Threads + Wait + Sync, B: Bay, K: Sink, N: Sink, T: LineGate>(
     alloc: Global,
     given: &Given<'_>,
     wanted: Wanted,
+    loss: Option<u32>,
     bay: &mut B,
     sink: &mut K,
     notices: &mut N,
@@ -403,9 +404,9 @@ fn run_as<R: Threads + Wait + Sync, B: Bay, K: Sink, N: Sink, T: LineGate>(
 ) -> Status
     requires script { IsScript given.now.script.now }
     requires calls { AllByRecursion (AreCalls given.now.mount.now) given.now.script.now.phases }
-    ensures { WrittenBeside (SaysWanted given.now.mount.now given.now.script.now given.now.ops.now wanted (B.told bay.old) (B.told bay.new)) (K.told sink.old) (K.told sink.new) (N.told notices.old) (N.told notices.new) result }
+    ensures { WrittenBeside (SaysWanted given.now.mount.now loss given.now.script.now given.now.ops.now wanted (B.told bay.old) (B.told bay.new)) (K.told sink.old) (K.told sink.new) (N.told notices.old) (N.told notices.new) result }
 {
-    let Ok(asked) = room_for_answers(alloc, given.mount, given.script) else {
+    let Ok(asked) = room_for_answers(alloc, given.mount, given.script, loss) else {
         return stopped(sink, given.mount, Stop::Memory, &[]);
     };
     let Ok(shelves) = room_for_stores(alloc, given.mount) else {
@@ -419,6 +420,9 @@ fn run_as<R: Threads + Wait + Sync, B: Bay, K: Sink, N: Sink, T: LineGate>(
 /// Runs a script over the files of a stack: takes their stores, opens the files, runs the phases and the closing syncs, gives the
 /// stores back, and writes the report and the status. All room for that but the report's is made first.
 ///
+/// If a number is given, from 2 to 1,000, each client's calls to other machines go over a link of its own, which loses the packets
+/// whose number this one divides.
+///
 /// A run of the script writes to the sink of notices a line for each disk in a mirror of which something is told. If that sink
 /// fails, nothing else changes.
 ///
@@ -430,6 +434,7 @@ pub fn run_files<R: Threads + Wait + Sync, B: Bay, K: Sink, N: Sink, T: LineGate
     script: &Script,
     ops: &Ops,
     trace: bool,
+    loss: Option<u32>,
     bay: &mut B,
     sink: &mut K,
     notices: &mut N,
@@ -437,11 +442,11 @@ pub fn run_files<R: Threads + Wait + Sync, B: Bay, K: Sink, N: Sink, T: LineGate
 ) -> Status
     requires script { IsScript script.now }
     requires calls { AllByRecursion (AreCalls mount.now) script.now.phases }
-    ensures says { WrittenBeside (SaysRun mount.now script.now (traced_by ops.now trace) (B.told bay.old) (B.told bay.new)) (K.told sink.old) (K.told sink.new) (N.told notices.old) (N.told notices.new) result }
+    ensures says { WrittenBeside (SaysRun mount.now loss script.now (traced_by ops.now trace) (B.told bay.old) (B.told bay.new)) (K.told sink.old) (K.told sink.new) (N.told notices.old) (N.told notices.new) result }
 {
     let given = Given { mount, script, ops };
     let wanted = Wanted::Report { trace };
-    run_as(rt, alloc, &given, wanted, bay, sink, notices, gate)
+    run_as(rt, alloc, &given, wanted, loss, bay, sink, notices, gate)
 }
 
 /// Runs a script over the files of a stack as `run_files` does, and writes a sum in place of the report: how many calls of the
@@ -462,8 +467,18 @@ pub fn sum_files<R: Threads + Wait + Sync, B: Bay, K: Sink, N: Sink, T: LineGate
 ) -> Status
     requires script { IsScript script.now }
     requires calls { AllByRecursion (AreCalls mount.now) script.now.phases }
-    ensures says { WrittenBeside (SaysSum mount.now script.now (B.told bay.old) (B.told bay.new)) (K.told sink.old) (K.told sink.new) (N.told notices.old) (N.told notices.new) result }
+    ensures says { WrittenBeside (SaysSum mount.now None script.now (B.told bay.old) (B.told bay.new)) (K.told sink.old) (K.told sink.new) (N.told notices.old) (N.told notices.new) result }
 {
     let given = Given { mount, script, ops };
-    run_as(rt, alloc, &given, Wanted::Sum, bay, sink, notices, gate)
+    run_as(
+        rt,
+        alloc,
+        &given,
+        Wanted::Sum,
+        None,
+        bay,
+        sink,
+        notices,
+        gate,
+    )
 }

@@ -1,6 +1,6 @@
 //! The run of a generated script: its files are read before it, and summed behind it.
 
-ghost use Rattle.std.specs.Prelude.{◌≡◌, ◌++◌, ◌*◌, IfErr, IfOk, List, length, map};
+ghost use Rattle.std.specs.Prelude.{◌≡◌, ◌++◌, ◌*◌, ℕ, IfErr, IfOk, List, Option, length, map};
 ghost use Rattle.std.specs.List.{AllByRecursion};
 ghost use Rattle.hist_plain.specs.File.{Counted};
 ghost use Rattle.script_text.specs.Grammar.{IsScript};
@@ -130,7 +130,7 @@ fn play_read<R: Threads + Wait + Sync, G: Ground + Send + Drop, T: LineGate>(
     requires towers { AreOfStack given.now.mount.now towers.items }
     requires unwritten { AllByRecursion IsUnwritten towers.items }
     requires room { HasAnswerRoom given.now.mount.now given.now.script.now asked }
-    ensures played { IfOk result (λ r. (begun : List TowerSeen) × (names : NamesSeen) × AreRead towers.items begun (map (λ b. b.items) r.1.items) × ArePlayed given.now.mount.now given.now.script.now begun r.0.items names (map (λ v. v.items) r.2.said.items) r.2.closing.items) }
+    ensures played { IfOk result (λ r. (begun : List TowerSeen) × (names : NamesSeen) × AreRead towers.items begun (map (λ b. b.items) r.1.items) × ArePlayed given.now.mount.now asked.loss given.now.script.now begun r.0.items names (map (λ v. v.items) r.2.said.items) r.2.closing.items) }
     ensures halted { IfErr result (λ e. AreTried (length given.now.script.now.clients) towers.items e.0.items × IsHalt (length given.now.script.now.clients) e.0.items e.1) }
 {
     let number = towers.as_slice().len();
@@ -173,7 +173,7 @@ fn end_sum<B: Bay, K: Sink, N: Sink>(
     requires mount { IsMount given.now.mount.now }
     requires stores { AreStores given.now.mount.now (stores_of given.now.mount.now) }
     requires begun { (olds : List FileSeen) × (opened : List TowerSeen) × (begun : List TowerSeen) × (names : NamesSeen) × AreFiles given.now.mount.now olds × OpensEach given.now.mount.now olds opened × AreMade given.now.mount.now olds opened (map (λ m. m.items) files.made.items)
-        × AreRead opened begun (map (λ b. b.items) bytes.items) × ArePlayed given.now.mount.now given.now.script.now begun files.towers.items names (map (λ v. v.items) answers.said.items) answers.closing.items }
+        × AreRead opened begun (map (λ b. b.items) bytes.items) × (loss : Option ℕ) × ArePlayed given.now.mount.now loss given.now.script.now begun files.towers.items names (map (λ v. v.items) answers.said.items) answers.closing.items }
     requires made { length files.made.items ≡ length files.towers.items }
     requires closed { IsRoom (length given.now.mount.now.files) files.closed }
     requires trails { IsRoom (length given.now.mount.now.files) files.trails }
@@ -182,8 +182,8 @@ fn end_sum<B: Bay, K: Sink, N: Sink>(
     requires lost { IsRoom (length (stores_of given.now.mount.now)) files.lost }
     ensures ended { (before : BaySeen) (olds : List FileSeen) (opened begun : List TowerSeen) (names : NamesSeen) → IsTaken given.now.mount.now before (B.told bay.old) (stores_of given.now.mount.now) (stores_in olds) → AreFiles given.now.mount.now olds → OpensEach given.now.mount.now olds opened
         → AreMade given.now.mount.now olds opened (map (λ m. m.items) files.made.items) → AreRead opened begun (map (λ b. b.items) bytes.items)
-        → ArePlayed given.now.mount.now given.now.script.now begun files.towers.items names (map (λ v. v.items) answers.said.items) answers.closing.items
-        → WrittenBeside (SaysSum given.now.mount.now given.now.script.now before (B.told bay.new)) (K.told sink.old) (K.told sink.new) (N.told notices.old) (N.told notices.new) result }
+        → (loss : Option ℕ) → ArePlayed given.now.mount.now loss given.now.script.now begun files.towers.items names (map (λ v. v.items) answers.said.items) answers.closing.items
+        → WrittenBeside (SaysSum given.now.mount.now loss given.now.script.now before (B.told bay.new)) (K.told sink.old) (K.told sink.new) (N.told notices.old) (N.told notices.new) result }
 {
     let (logs, lost) = shut_files(given.mount, bay, notices, files);
     let status = status_of(&answers.said, &answers.closing, &lost);
@@ -221,7 +221,7 @@ fn end_unplayed<B: Bay, K: Sink, N: Sink>(
     requires lost { IsRoom (length (stores_of given.now.mount.now)) files.lost }
     ensures ended { (before : BaySeen) (olds : List FileSeen) (opened : List TowerSeen) → IsTaken given.now.mount.now before (B.told bay.old) (stores_of given.now.mount.now) (stores_in olds) → AreFiles given.now.mount.now olds → OpensEach given.now.mount.now olds opened
         → AreMade given.now.mount.now olds opened (map (λ m. m.items) files.made.items) → AreTried (length given.now.script.now.clients) opened files.towers.items
-        → WrittenBeside (SaysSum given.now.mount.now given.now.script.now before (B.told bay.new)) (K.told sink.old) (K.told sink.new) (N.told notices.old) (N.told notices.new) result }
+        → (loss : Option ℕ) → WrittenBeside (SaysSum given.now.mount.now loss given.now.script.now before (B.told bay.new)) (K.told sink.old) (K.told sink.new) (N.told notices.old) (N.told notices.new) result }
 {
     let shut = shut_files(given.mount, bay, notices, files);
     stopped(sink, given.mount, stop, &shut.1)
@@ -254,7 +254,7 @@ pub(crate) fn sum_open<R: Threads + Wait + Sync, B: Bay, K: Sink, N: Sink, T: Li
     requires lost { IsRoom (length (stores_of given.now.mount.now)) files.lost }
     ensures ended { (before : BaySeen) (olds : List FileSeen) → IsTaken given.now.mount.now before (B.told bay.old) (stores_of given.now.mount.now) (stores_in olds) → AreFiles given.now.mount.now olds
         → OpensEach given.now.mount.now olds files.towers.items → AreMade given.now.mount.now olds files.towers.items (map (λ m. m.items) files.made.items)
-        → WrittenBeside (SaysSum given.now.mount.now given.now.script.now before (B.told bay.new)) (K.told sink.old) (K.told sink.new) (N.told notices.old) (N.told notices.new) result }
+        → WrittenBeside (SaysSum given.now.mount.now asked.loss given.now.script.now before (B.told bay.new)) (K.told sink.old) (K.told sink.new) (N.told notices.old) (N.told notices.new) result }
 {
     let Files {
         towers,

@@ -56,7 +56,8 @@ use Rattle.vmm_space.specs.Spaces.{has_region, refusal, translation, without_reg
 use Rattle.script_meaning.specs.declared.store.StoreKey.{StoreKey}
 use Rattle.script_meaning.specs.Log.{Histories, IsFull, Item, by_caller, entered, items, items_from, log_at, noted, who}
 use Rattle.client_objects.specs.declared.kind.ObjectKind.{ObjectKind}
-use Rattle.script_meaning.specs.Plan.{Ask, Asks, Goes, Made, NamesAsk, NamesTold, Plan, Refuses, Request, access, asking, asking_names, asks_names, at_file, binding, calls, ends, further_tries, is_revoked, kind_named, led_to, loading, mapping, node_at, plan, plan_access, plan_after, plan_bind, plan_bound, plan_copy, plan_done, plan_drop, plan_end, plan_found, plan_map, plan_named, plan_names, plan_open, plan_place, plan_reopened, plan_sync, plan_try, refused_as, region_of, release, reply_of, rerouting, revoke, rights_at, start_state, storing, sync, told_names, unknown, unless_refused, unless_unmappable, with_names}
+use Rattle.link_lossy.specs.Carriers.{CarrierSeen, after_call}
+use Rattle.script_meaning.specs.Plan.{Ask, Asks, Goes, Made, NamesAsk, NamesTold, Plan, Hears, Refuses, Request, Unmade, access, asking, asking_at, asking_names, asks_names, at_file, binding, calls, comes, ends, further_tries, is_revoked, kind_named, led_to, loading, lost_reply, mapping, node_at, opening, over, plan, plan_access, plan_after, plan_bind, plan_bound, plan_call, plan_copy, plan_done, plan_drop, plan_end, plan_found, plan_map, plan_named, plan_names, plan_open, plan_place, plan_reopened, plan_sync, plan_try, refused_as, region_of, release, reopening, reply_of, rerouting, revoke, rights_at, sent, start_state, storing, sync, told_names, trial_of, unknown, unless_refused, unless_unmappable, with_names}
 use Rattle.script_meaning.specs.Stack.{file_named, pages_of, view_of, layer_of}
 use Rattle.script_meaning.specs.Fits.{Acts, AllGoOn, ClientsFit, Closes, Did, Does, InOrder, Line, Phased, last_cut, lines_of, made_on, no_client, plan_closing}
 use Rattle.script_meaning.proofs.Logs.{items-more}
@@ -196,30 +197,58 @@ quiet-rest [] ys all = all
 quiet-rest (at_file file item ∷ xs) ys all = quiet-rest xs ys all.1
 quiet-rest (with_names item ∷ xs) ys all = quiet-rest xs ys all
 
--- PLANS that end with no answer of a fault
+-- CLIENTS WITHOUT A CARRIER lose no call
+abbrev Uncarried : ClientState → Type 0
+Uncarried state = state.carrier ≡ None
+
+sent-uncarried : (request : Request) (state : ClientState) → Uncarried state → Uncarried (sent request state)
+sent-uncarried request state un = by request.far
+  where
+    by : (far : Bool) → cond far (option_map {T = CarrierSeen} (λ c. after_call c) state.carrier) state.carrier ≡ None
+    by true = ap (λ (o : Option CarrierSeen). option_map {T = CarrierSeen} (λ c. after_call c) o) un
+    by false = un
+
+over-none : (request : Request) (state : ClientState) → Uncarried state → over request state ≡ None
+over-none request state un = by request.far
+  where
+    by : (far : Bool) → cond far state.carrier None ≡ None
+    by true = un
+    by false = refl
+
+-- PLANS of clients without a carrier that end with no answer of a fault
 abbrev EndsCalm : Plan → Type 0
-EndsCalm (ends reply state) = is_fault reply ≡ false
-EndsCalm (calls request state go_on) = (told : Told) → EndsCalm (go_on told)
-EndsCalm (asks_names ask state go_on) = (told : NamesTold) → EndsCalm (go_on told)
+EndsCalm (ends reply state) = (is_fault reply ≡ false) × Uncarried state
+EndsCalm (calls request state go_on) = Uncarried state × ((told : Told) → EndsCalm (go_on told))
+EndsCalm (asks_names ask state go_on) = Uncarried state × ((told : NamesTold) → EndsCalm (go_on told))
 EndsCalm unknown = Unit {0}
+
+-- how a line of such a client ends
+abbrev LeftCalm : Reply → ClientState → Type 0
+LeftCalm said left = (is_fault said ≡ false) × Uncarried left
 
 refused-calm : (Full : Type 0) (said : Reply) → (Full → ⊥) → Refuses Full said → is_fault said ≡ false
 refused-calm Full replies.TrailFull none refuses = absurd (none refuses)
 refused-calm Full replies.Memory none refuses = refl
 refused-calm Full _ none refuses = absurd refuses
 
-goes-calm : (Full : ℕ → Type 0) → ((file : ℕ) → Full file → ⊥) → (caller : ℕ) (p : Plan) (made : List Made) (said : Reply) (after_it : ClientState) → EndsCalm p → QuietMade made → Goes Full caller p made said after_it → is_fault said ≡ false
-goes-calm Full none caller (ends reply state) [] said after_it calm quiet goes = ap is_fault goes.0 ∙ calm
+unmade-calm : (carrier : Option CarrierSeen) (Full : Type 0) (request : Request) (state : ClientState) (said : Reply) (left : ClientState) → (Full → ⊥) → carrier ≡ None → Uncarried state → Unmade carrier Full request state said left → LeftCalm said left
+unmade-calm None Full request state said left none is un unmade = (refused-calm Full said none unmade.0, subst Uncarried (sym unmade.1) un)
+unmade-calm (Some c) Full request state said left none is un unmade = absurd (cc is)
+
+goes-calm : (Full : ℕ → Type 0) → ((file : ℕ) → Full file → ⊥) → (caller : ℕ) (p : Plan) (made : List Made) (said : Reply) (after_it : ClientState) → EndsCalm p → QuietMade made → Goes Full caller p made said after_it → LeftCalm said after_it
+goes-calm Full none caller (ends reply state) [] said after_it calm quiet goes = (ap is_fault goes.0 ∙ calm.0, subst Uncarried (sym goes.1) calm.1)
 goes-calm Full none caller (ends reply state) (m ∷ made) said after_it calm quiet goes = absurd goes
-goes-calm Full none caller (calls request state go_on) [] said after_it calm quiet goes = refused-calm (Full request.file) said (none request.file) goes.0
+goes-calm Full none caller (calls request state go_on) [] said after_it calm quiet goes =
+    unmade-calm (over request state) (Full request.file) request state said after_it (none request.file) (over-none request state calm.0) calm.0 goes
 goes-calm Full none caller (calls request state go_on) (at_file at (entered e) ∷ made) said after_it calm quiet goes =
-    goes-calm Full none caller (go_on goes.1.1.0) made said after_it (calm goes.1.1.0) quiet.1 goes.1.1.2
+    goes-calm Full none caller (go_on goes.1.1.0) made said after_it (calm.1 goes.1.1.0) quiet.1
+    (subst (λ (o : Option CarrierSeen). Hears (comes o) (Goes Full caller (go_on goes.1.1.0) made said after_it) ((made ≡ []) × (said ≡ lost_reply o) × (after_it ≡ sent request state))) (over-none request state calm.0) goes.1.1.2)
 goes-calm Full none caller (calls request state go_on) (at_file at (noted by disk count) ∷ made) said after_it calm quiet goes = absurd quiet.0
 goes-calm Full none caller (calls request state go_on) (with_names item ∷ made) said after_it calm quiet goes = absurd goes
-goes-calm Full none caller (asks_names ask state go_on) [] said after_it calm quiet goes = ap is_fault goes.0
+goes-calm Full none caller (asks_names ask state go_on) [] said after_it calm quiet goes = (ap is_fault goes.0, subst Uncarried (sym goes.1) calm.0)
 goes-calm Full none caller (asks_names ask state go_on) (at_file at item ∷ made) said after_it calm quiet goes = absurd goes
 goes-calm Full none caller (asks_names ask state go_on) (with_names item ∷ made) said after_it calm quiet goes =
-    goes-calm Full none caller (go_on (told_names item)) made said after_it (calm (told_names item)) quiet goes.1
+    goes-calm Full none caller (go_on (told_names item)) made said after_it (calm.1 (told_names item)) quiet goes.1
 goes-calm Full none caller unknown made said after_it calm quiet goes = absurd goes
 
 told-calm : (told : Told) → is_fault (reply_of told) ≡ false
@@ -238,114 +267,129 @@ refusal-calm path (refusals.NotContext part) = refl
 refusal-calm path (refusals.NotObject part) = refl
 refusal-calm path refusals.Memory = refl
 
-unless-calm : (state : ClientState) (path : Option (List (List ℕ))) (refused : Option NameErr) (onward : Plan) → EndsCalm onward → EndsCalm (unless_refused state path refused onward)
-unless-calm state path (Some why) onward calm = refusal-calm path why
-unless-calm state path None onward calm = calm
+call-calm : (state : ClientState) (request : Request) → Uncarried state → EndsCalm (plan_call state request)
+call-calm state request un = (un, λ told. (told-calm told, sent-uncarried request state un))
 
-names-calm : (state : ClientState) (ask : NamesAsk) (go_on : List Name → Plan) → ((names : List Name) → EndsCalm (go_on names)) → EndsCalm (plan_names state ask go_on)
-names-calm state ask go_on calm = λ told. unless-calm state ask.path told.refused (go_on told.names) (calm told.names)
+unless-calm : (state : ClientState) (path : Option (List (List ℕ))) (refused : Option NameErr) (onward : Plan) → Uncarried state → EndsCalm onward → EndsCalm (unless_refused state path refused onward)
+unless-calm state path (Some why) onward un calm = (refusal-calm path why, un)
+unless-calm state path None onward un calm = calm
 
-done-calm : (state : ClientState) (ask : NamesAsk) → EndsCalm (plan_done state ask)
-done-calm state ask = names-calm state ask (λ names. ends replies.Done state) (λ names. refl)
+names-calm : (state : ClientState) (ask : NamesAsk) (go_on : List Name → Plan) → Uncarried state → ((names : List Name) → EndsCalm (go_on names)) → EndsCalm (plan_names state ask go_on)
+names-calm state ask go_on un calm = (un, λ told. unless-calm state ask.path told.refused (go_on told.names) un (calm told.names))
 
-bind-calm : (state : ClientState) (path : List (List ℕ)) (kind : ObjectKind) (view file : Option ℕ) → EndsCalm (plan_bind state path kind view file)
-bind-calm state path kind (Some node) (Some file) = done-calm state (binding path kind node file)
-bind-calm state path kind (Some node) None = tt
-bind-calm state path kind None file = tt
+done-calm : (state : ClientState) (ask : NamesAsk) → Uncarried state → EndsCalm (plan_done state ask)
+done-calm state ask un = names-calm state ask (λ names. ends replies.Done state) un (λ names. (refl, un))
 
-named-calm : (state : ClientState) (target : Option Target) (go_on : Target → Plan) → ((found : Target) → EndsCalm (go_on found)) → EndsCalm (plan_named state target go_on)
-named-calm state None go_on calm = refl
-named-calm state (Some target) go_on calm = calm target
+bind-calm : (state : ClientState) (path : List (List ℕ)) (kind : ObjectKind) (view file : Option ℕ) → Uncarried state → EndsCalm (plan_bind state path kind view file)
+bind-calm state path kind (Some node) (Some file) un = done-calm state (binding path kind node file) un
+bind-calm state path kind (Some node) None un = tt
+bind-calm state path kind None file un = tt
+
+named-calm : (state : ClientState) (target : Option Target) (go_on : Target → Plan) → Uncarried state → ((found : Target) → EndsCalm (go_on found)) → EndsCalm (plan_named state target go_on)
+named-calm state None go_on un calm = (refl, un)
+named-calm state (Some target) go_on un calm = calm target
 
 if-calm : (b : Bool) (p q : Plan) → EndsCalm p → EndsCalm q → EndsCalm (cond b p q)
 if-calm true p q one other = one
 if-calm false p q one other = other
 
 abbrev GoesCalm : (ClientState → Told → Plan) → Type 0
-GoesCalm go_on = (state : ClientState) (told : Told) → EndsCalm (go_on state told)
+GoesCalm go_on = (state : ClientState) (told : Told) → Uncarried state → EndsCalm (go_on state told)
 
-try-calm : (mount : Mount) (op : Op) (go_on : ClientState → Told → Plan) (state : ClientState) (target : Target) → GoesCalm go_on → EndsCalm (plan_try mount op go_on state target)
-try-calm mount op go_on state target calm =
-    if-calm (fits_page mount.page_size (pages_of mount target.file) op) (calls (asking target.file (access (node_at mount state target) target.life op)) state (go_on state)) (ends replies.NotOnePage state) (calm state) refl
+try-calm : (mount : Mount) (op : Op) (go_on : ClientState → Told → Plan) (state : ClientState) (target : Target) → Uncarried state → GoesCalm go_on → EndsCalm (plan_try mount op go_on state target)
+try-calm mount op go_on state target un calm =
+    let request : Request = trial_of mount state target op in
+    if-calm (fits_page mount.page_size (pages_of mount target.file) op) (calls request state (go_on (sent request state))) (ends replies.NotOnePage state)
+    (un, λ told. calm (sent request state) told (sent-uncarried request state un)) (refl, un)
 
-reopened-calm : (mount : Mount) (name : List ℕ) (op : Op) (go_on : ClientState → Told → Plan) (state : ClientState) (found : Option Target) → GoesCalm go_on → EndsCalm (plan_reopened mount name op go_on state found)
-reopened-calm mount name op go_on state None calm = refl
-reopened-calm mount name op go_on state (Some found) calm = λ told. try-calm mount op go_on (rerouting state name (led_to found told)) (led_to found told) calm
+reopened-calm : (mount : Mount) (name : List ℕ) (op : Op) (go_on : ClientState → Told → Plan) (state : ClientState) (found : Option Target) → Uncarried state → GoesCalm go_on → EndsCalm (plan_reopened mount name op go_on state found)
+reopened-calm mount name op go_on state None un calm = (refl, un)
+reopened-calm mount name op go_on state (Some found) un calm =
+    let request : Request = reopening mount state found in
+    (un, λ told. try-calm mount op go_on (rerouting (sent request state) name (led_to found told)) (led_to found told) (sent-uncarried request state un) calm)
 
 after-calm : (mount : Mount) (left : ℕ) (name : List ℕ) (path : List (List ℕ)) (op : Op) → GoesCalm (plan_after mount left name path op)
-after-calm mount zero name path op state told = told-calm told
-after-calm mount (suc left) name path op state told =
+after-calm mount zero name path op state told un = (told-calm told, un)
+after-calm mount (suc left) name path op state told un =
     if-calm (is_revoked told.answer)
     (plan_names state (asking_names names_calls.Resolve (Some path)) (λ names. plan_reopened mount name op (plan_after mount left name path op) state (received mount (kept_at names path))))
     (ends (reply_of told) state)
-    (names-calm state (asking_names names_calls.Resolve (Some path)) (λ names. plan_reopened mount name op (plan_after mount left name path op) state (received mount (kept_at names path)))
-    (λ names. reopened-calm mount name op (plan_after mount left name path op) state (received mount (kept_at names path)) (after-calm mount left name path op)))
-    (told-calm told)
+    (names-calm state (asking_names names_calls.Resolve (Some path)) (λ names. plan_reopened mount name op (plan_after mount left name path op) state (received mount (kept_at names path))) un
+    (λ names. reopened-calm mount name op (plan_after mount left name path op) state (received mount (kept_at names path)) un (after-calm mount left name path op)))
+    (told-calm told, un)
 
-access-calm : (mount : Mount) (state : ClientState) (name word : List ℕ) (op : Op) (target : Target) → EndsCalm (plan_access mount state name word op target)
-access-calm mount state name word op target = try-calm mount op (plan_after mount (further_tries target.kind) name (unwrap_or (path_of word) []) op) state target (after-calm mount (further_tries target.kind) name (unwrap_or (path_of word) []) op)
+access-calm : (mount : Mount) (state : ClientState) (name word : List ℕ) (op : Op) → Uncarried state → (target : Target) → EndsCalm (plan_access mount state name word op target)
+access-calm mount state name word op un target =
+    try-calm mount op (plan_after mount (further_tries target.kind) name (unwrap_or (path_of word) []) op) state target un (after-calm mount (further_tries target.kind) name (unwrap_or (path_of word) []) op)
 
-copy-calm : (state : ClientState) (word other : List ℕ) (taken : Option Target) (target : Target) → EndsCalm (plan_copy state word other taken target)
-copy-calm state word other (Some taken) target = refl
-copy-calm state word other None target = refl
+sync-calm : (mount : Mount) (state : ClientState) (keep : Keep) → Uncarried state → (target : Target) → EndsCalm (plan_sync mount state keep target)
+sync-calm mount state keep un target = call-calm state (asking_at mount state (node_at mount state target) target.file (sync (node_at mount state target) keep)) un
 
-found-calm : (mount : Mount) (state : ClientState) (name word : List ℕ) (target : Option Target) → EndsCalm (plan_found mount state name word target)
-found-calm mount state name word None = refl
-found-calm mount state name word (Some target) = told-calm
+copy-calm : (state : ClientState) (word other : List ℕ) (taken : Option Target) → Uncarried state → (target : Target) → EndsCalm (plan_copy state word other taken target)
+copy-calm state word other (Some taken) un target = (refl, un)
+copy-calm state word other None un target = (refl, un)
 
-open-calm : (mount : Mount) (state : ClientState) (name : List ℕ) (path : List (List ℕ)) (taken : Option Target) → EndsCalm (plan_open mount state name path taken)
-open-calm mount state name path (Some taken) = refl
-open-calm mount state name path None =
-    names-calm state (asking_names names_calls.Resolve (Some path)) (λ names. plan_found mount state name (received_word (kept_at names path)) (received mount (kept_at names path))) (λ names. found-calm mount state name (received_word (kept_at names path)) (received mount (kept_at names path)))
+found-calm : (mount : Mount) (state : ClientState) (name word : List ℕ) (target : Option Target) → Uncarried state → EndsCalm (plan_found mount state name word target)
+found-calm mount state name word None un = (refl, un)
+found-calm mount state name word (Some target) un = (un, λ told. (told-calm told, sent-uncarried (opening mount state target) state un))
 
-bound-calm : (state : ClientState) (rights : Option CacheRights) (region : CacheRights → Region) → EndsCalm (plan_bound state rights region)
-bound-calm state None region = refl
-bound-calm state (Some rights) region = told-calm
+open-calm : (mount : Mount) (state : ClientState) (name : List ℕ) (path : List (List ℕ)) (taken : Option Target) → Uncarried state → EndsCalm (plan_open mount state name path taken)
+open-calm mount state name path (Some taken) un = (refl, un)
+open-calm mount state name path None un =
+    names-calm state (asking_names names_calls.Resolve (Some path)) (λ names. plan_found mount state name (received_word (kept_at names path)) (received mount (kept_at names path))) un
+    (λ names. found-calm mount state name (received_word (kept_at names path)) (received mount (kept_at names path)) un)
 
-map-calm : (state : ClientState) (why : Option SpaceErr) (onward : Plan) → EndsCalm onward → EndsCalm (unless_unmappable state why onward)
-map-calm state None onward calm = calm
-map-calm state (Some spaces.RegionExists) onward calm = refl
-map-calm state (Some spaces.Unaligned) onward calm = refl
-map-calm state (Some spaces.TooLong) onward calm = refl
-map-calm state (Some spaces.Overlap) onward calm = refl
-map-calm state (Some spaces.Memory) onward calm = refl
+bound-calm : (state : ClientState) (rights : Option CacheRights) (region : CacheRights → Region) → Uncarried state → EndsCalm (plan_bound state rights region)
+bound-calm state None region un = (refl, un)
+bound-calm state (Some rights) region un = (un, λ told. (told-calm told, un))
 
-place-calm : (state : ClientState) (place : Result Place TranslateErr) (request : Place → Request) → EndsCalm (plan_place state place request)
-place-calm state (Ok place) request = told-calm
-place-calm state (Err (places.Unmapped address)) request = refl
-place-calm state (Err places.CrossesPage) request = refl
-place-calm state (Err places.NotWritable) request = refl
+map-calm : (state : ClientState) (why : Option SpaceErr) (onward : Plan) → Uncarried state → EndsCalm onward → EndsCalm (unless_unmappable state why onward)
+map-calm state None onward un calm = calm
+map-calm state (Some spaces.RegionExists) onward un calm = (refl, un)
+map-calm state (Some spaces.Unaligned) onward un calm = (refl, un)
+map-calm state (Some spaces.TooLong) onward un calm = (refl, un)
+map-calm state (Some spaces.Overlap) onward un calm = (refl, un)
+map-calm state (Some spaces.Memory) onward un calm = (refl, un)
 
-end-calm : (state : ClientState) (ask : ℕ → Ask) (node file : Option ℕ) → EndsCalm (plan_end state ask node file)
-end-calm state ask (Some node) (Some file) = told-calm
-end-calm state ask (Some node) None = tt
-end-calm state ask None file = tt
+place-calm : (state : ClientState) (place : Result Place TranslateErr) (request : Place → Request) → Uncarried state → EndsCalm (plan_place state place request)
+place-calm state (Ok place) request un = call-calm state (request place) un
+place-calm state (Err (places.Unmapped address)) request un = (refl, un)
+place-calm state (Err places.CrossesPage) request un = (refl, un)
+place-calm state (Err places.NotWritable) request un = (refl, un)
 
-plan-calm : (mount : Mount) (state : ClientState) (call : Call) → EndsCalm (plan mount state call)
-plan-calm mount state (lines.Context path) = done-calm state (asking_names names_calls.Context (Some path))
-plan-calm mount state (lines.Bind path sub view file) = bind-calm state path (kind_named sub) (view_of mount view) (file_named mount file)
-plan-calm mount state (lines.Unbind path) = done-calm state (asking_names names_calls.Unbind (Some path))
-plan-calm mount state (lines.List path) = names-calm state (asking_names names_calls.List path) (λ names. ends (replies.Names (listed names path)) state) (λ names. refl)
-plan-calm mount state (lines.Open name path) = open-calm mount state name path (object_of name state.objects)
-plan-calm mount state (lines.Copy name other) =
-    named-calm state (object_of name state.objects) (plan_copy state (word_of name state.objects) other (object_of other state.objects)) (copy-calm state (word_of name state.objects) other (object_of other state.objects))
-plan-calm mount state (lines.Drop name) = named-calm state (object_of name state.objects) (plan_drop state name) (λ target. refl)
-plan-calm mount state (lines.Read name page off len) = named-calm state (object_of name state.objects) (plan_access mount state name (word_of name state.objects) (ops.Read page off len)) (access-calm mount state name (word_of name state.objects) (ops.Read page off len))
-plan-calm mount state (lines.Write name page off bytes) = named-calm state (object_of name state.objects) (plan_access mount state name (word_of name state.objects) (ops.Write page off bytes)) (access-calm mount state name (word_of name state.objects) (ops.Write page off bytes))
-plan-calm mount state (lines.Clear name page) = named-calm state (object_of name state.objects) (plan_access mount state name (word_of name state.objects) (ops.Clear page)) (access-calm mount state name (word_of name state.objects) (ops.Clear page))
-plan-calm mount state (lines.Sync name) = named-calm state (object_of name state.objects) (plan_sync mount state keeps.Write) (λ target. told-calm)
-plan-calm mount state (lines.Clean name) = named-calm state (object_of name state.objects) (plan_sync mount state keeps.Read) (λ target. told-calm)
-plan-calm mount state (lines.Map region name address pages write) =
-    named-calm state (object_of name state.objects) (plan_map mount state region address pages write)
+end-calm : (state : ClientState) (ask : ℕ → Ask) (node file : Option ℕ) → Uncarried state → EndsCalm (plan_end state ask node file)
+end-calm state ask (Some node) (Some file) un = call-calm state (asking file (ask node)) un
+end-calm state ask (Some node) None un = tt
+end-calm state ask None file un = tt
+
+plan-calm : (mount : Mount) (state : ClientState) (call : Call) → Uncarried state → EndsCalm (plan mount state call)
+plan-calm mount state (lines.Context path) un = done-calm state (asking_names names_calls.Context (Some path)) un
+plan-calm mount state (lines.Bind path sub view file) un = bind-calm state path (kind_named sub) (view_of mount view) (file_named mount file) un
+plan-calm mount state (lines.Unbind path) un = done-calm state (asking_names names_calls.Unbind (Some path)) un
+plan-calm mount state (lines.List path) un = names-calm state (asking_names names_calls.List path) (λ names. ends (replies.Names (listed names path)) state) un (λ names. (refl, un))
+plan-calm mount state (lines.Open name path) un = open-calm mount state name path (object_of name state.objects) un
+plan-calm mount state (lines.Copy name other) un =
+    named-calm state (object_of name state.objects) (plan_copy state (word_of name state.objects) other (object_of other state.objects)) un (copy-calm state (word_of name state.objects) other (object_of other state.objects) un)
+plan-calm mount state (lines.Drop name) un = named-calm state (object_of name state.objects) (plan_drop state name) un (λ target. (refl, un))
+plan-calm mount state (lines.Read name page off len) un =
+    named-calm state (object_of name state.objects) (plan_access mount state name (word_of name state.objects) (ops.Read page off len)) un (access-calm mount state name (word_of name state.objects) (ops.Read page off len) un)
+plan-calm mount state (lines.Write name page off bytes) un =
+    named-calm state (object_of name state.objects) (plan_access mount state name (word_of name state.objects) (ops.Write page off bytes)) un (access-calm mount state name (word_of name state.objects) (ops.Write page off bytes) un)
+plan-calm mount state (lines.Clear name page) un =
+    named-calm state (object_of name state.objects) (plan_access mount state name (word_of name state.objects) (ops.Clear page)) un (access-calm mount state name (word_of name state.objects) (ops.Clear page) un)
+plan-calm mount state (lines.Sync name) un = named-calm state (object_of name state.objects) (plan_sync mount state keeps.Write) un (sync-calm mount state keeps.Write un)
+plan-calm mount state (lines.Clean name) un = named-calm state (object_of name state.objects) (plan_sync mount state keeps.Read) un (sync-calm mount state keeps.Read un)
+plan-calm mount state (lines.Map region name address pages write) un =
+    named-calm state (object_of name state.objects) (plan_map mount state region address pages write) un
     (λ target.
-    map-calm state (refusal state.regions region target.file address pages) (plan_bound state (rights_at mount state target) (region_of region address pages write))
-    (bound-calm state (rights_at mount state target) (region_of region address pages write)))
-plan-calm mount state (lines.Unmap region) =
-    if-calm (has_region region state.regions) (ends replies.Done (mapping state (without_region region state.regions))) (ends replies.NoRegion state) refl refl
-plan-calm mount state (lines.Load address len) = place-calm state (translation state.regions address len false) (loading len)
-plan-calm mount state (lines.Store address bytes) = place-calm state (translation state.regions address (length bytes) true) (storing bytes)
-plan-calm mount state (lines.Revoke layer file) = end-calm state revoke (layer_of mount layer) (file_named mount file)
-plan-calm mount state (lines.Release layer file) = end-calm state release (layer_of mount layer) (file_named mount file)
+    map-calm state (refusal state.regions region target.file address pages) (plan_bound state (rights_at mount state target) (region_of region address pages write)) un
+    (bound-calm state (rights_at mount state target) (region_of region address pages write) un))
+plan-calm mount state (lines.Unmap region) un =
+    if-calm (has_region region state.regions) (ends replies.Done (mapping state (without_region region state.regions))) (ends replies.NoRegion state) (refl, un) (refl, un)
+plan-calm mount state (lines.Load address len) un = place-calm state (translation state.regions address len false) (loading len) un
+plan-calm mount state (lines.Store address bytes) un = place-calm state (translation state.regions address (length bytes) true) (storing bytes) un
+plan-calm mount state (lines.Revoke layer file) un = end-calm state revoke (layer_of mount layer) (file_named mount file) un
+plan-calm mount state (lines.Release layer file) un = end-calm state release (layer_of mount layer) (file_named mount file) un
 
 -- WHAT WAS SAID
 abbrev SaidCalm : List Said → Type 0
@@ -362,47 +406,48 @@ said-more : (one rest : List Said) → SaidCalm one → SaidCalm rest → SaidCa
 said-more [] rest first last = last
 said-more (s ∷ one) rest first last = (first.0, said-more one rest first.1 last)
 
-line-calm : (mount : Mount) (Full : ℕ → Type 0) → ((file : ℕ) → Full file → ⊥) → (caller : ℕ) (state : ClientState) (call : Call) (made : List Made) (said : Reply) (after_it : ClientState) → QuietMade made
-    → Line Full caller state (plan mount state call) made said after_it → is_fault said ≡ false
-line-calm mount Full none caller state call made said after_it quiet line =
-    ⊎_elim (λ goes. goes-calm Full none caller (plan mount state call) made said after_it (plan-calm mount state call) quiet goes) (λ lacks. ap is_fault lacks.memory) line
+line-calm : (mount : Mount) (Full : ℕ → Type 0) → ((file : ℕ) → Full file → ⊥) → (caller : ℕ) (state : ClientState) (call : Call) (made : List Made) (said : Reply) (after_it : ClientState) → Uncarried state → QuietMade made
+    → Line Full caller state (plan mount state call) made said after_it → LeftCalm said after_it
+line-calm mount Full none caller state call made said after_it un quiet line =
+    ⊎_elim (λ goes. goes-calm Full none caller (plan mount state call) made said after_it (plan-calm mount state call un) quiet goes) (λ lacks. (ap is_fault lacks.memory, subst Uncarried (sym lacks.same) un)) line
 
-does-calm : (mount : Mount) (Full : ℕ → Type 0) → ((file : ℕ) → Full file → ⊥) → (caller : ℕ) (state : ClientState) (lines : List CallLine) (made : List Made) (said : List Said) (after_it : ClientState) → QuietMade made
-    → Does mount Full caller state lines made said after_it → SaidCalm said
-does-calm mount Full none caller state [] made said after_it quiet does = subst SaidCalm (sym does.1) tt
-does-calm mount Full none caller state (line ∷ lines) made [] after_it quiet does = absurd does
-does-calm mount Full none caller state (line ∷ lines) made (s ∷ said) after_it quiet does =
+does-calm : (mount : Mount) (Full : ℕ → Type 0) → ((file : ℕ) → Full file → ⊥) → (caller : ℕ) (state : ClientState) (lines : List CallLine) (made : List Made) (said : List Said) (after_it : ClientState) → Uncarried state → QuietMade made
+    → Does mount Full caller state lines made said after_it → SaidCalm said × Uncarried after_it
+does-calm mount Full none caller state [] made said after_it un quiet does = (subst SaidCalm (sym does.1) tt, subst Uncarried (sym does.2) un)
+does-calm mount Full none caller state (line ∷ lines) made [] after_it un quiet does = absurd does
+does-calm mount Full none caller state (line ∷ lines) made (s ∷ said) after_it un quiet does =
     let both = subst QuietMade does.3 quiet in
-    (line-calm mount Full none caller state line.call does.0 s.reply does.2 (quiet-first does.0 does.1 both) does.5, does-calm mount Full none caller does.2 lines does.1 said after_it (quiet-rest does.0 does.1 both) does.6)
+    let one = line-calm mount Full none caller state line.call does.0 s.reply does.2 un (quiet-first does.0 does.1 both) does.5 in
+    let more = does-calm mount Full none caller does.2 lines does.1 said after_it one.1 (quiet-rest does.0 does.1 both) does.6 in
+    ((one.0, more.0), more.1)
 
-phased-calm : (mount : Mount) (caller : ℕ) (kept : ClientState) (lines : List CallLine) (old new : Histories) (said : List Said) (after_it : ClientState) → Calm new → Phased mount caller kept lines old new said after_it → SaidCalm said
-phased-calm mount caller kept lines old new said after_it calm phased =
+phased-calm : (mount : Mount) (caller : ℕ) (kept : ClientState) (lines : List CallLine) (old new : Histories) (said : List Said) (after_it : ClientState) → Uncarried kept → Calm new → Phased mount caller kept lines old new said after_it → SaidCalm said × Uncarried after_it
+phased-calm mount caller kept lines old new said after_it un calm phased =
     ⊎_elim
-    (λ worked. does-calm mount (IsFull new) calm.room caller kept lines worked.made said after_it (did-quiet caller old new worked.made worked.did calm) worked.does)
-    (λ idled. subst SaidCalm (sym idled.silent) tt) phased
+    (λ worked. does-calm mount (IsFull new) calm.room caller kept lines worked.made said after_it un (did-quiet caller old new worked.made worked.did calm) worked.does)
+    (λ idled. (subst SaidCalm (sym idled.silent) tt, subst Uncarried (sym idled.same) un)) phased
 
 calm-at : (start : Histories) (cuts : List Histories) → InOrder start cuts → Calm (last_cut start cuts) → Calm start
 calm-at start [] order calm = calm
 calm-at start (cut ∷ cuts) order calm = calm-before start cut order.0 (calm-at cut cuts order.1 calm)
 
-acts-calm : (mount : Mount) (caller : ℕ) (kept : ClientState) (phases : List (List CallLine)) (start : Histories) (cuts : List Histories) (said : List Said) (after_it : ClientState) → InOrder start cuts → Calm (last_cut start cuts)
+acts-calm : (mount : Mount) (caller : ℕ) (kept : ClientState) (phases : List (List CallLine)) (start : Histories) (cuts : List Histories) (said : List Said) (after_it : ClientState) → Uncarried kept → InOrder start cuts → Calm (last_cut start cuts)
     → Acts mount caller kept phases start cuts said after_it → SaidCalm said
-acts-calm mount caller kept [] start [] said after_it order calm acts = subst SaidCalm (sym acts.0) tt
-acts-calm mount caller kept [] start (cut ∷ cuts) said after_it order calm acts = absurd acts
-acts-calm mount caller kept (phase ∷ phases) start [] said after_it order calm acts = absurd acts
-acts-calm mount caller kept (phase ∷ phases) start (cut ∷ cuts) said after_it order calm acts =
-    subst SaidCalm (sym acts.3)
-    (said-more acts.0 acts.1 (phased-calm mount caller kept (lines_of caller phase) start cut acts.0 acts.2 (calm-at cut cuts order.1 calm) acts.4)
-    (acts-calm mount caller acts.2 phases cut cuts acts.1 after_it order.1 calm acts.5))
+acts-calm mount caller kept [] start [] said after_it un order calm acts = subst SaidCalm (sym acts.0) tt
+acts-calm mount caller kept [] start (cut ∷ cuts) said after_it un order calm acts = absurd acts
+acts-calm mount caller kept (phase ∷ phases) start [] said after_it un order calm acts = absurd acts
+acts-calm mount caller kept (phase ∷ phases) start (cut ∷ cuts) said after_it un order calm acts =
+    let one = phased-calm mount caller kept (lines_of caller phase) start cut acts.0 acts.2 un (calm-at cut cuts order.1 calm) acts.4 in
+    subst SaidCalm (sym acts.3) (said-more acts.0 acts.1 one.0 (acts-calm mount caller acts.2 phases cut cuts acts.1 after_it one.1 order.1 calm acts.5))
 
 clients-calm : (mount : Mount) (phases : List (List CallLine)) (start : Histories) (cuts : List Histories) (final : Histories) (client : ℕ) (lines : List ClientLine) (said : List (List Said)) → InOrder start cuts → Calm final
-    → ClientsFit mount phases start cuts final client lines said → list_any has_fault said ≡ false
+    → ClientsFit mount None phases start cuts final client lines said → list_any has_fault said ≡ false
 clients-calm mount phases start cuts final client [] [] order calm fit = refl
 clients-calm mount phases start cuts final client [] (s ∷ said) order calm fit = absurd fit
 clients-calm mount phases start cuts final client (line ∷ lines) [] order calm fit = absurd fit
 clients-calm mount phases start cuts final client (line ∷ lines) (s ∷ said) order calm fit =
     neither (has_fault s) (list_any has_fault said)
-    (no-fault s (acts-calm mount client (start_state mount line) phases start cuts s fit.0.left order (calm-before (last_cut start cuts) final fit.0.after.later calm) fit.0.acts))
+    (no-fault s (acts-calm mount client (start_state mount None line) phases start cuts s fit.0.left refl order (calm-before (last_cut start cuts) final fit.0.after.later calm) fit.0.acts))
     (clients-calm mount phases start cuts final (suc client) lines said order calm fit.1)
 
 -- THE CLOSING SYNCS
@@ -509,7 +554,7 @@ file-counts mount closing log f g leaves sound disk inside =
     still-counts old.0.state.faults new.0.state.faults (counts_of disk log) (leaves.faults.rises disk old.0 new.0 (old.1, new.1)) (sound disk old.0 new.0 (old.1, new.1))
 
 -- THE SCRIPT WAS RUN
-module _ (mount : Mount) (script : Script) (before after : BaySeen) (h : Histories) (said : List (List Said)) (closing : List Reply) (lost : List StoreKey) (notices : List ℕ) (played : Played mount script before after h said closing lost notices)
+module _ (mount : Mount) (script : Script) (before after : BaySeen) (h : Histories) (said : List (List Said)) (closing : List Reply) (lost : List StoreKey) (notices : List ℕ) (played : Played mount None script before after h said closing lost notices)
     (sound : AreStoresSound played.olds played.news) (room : AreNotFull h) where
   quiet-file : (file : ℕ) → file < length mount.files → AreQuiet (items (log_at h file))
   quiet-file file inside =

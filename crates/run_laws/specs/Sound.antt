@@ -1,5 +1,5 @@
 -- Commands in which nothing failed, and how they end.
-use Rattle.std.specs.Prelude.{◌≡◌, ◌⊎◌, ℕ, ◌-◌, ◌^◌, ◌<◌, List, length, slice_get, Option, Some}
+use Rattle.std.specs.Prelude.{◌≡◌, ◌⊎◌, ℕ, ◌-◌, ◌^◌, ◌<◌, List, length, slice_get, Option, None, Some}
 use Rattle.hist_plain.specs.declared.TheConstants.{MAX_EVENTS}
 use Rattle.script_text.specs.declared.script.Script.{Script}
 use Rattle.stack_accept.specs.Mount.{Mount}
@@ -55,14 +55,14 @@ AreNotFull h = (file : ℕ) → place_of (log_at h file) < MAX_EVENTS
 
 -- Nothing under the run failed, by what it says: where the stores were taken none had a fault; where the script was not run over them they
 -- had had images; and where it was, no history got full.
-abbrev pub NothingFailed : {mount : Mount} {script : Script} {traced : Option Ops} {before after : BaySeen} {notices text : List ℕ} {status : Status} → SaysRun mount script traced before after notices text status → Type 0
+abbrev pub NothingFailed : {mount : Mount} {script : Script} {traced : Option Ops} {before after : BaySeen} {notices text : List ℕ} {status : Status} → SaysRun mount None script traced before after notices text status → Type 0
 NothingFailed (stopped stop lost (untaken why) quiet says ends) = Unit {0}
 NothingFailed {mount = mount} (stopped stop lost (unopened halt) quiet says ends) = AreStoresSound halt.olds halt.news × HadImages mount halt.olds
 NothingFailed (reported h said closing lost played says ends) = AreStoresSound played.olds played.news × AreNotFull h
 NothingFailed (ran_out h said closing lost played says ends) = Unit {0}
 
 -- Nothing under the run of a generated script failed, by what it says: as before; and where pages were read and the script was not run, no store had a fault
-abbrev pub NothingFailedSumming : {mount : Mount} {script : Script} {before after : BaySeen} {notices text : List ℕ} {status : Status} → SaysSum mount script before after notices text status → Type 0
+abbrev pub NothingFailedSumming : {mount : Mount} {script : Script} {before after : BaySeen} {notices text : List ℕ} {status : Status} → SaysSum mount None script before after notices text status → Type 0
 NothingFailedSumming (sums.stopped stop lost (untaken why) quiet says ends) = Unit {0}
 NothingFailedSumming {mount = mount} (sums.stopped stop lost (unopened halt) quiet says ends) = AreStoresSound halt.olds halt.news × HadImages mount halt.olds
 NothingFailedSumming (sums.unplayed stop lost halt says ends) = AreStoresSound halt.olds halt.news
@@ -71,13 +71,13 @@ NothingFailedSumming (sums.ran_out h said closing lost played says ends) = Unit 
 
 -- so it is with the run of a generated script
 abbrev pub SoundSumEndsWell : Type 0
-SoundSumEndsWell = (mount : Mount) (script : Script) (before after : BaySeen) (notices text : List ℕ) (status : Status) (says : SaysSum mount script before after notices text status)
+SoundSumEndsWell = (mount : Mount) (script : Script) (before after : BaySeen) (notices text : List ℕ) (status : Status) (says : SaysSum mount None script before after notices text status)
     → IsBaySound before after → NothingFailedSumming says → (status ≡ Good) ⊎ (status ≡ Memory)
 
 -- NO FAILURE IS MADE UP: if neither the bay nor a store failed, each store that was taken had an image and no history got full, the run ends
 -- well, or memory ran out
 abbrev pub SoundRunEndsWell : Type 0
-SoundRunEndsWell = (mount : Mount) (script : Script) (traced : Option Ops) (before after : BaySeen) (notices text : List ℕ) (status : Status) (says : SaysRun mount script traced before after notices text status)
+SoundRunEndsWell = (mount : Mount) (script : Script) (traced : Option Ops) (before after : BaySeen) (notices text : List ℕ) (status : Status) (says : SaysRun mount None script traced before after notices text status)
     → IsBaySound before after → NothingFailed says → (status ≡ Good) ⊎ (status ≡ Memory)
 
 -- no count of these stores rose, by what the bay tells of them

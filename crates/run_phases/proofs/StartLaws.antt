@@ -1,5 +1,5 @@
 -- How many lines a client has, and the clients one after another.
-use Rattle.std.proofs.Common.{◌≡◌, ℕ, zero, suc, ◌+◌, ◌<◌, ◌≤◌, ◌==◌, Bool, true, false, cond, List, [], ◌∷◌, ◌++◌, length, map, take, get_or, vec_capacity, sym, ap, subst, ◌∙◌, arith, length-append}
+use Rattle.std.proofs.Common.{◌≡◌, ℕ, zero, suc, ◌+◌, ◌<◌, ◌≤◌, ◌==◌, Bool, true, false, cond, List, [], ◌∷◌, ◌++◌, length, map, take, get_or, vec_capacity, Option, sym, ap, subst, ◌∙◌, arith, length-append}
 use Rattle.std.specs.List.{flat_map}
 use Rattle.std.proofs.lemmas.List.{take_more, length-map, append-nil, length-take-le}
 use Rattle.std.proofs.lemmas.Grind.{flat_map-append}
@@ -58,19 +58,19 @@ lines-more phases i k phase is lt =
     ∙ length-append (flat_map (lines_of k) (take i phases)) (lines_of k phase))
 
 -- one more client
-started-more : (mount : Mount) (caller : ℕ) (lines : List ClientLine) (workers : List Worker) (line : ClientLine) (worker : Worker) → AreStarted mount caller lines workers → IsStarted mount (caller + length lines) line worker
-    → AreStarted mount caller (lines ++ line ∷ []) (workers ++ worker ∷ [])
-started-more mount caller [] [] line worker so is = (subst (λ n. IsStarted mount n line worker) (omega arith) is, tt)
-started-more mount caller [] (w ∷ workers) line worker so is = absurd so
-started-more mount caller (l ∷ lines) [] line worker so is = absurd so
-started-more mount caller (l ∷ lines) (w ∷ workers) line worker so is = (so.0, started-more mount (suc caller) lines workers line worker so.1 (subst (λ n. IsStarted mount n line worker) (omega arith) is))
+started-more : (mount : Mount) (loss : Option ℕ) (caller : ℕ) (lines : List ClientLine) (workers : List Worker) (line : ClientLine) (worker : Worker) → AreStarted mount loss caller lines workers → IsStarted mount loss (caller + length lines) line worker
+    → AreStarted mount loss caller (lines ++ line ∷ []) (workers ++ worker ∷ [])
+started-more mount loss caller [] [] line worker so is = (subst (λ n. IsStarted mount loss n line worker) (omega arith) is, tt)
+started-more mount loss caller [] (w ∷ workers) line worker so is = absurd so
+started-more mount loss caller (l ∷ lines) [] line worker so is = absurd so
+started-more mount loss caller (l ∷ lines) (w ∷ workers) line worker so is = (so.0, started-more mount loss (suc caller) lines workers line worker so.1 (subst (λ n. IsStarted mount loss n line worker) (omega arith) is))
 
 -- one more client, by its number
-pub started-next : (mount : Mount) (lines : List ClientLine) (i : ℕ) (workers : List Worker) (d : ClientLine) (worker : Worker) → i < length lines → AreStarted mount 0 (take i lines) workers → IsStarted mount i (get_or lines i d) worker
-    → AreStarted mount 0 (take (i + 1) lines) (workers ++ worker ∷ [])
-started-next mount lines i workers d worker lt so is =
-    subst (λ (ls : List ClientLine). AreStarted mount 0 ls (workers ++ worker ∷ [])) (sym (take_more lines i d lt))
-    (started-more mount 0 (take i lines) workers (get_or lines i d) worker so (let len = length-take-le i lines (omega arith) in let place : i ≡ 0 + length (take i lines) = omega (arith, len) in subst (λ n. IsStarted mount n (get_or lines i d) worker) place is))
+pub started-next : (mount : Mount) (loss : Option ℕ) (lines : List ClientLine) (i : ℕ) (workers : List Worker) (d : ClientLine) (worker : Worker) → i < length lines → AreStarted mount loss 0 (take i lines) workers → IsStarted mount loss i (get_or lines i d) worker
+    → AreStarted mount loss 0 (take (i + 1) lines) (workers ++ worker ∷ [])
+started-next mount loss lines i workers d worker lt so is =
+    subst (λ (ls : List ClientLine). AreStarted mount loss 0 ls (workers ++ worker ∷ [])) (sym (take_more lines i d lt))
+    (started-more mount loss 0 (take i lines) workers (get_or lines i d) worker so (let len = length-take-le i lines (omega arith) in let place : i ≡ 0 + length (take i lines) = omega (arith, len) in subst (λ n. IsStarted mount loss n (get_or lines i d) worker) place is))
 
 -- the clients have room for their answers, and so has one more
 pub room-more : (phases : List (List CallLine)) (workers : List Worker) (worker : Worker) → HaveRoom phases workers → worker.said.items ≡ [] → length (flat_map (lines_of worker.client.caller) phases) ≤ vec_capacity worker.said → HaveRoom phases (workers ++ worker ∷ [])

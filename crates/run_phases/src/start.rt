@@ -57,25 +57,28 @@ fn worker_of(
     caller: u32,
     line: &ClientLine,
     lines: usize,
+    loss: Option<u32>,
 ) -> Result<Worker, AllocError>
-    ensures started { IfOk result (IsStarted mount.now caller line.now) }
+    ensures started { IfOk result (IsStarted mount.now loss caller line.now) }
     ensures room { IfOk result (λ worker. lines ≤ vec_capacity worker.said) }
 {
     let machine = machine_of(mount, &line.machine)?;
     Ok(Worker {
-        client: Client::new(alloc, mount, caller, machine)?,
+        client: Client::new(alloc, mount, caller, machine, loss)?,
         said: Vec::with_capacity(alloc, lines)?,
     })
 }
 
-/// The clients of a script, each with room for the answers to its lines.
+/// The clients of a script, each with room for the answers to its lines. If a number is given, each loses the packets whose number this one
+/// divides, on a link of its own.
 pub fn workers_of(
     alloc: Global,
     mount: &Mounted,
     script: &Script,
+    loss: Option<u32>,
 ) -> Result<Vec<Worker>, AllocError>
     requires { IsScript script.now }
-    ensures started { IfOk result (λ workers. AreStarted mount.now 0 script.now.clients workers.items) }
+    ensures started { IfOk result (λ workers. AreStarted mount.now loss 0 script.now.clients workers.items) }
     ensures room { IfOk result (λ workers. HaveRoom script.now.phases workers.items) }
 {
     let lines = script.clients.as_slice();
@@ -88,6 +91,7 @@ pub fn workers_of(
             caller,
             &lines[number],
             lines_of(script, caller),
+            loss,
         )?;
         workers.push(worker)?;
     }

@@ -1,6 +1,7 @@
 -- How what a caller did is put together.
-use Rattle.std.proofs.Common.{◌≡◌, ℕ, suc, ◌+◌, ◌≤◌, ◌<◌, ◌==◌, Bool, true, false, cond, List, [], ◌∷◌, ◌++◌, length, map, Some, refl, sym, ap, subst, ◌∙◌, arith, append_assoc, inl, inr, ⊎_elim}
+use Rattle.std.proofs.Common.{◌≡◌, ℕ, suc, ◌+◌, ◌≤◌, ◌<◌, ◌==◌, Bool, true, false, cond, List, [], ◌∷◌, ◌++◌, length, map, Option, Some, None, refl, sym, ap, subst, ◌∙◌, arith, append_assoc, inl, inr, ⊎_elim}
 use Rattle.std.specs.List.{flat_map}
+use Rattle.std.specs.Option.{option_map}
 use Rattle.std.proofs.lemmas.List.{append-nil, map-append}
 use Rattle.std.proofs.lemmas.Grind.{flat_map-append}
 use Rattle.hist_plain.specs.declared.event.Event.{Event}
@@ -19,7 +20,8 @@ use Rattle.name_context.specs.declared.entry.NameEntry.{NameEntry}
 use Rattle.name_context.specs.History.{NamesSeen}
 use Rattle.script_meaning.specs.Log.{Histories, items_from, items, Item, NameItem, entered, noted, who, by_caller, name_items, names_by, log_at, IsFull}
 use Rattle.client_objects.specs.declared.state.ClientState.{ClientState}
-use Rattle.script_meaning.specs.Plan.{Plan, ends, calls, asks_names, unknown, Request, Ask, NamesAsk, NamesTold, Made, at_file, with_names, Makes, Asks, AsksNames, told_names, Goes, Refuses, plan}
+use Rattle.link_lossy.specs.Carriers.{CarrierSeen, Starves, after_call, is_lost_by, losses}
+use Rattle.script_meaning.specs.Plan.{Plan, ends, calls, asks_names, unknown, Request, Ask, NamesAsk, NamesTold, Made, at_file, with_names, Makes, Asks, AsksNames, Hears, Unmade, carrying, comes, heard, lost_reply, over, sent, told_names, Goes, Refuses, RefusesOver, plan}
 use Rattle.script_meaning.specs.Fits.{made_on, made_with_names, SyncsFrom, SyncsInOrder, GoesOn, NamesGoOn, AllGoOn, Did, Gone, Went, Worked, Phased, Does, Line, Acts, InOrder, last_cut, lines_of, IsAnswered}
 use Rattle.script_meaning.proofs.Logs.{length-trail_of-append}
 
@@ -157,12 +159,26 @@ makes_later : (c : ℕ) (ask : Ask) (item : Item) (T T' : Told → Type 0) (E : 
 makes_later c ask (entered e) T T' E f h = (h.0, (h.1.0, h.1.1, f h.1.0 h.1.2))
 makes_later c ask (noted by disk count) T T' E f h = h
 
+refuses_over-later : (A B : Type 0) (c : CarrierSeen) (request : Request) (state : ClientState) (said : Reply) (left : ClientState) → (A → B) → RefusesOver c A request state said left → RefusesOver c B request state said left
+refuses_over-later A B c request state (replies.Link count) left f h = h
+refuses_over-later A B c request state replies.TrailFull left f h = (h.0, f h.1, h.2)
+refuses_over-later A B c request state replies.Memory left f h = h
+refuses_over-later A B c request state _ left f h = h
+
+unmade_later : (A B : Type 0) (o : Option CarrierSeen) (request : Request) (state : ClientState) (said : Reply) (left : ClientState) → (A → B) → Unmade o A request state said left → Unmade o B request state said left
+unmade_later A B None request state said left f h = (refuses_later A B said f h.0, h.1)
+unmade_later A B (Some c) request state said left f h = refuses_over-later A B c request state said left f h
+
+hears_later : (b : Bool) (T T' E : Type 0) → (T → T') → Hears b T E → Hears b T' E
+hears_later true T T' E f h = f h
+hears_later false T T' E f h = h
+
 pub goes_later : (F G : ℕ → Type 0) → ((file : ℕ) → F file → G file) → (c : ℕ) (p : Plan) (made : List Made) (said : Reply) (left : ClientState) → Goes F c p made said left → Goes G c p made said left
 goes_later F G f c (ends reply state) [] said left h = h
 goes_later F G f c (ends reply state) (m ∷ made) said left h = h
-goes_later F G f c (calls request state go_on) [] said left h = (refuses_later (F request.file) (G request.file) said (f request.file) h.0, h.1)
+goes_later F G f c (calls request state go_on) [] said left h = unmade_later (F request.file) (G request.file) (over request state) request state said left (f request.file) h
 goes_later F G f c (calls request state go_on) (at_file at item ∷ made) said left h =
-    (h.0, makes_later c request.ask item _ _ _ (λ t k. goes_later F G f c (go_on t) made said left k) h.1)
+    (h.0, makes_later c request.ask item _ _ _ (λ t k. hears_later (comes (over request state)) _ _ _ (λ g. goes_later F G f c (go_on t) made said left g) k) h.1)
 goes_later F G f c (calls request state go_on) (with_names item ∷ made) said left h = h
 goes_later F G f c (asks_names ask state go_on) [] said left h = h
 goes_later F G f c (asks_names ask state go_on) (at_file at item ∷ made) said left h = h
@@ -199,33 +215,92 @@ gone_none c p old reply left is = record {
 pub went_lacks : (c : ℕ) (kept : ClientState) (p : Plan) (old : Histories) → Went c kept p old old replies.Memory kept
 went_lacks c kept p old = record { made = []; did = did_nothing c old old refl; goes = inr (record { nothing = refl; memory = refl; same = refl }) }
 
--- a call that was answered, and what the plan does then
+-- a reply that comes is heard
+hears_came : (b : Bool) (T E : Type 0) → b ≡ true → T → Hears b T E
+hears_came b T E is t = subst (λ (x : Bool). Hears x T E) (sym is) t
+
+hears_lost : (b : Bool) (T E : Type 0) → b ≡ false → E → Hears b T E
+hears_lost b T E is e = subst (λ (x : Bool). Hears x T E) (sym is) e
+
+heard_if : (b : Bool) (o : Option CarrierSeen) (reply : Reply) → comes o ≡ b → heard o reply ≡ cond b reply (lost_reply o)
+heard_if b o reply is = ap (λ (x : Bool). cond x reply (lost_reply o)) is
+
+-- a call that stays on its client's machine comes back, and leaves the state
+pub comes_here : (o : Option CarrierSeen) → o ≡ None → comes o ≡ true
+comes_here o none = ap (λ (x : Option CarrierSeen). comes x) none
+
+sent_by : (far : Bool) (o : Option CarrierSeen) → cond far o None ≡ None → cond far (option_map {T = CarrierSeen} (λ c. after_call c) o) o ≡ o
+sent_by true None none = refl
+sent_by true (Some c) none = absurd cc
+sent_by false o none = refl
+
+pub sent_here : (request : Request) (state : ClientState) → over request state ≡ None → sent request state ≡ state
+sent_here request state none = ap (carrying state) (sent_by request.far state.carrier none)
+
+-- a call that was answered, and what the plan does then, if the answer comes
 pub gone_call : (c : ℕ) (p : Plan) (request : Request) (state : ClientState) (go_on : Told → Plan) (old mid new : Histories) (e : Entry) (told : Told) (rest : List Made) (reply : Reply) (left : ClientState)
-    → p ≡ calls request state go_on → Did c old mid (at_file request.file (entered e) ∷ []) → Asks c request.ask e.event → e.told ≡ Some told
+    → p ≡ calls request state go_on → comes (over request state) ≡ true → Did c old mid (at_file request.file (entered e) ∷ []) → Asks c request.ask e.event → e.told ≡ Some told
     → Did c mid new rest → Goes (IsFull new) c (go_on told) rest reply left → Gone c p old new reply left
-gone_call c p request state go_on old mid new e told rest reply left is did asks answered more goes = record {
+gone_call c p request state go_on old mid new e told rest reply left is came did asks answered more goes = record {
   made = at_file request.file (entered e) ∷ rest;
   did = did_then c old mid new (at_file request.file (entered e) ∷ []) rest did more;
-  goes = subst (λ (q : Plan). Goes (IsFull new) c q (at_file request.file (entered e) ∷ rest) reply left) (sym is) (refl, (asks, (told, answered, goes)));
+  goes = subst (λ (q : Plan). Goes (IsFull new) c q (at_file request.file (entered e) ∷ rest) reply left) (sym is)
+      (refl, (asks, (told, answered, hears_came (comes (over request state)) (Goes (IsFull new) c (go_on told) rest reply left) ((rest ≡ []) × (reply ≡ lost_reply (over request state)) × (left ≡ sent request state)) came goes)));
 }
 
--- a call whose store failed
+-- a call that was answered, whose answer was lost
+pub gone_lost : (c : ℕ) (p : Plan) (request : Request) (state : ClientState) (go_on : Told → Plan) (old new : Histories) (e : Entry) (told : Told)
+    → p ≡ calls request state go_on → comes (over request state) ≡ false → Did c old new (at_file request.file (entered e) ∷ []) → Asks c request.ask e.event → e.told ≡ Some told
+    → Gone c p old new (lost_reply (over request state)) (sent request state)
+gone_lost c p request state go_on old new e told is lost did asks answered = record {
+  made = at_file request.file (entered e) ∷ [];
+  did = did;
+  goes = subst (λ (q : Plan). Goes (IsFull new) c q (at_file request.file (entered e) ∷ []) (lost_reply (over request state)) (sent request state)) (sym is) (
+    refl,
+    (
+      asks,
+      (
+        told,
+        answered,
+        hears_lost (comes (over request state)) (Goes (IsFull new) c (go_on told) [] (lost_reply (over request state)) (sent request state))
+            ((◌≡◌ {A = List Made} [] []) × (lost_reply (over request state) ≡ lost_reply (over request state)) × (sent request state ≡ sent request state)) lost (refl, refl, refl),
+      ),
+    ),
+  );
+}
+
+-- a call whose store failed, whether that comes or not
 pub gone_fault : (c : ℕ) (p : Plan) (request : Request) (state : ClientState) (go_on : Told → Plan) (old new : Histories) (disk count : ℕ)
-    → p ≡ calls request state go_on → Did c old new (at_file request.file (noted c disk count) ∷ []) → Gone c p old new (replies.Store disk count) state
+    → p ≡ calls request state go_on → Did c old new (at_file request.file (noted c disk count) ∷ []) → Gone c p old new (heard (over request state) (replies.Store disk count)) (sent request state)
 gone_fault c p request state go_on old new disk count is did = record {
   made = at_file request.file (noted c disk count) ∷ [];
   did = did;
-  goes = subst (λ (q : Plan). Goes (IsFull new) c q (at_file request.file (noted c disk count) ∷ []) (replies.Store disk count) state) (sym is) (refl, (refl, (refl, refl, refl)));
+  goes = subst (λ (q : Plan). Goes (IsFull new) c q (at_file request.file (noted c disk count) ∷ []) (heard (over request state) (replies.Store disk count)) (sent request state)) (sym is) (refl, (refl, (refl, refl, refl)));
 }
 
 -- a call that did nothing
-pub gone_refused : (c : ℕ) (p : Plan) (request : Request) (state : ClientState) (go_on : Told → Plan) (old new : Histories) (reply : Reply)
-    → p ≡ calls request state go_on → Did c old new [] → Refuses (IsFull new request.file) reply → Gone c p old new reply state
-gone_refused c p request state go_on old new reply is did refused = record {
+pub gone_unmade : (c : ℕ) (p : Plan) (request : Request) (state : ClientState) (go_on : Told → Plan) (old new : Histories) (reply : Reply) (left : ClientState)
+    → p ≡ calls request state go_on → Did c old new [] → Unmade (over request state) (IsFull new request.file) request state reply left → Gone c p old new reply left
+gone_unmade c p request state go_on old new reply left is did unmade = record {
   made = [];
   did = did;
-  goes = subst (λ (q : Plan). Goes (IsFull new) c q [] reply state) (sym is) (refused, refl);
+  goes = subst (λ (q : Plan). Goes (IsFull new) c q [] reply left) (sym is) unmade;
 }
+
+-- one that stays on its client's machine
+pub gone_refused : (c : ℕ) (p : Plan) (request : Request) (state : ClientState) (go_on : Told → Plan) (old new : Histories) (reply : Reply)
+    → p ≡ calls request state go_on → over request state ≡ None → Did c old new [] → Refuses (IsFull new request.file) reply → Gone c p old new reply state
+gone_refused c p request state go_on old new reply is here did refused =
+    gone_unmade c p request state go_on old new reply state is did (subst (λ (o : Option CarrierSeen). Unmade o (IsFull new request.file) request state reply state) (sym here) (refused, refl))
+
+unmade_lacks : (o : Option CarrierSeen) (Full : Type 0) (request : Request) (state : ClientState) → Unmade o Full request state replies.Memory state
+unmade_lacks None Full request state = (tt, refl)
+unmade_lacks (Some c) Full request state = inl refl
+
+-- one for which memory lacked before it was sent
+pub gone_lacks : (c : ℕ) (p : Plan) (request : Request) (state : ClientState) (go_on : Told → Plan) (old new : Histories) → p ≡ calls request state go_on → Did c old new [] → Gone c p old new replies.Memory state
+gone_lacks c p request state go_on old new is did =
+    gone_unmade c p request state go_on old new replies.Memory state is did (unmade_lacks (over request state) (IsFull new request.file) request state)
 
 -- a call on the names that was made, and what the plan does then
 pub gone_named : (c : ℕ) (p : Plan) (ask : NamesAsk) (state : ClientState) (go_on : NamesTold → Plan) (old mid new : Histories) (item : NameItem) (reply : Reply) (left : ClientState)

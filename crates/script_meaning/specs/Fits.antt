@@ -1,5 +1,5 @@
 -- Which histories and answers a script may have.
-use Rattle.std.specs.Prelude.{◌≡◌, ◌⊎◌, ℕ, suc, ◌≤◌, ◌==◌, List, [], ◌∷◌, ◌++◌, length, map, filter, if◌then◌else◌, IfSome}
+use Rattle.std.specs.Prelude.{◌≡◌, ◌⊎◌, ℕ, suc, ◌≤◌, ◌==◌, List, [], ◌∷◌, ◌++◌, length, map, filter, if◌then◌else◌, Option, None, IfSome}
 use Rattle.std.specs.List.{AllByRecursion, flat_map}
 use Rattle.hist_plain.specs.declared.event.Event.{Event}
 use Rattle.hist_plain.specs.declared.event.Event.TheVariants as events
@@ -138,18 +138,18 @@ last_cut start [] = start
 last_cut start (cut ∷ cuts) = last_cut cut cuts
 
 -- a client's part in the histories: its phases up to the last cut, from the start on its machine, and nothing after that
-pub record ClientFits (mount : Mount) (phases : List (List CallLine)) (start : Histories) (cuts : List Histories) (final : Histories) (client : ℕ) (line : ClientLine) (said : List Said) : Type 0 where
+pub record ClientFits (mount : Mount) (loss : Option ℕ) (phases : List (List CallLine)) (start : Histories) (cuts : List Histories) (final : Histories) (client : ℕ) (line : ClientLine) (said : List Said) : Type 0 where
   pub left : ClientState
-  pub acts : Acts mount client (start_state mount line) phases start cuts said left
+  pub acts : Acts mount client (start_state mount loss line) phases start cuts said left
   pub after : Did client (last_cut start cuts) final []
 
 -- the part of each client from this one on, with its answers
-abbrev pub ClientsFit : Mount → List (List CallLine) → Histories → List Histories → Histories → ℕ → List ClientLine → List (List Said) → Type 0
-ClientsFit mount phases start cuts final client [] [] = Unit {0}
-ClientsFit mount phases start cuts final client [] (said ∷ more) = ⊥
-ClientsFit mount phases start cuts final client (line ∷ lines) [] = ⊥
-ClientsFit mount phases start cuts final client (line ∷ lines) (said ∷ more) =
-    ClientFits mount phases start cuts final client line said × ClientsFit mount phases start cuts final (suc client) lines more
+abbrev pub ClientsFit : Mount → Option ℕ → List (List CallLine) → Histories → List Histories → Histories → ℕ → List ClientLine → List (List Said) → Type 0
+ClientsFit mount loss phases start cuts final client [] [] = Unit {0}
+ClientsFit mount loss phases start cuts final client [] (said ∷ more) = ⊥
+ClientsFit mount loss phases start cuts final client (line ∷ lines) [] = ⊥
+ClientsFit mount loss phases start cuts final client (line ∷ lines) (said ∷ more) =
+    ClientFits mount loss phases start cuts final client line said × ClientsFit mount loss phases start cuts final (suc client) lines more
 
 -- a client has an answer for each of its call lines, in order
 abbrev pub IsAnswered : List (List CallLine) → ℕ → List Said → Type 0
@@ -166,9 +166,9 @@ AreAnswered phases client (line ∷ lines) (said ∷ more) = IsAnswered phases c
 abbrev pub EachAnswered : Script → List (List Said) → Type 0
 EachAnswered script said = AreAnswered script.phases 0 script.clients said
 
--- the caller `mount` is no client: it has no object, and no address space
+-- the caller `mount` is no client: it has no object, no address space and no carrier
 abbrev pub no_client : ClientState
-no_client = record { machine = 0; objects = []; regions = record { page_size = 0; files = []; regions = [] } }
+no_client = record { machine = 0; objects = []; regions = record { page_size = 0; files = []; regions = [] }; carrier = None }
 
 -- the closing sync of a file, at the layer above the ground
 abbrev pub plan_closing : ℕ → Plan
@@ -199,12 +199,13 @@ IsEntryUpTo last entry = entry.caller ≤ last
 
 -- The histories, the answers and the closing answers fit the script: each client did its lines phase by phase, or nothing in a
 -- phase, and then `mount` the closing syncs; nobody else did anything, each caller's events are numbered from 0, and the names' history
--- explains itself.
-pub record FitsScript (mount : Mount) (script : Script) (start final : Histories) (said : List (List Said)) (closing : List Reply) : Type 0 where
+-- explains itself. If a number is given, each client's calls to other machines go over a carrier of its own, which loses the packets whose
+-- number this one divides.
+pub record FitsScript (mount : Mount) (loss : Option ℕ) (script : Script) (start final : Histories) (said : List (List Said)) (closing : List Reply) : Type 0 where
   pub cuts : List Histories
   pub cut_each : length cuts ≡ length script.phases
   pub in_order : InOrder start cuts
-  pub clients : ClientsFit mount script.phases start cuts final 0 script.clients said
+  pub clients : ClientsFit mount loss script.phases start cuts final 0 script.clients said
   pub closings : MountFits mount (length script.clients) start cuts final closing
   pub numbered : AllByRecursion (λ log. IsNumbered (trail_of log)) final.logs
   pub callers : AllByRecursion (λ log. AllByRecursion (IsUpTo (length script.clients)) (items log)) final.logs

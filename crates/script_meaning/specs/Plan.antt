@@ -1,5 +1,5 @@
 -- What a line of a script does: the calls that it makes, one after another, and its answer.
-use Rattle.std.specs.Prelude.{◌≡◌, ℕ, zero, suc, List, [], ◌∷◌, length, unwrap_or, Bool, true, false, if◌then◌else◌, slice_index_or, Option, Some, None, Result, Ok, Err}
+use Rattle.std.specs.Prelude.{◌≡◌, ℕ, zero, suc, List, [], ◌∷◌, length, unwrap_or, Bool, true, false, not, ◌==◌, ◌⊎◌, if◌then◌else◌, slice_get, slice_index_or, Option, Some, None, Result, Ok, Err}
 use Rattle.std.specs.Option.{option_map}
 use Rattle.hist_plain.specs.declared.event.Op.{Op}
 use Rattle.hist_plain.specs.declared.event.Op.TheVariants as ops
@@ -44,7 +44,8 @@ use Rattle.vmm_space.specs.declared.why.SpaceErr.TheVariants as spaces
 use Rattle.vmm_space.specs.declared.why.TranslateErr.{TranslateErr}
 use Rattle.vmm_space.specs.declared.why.TranslateErr.TheVariants as places
 use Rattle.vmm_space.specs.Spaces.{SpaceShape, blank_of, with_region, without_region, has_region, refusal, translation}
-use Rattle.script_meaning.specs.Stack.{pages_of, view_of, layer_of, file_named}
+use Rattle.link_lossy.specs.Carriers.{CarrierSeen, Starves, after_call, is_lost_by, losses}
+use Rattle.script_meaning.specs.Stack.{is_far, pages_of, view_of, layer_of, file_named}
 use Rattle.script_meaning.specs.Log.{Item, NameItem, entered, noted}
 
 -- what a line may ask of a file
@@ -57,9 +58,16 @@ pub data Ask : Type 0 where
 pub record Request : Type 0 where
   pub file : ℕ
   pub ask : Ask
+  -- whether it goes to another machine than the client's
+  pub far : Bool
 
+-- what is asked on the client's machine, or of a stack as a whole
 abbrev pub asking : ℕ → Ask → Request
-asking file ask = record { file = file; ask = ask }
+asking file ask = record { file = file; ask = ask; far = false }
+
+-- what an open object's call asks of a node, which may be on another machine
+abbrev pub asking_at : Mount → ClientState → ℕ → ℕ → Ask → Request
+asking_at mount state node file ask = record { file = file; ask = ask; far = is_far mount state.machine node }
 
 -- what a line may ask of the names, and what it binds
 pub record NamesAsk : Type 0 where
@@ -80,9 +88,18 @@ pub data Plan : Type 0 where
   asks_names : NamesAsk → ClientState → (NamesTold → Plan) → Plan
   unknown : Plan
 
--- a client at the start: it is on its machine, with no object open and nothing mapped
-abbrev pub start_state : Mount → ClientLine → ClientState
-start_state mount line = record { machine = number_in mount.machines line.machine; objects = []; regions = blank_of mount }
+-- a carrier that has sent nothing, and loses the packets whose number this one divides
+abbrev pub fresh : ℕ → CarrierSeen
+fresh every = record { every = every; packets = 0; waits = false }
+
+-- a client at the start: it is on its machine, with no object open and nothing mapped; and it has a carrier, if its calls may be lost
+abbrev pub start_state : Mount → Option ℕ → ClientLine → ClientState
+start_state mount loss line = record {
+  machine = number_in mount.machines line.machine;
+  objects = [];
+  regions = blank_of mount;
+  carrier = option_map {T = ℕ} fresh loss;
+}
 
 -- the state with these objects open
 abbrev pub holding : ClientState → List OpenObject → ClientState
@@ -91,6 +108,32 @@ holding state objects = record state { objects = objects }
 -- the state with this address space
 abbrev pub mapping : ClientState → SpaceShape → ClientState
 mapping state space = record state { regions = space }
+
+-- the state with this carrier
+abbrev pub carrying : ClientState → Option CarrierSeen → ClientState
+carrying state carrier = record state { carrier = carrier }
+
+-- what carries a call of a client: nothing, if it has no carrier or the call stays on its machine
+abbrev pub over : Request → ClientState → Option CarrierSeen
+over request state = if request.far then state.carrier else None
+
+-- the client in this state after a call that was not refused for want of memory: its carrier has sent the packets of the call's tries
+abbrev pub sent : Request → ClientState → ClientState
+sent request state = carrying state (if request.far then option_map {T = CarrierSeen} (λ c. after_call c) state.carrier else state.carrier)
+
+-- whether the reply to a call comes
+abbrev pub comes : Option CarrierSeen → Bool
+comes None = true
+comes (Some c) = not (is_lost_by c)
+
+-- what a line answers whose call is lost: how many of the client's packets are lost then
+abbrev pub lost_reply : Option CarrierSeen → Reply
+lost_reply None = replies.Memory
+lost_reply (Some c) = replies.Link (losses (after_call c))
+
+-- what a line answers for which a call came back with this answer, if it came back
+abbrev pub heard : Option CarrierSeen → Reply → Reply
+heard carrier reply = if comes carrier then reply else lost_reply carrier
 
 -- the node to which the calls of an open object go, for a client in this state
 abbrev pub node_at : Mount → ClientState → Target → ℕ
@@ -119,7 +162,7 @@ refused_as path refusals.Memory = replies.Memory
 
 -- a call whose answer is the line's
 abbrev pub plan_call : ClientState → Request → Plan
-plan_call state request = calls request state (λ told. ends (reply_of told) state)
+plan_call state request = calls request state (λ told. ends (reply_of told) (sent request state))
 
 -- what comes after a call on the names: a refusal ends the line
 abbrev pub unless_refused : ClientState → Option (List (List ℕ)) → Option NameErr → Plan → Plan
@@ -165,11 +208,15 @@ abbrev pub is_revoked : Answer → Bool
 is_revoked (answers.Revoked life) = true
 is_revoked answer = false
 
+-- an access of an open object
+abbrev pub trial_of : Mount → ClientState → Target → Op → Request
+trial_of mount state target op = asking_at mount state (node_at mount state target) target.file (access (node_at mount state target) target.life op)
+
 -- one try of an access of an open object, and what comes behind it; one whose range is not within one page of the file makes no call
 abbrev pub plan_try : Mount → Op → (ClientState → Told → Plan) → ClientState → Target → Plan
 plan_try mount op go_on state target =
     if fits_page mount.page_size (pages_of mount target.file) op
-    then calls (asking target.file (access (node_at mount state target) target.life op)) state (go_on state)
+    then calls (trial_of mount state target op) state (go_on (sent (trial_of mount state target op) state))
     else ends replies.NotOnePage state
 
 -- the state in which the object of a name leads elsewhere
@@ -180,12 +227,16 @@ rerouting state name target = holding state (with_target name target state.objec
 abbrev pub led_to : Target → Told → Target
 led_to found told = reconnected (door_to found) (life_in told.answer)
 
+-- an Open of the view that stands at the path of a reconnectable object
+abbrev pub reopening : Mount → ClientState → Target → Request
+reopening mount state found = asking_at mount state found.view found.file (access found.view 0 ops.Open)
+
 -- the view that stands at the path is opened for the file; if that is answered the object leads there, and the access is tried again
 abbrev pub plan_reopened : Mount → List ℕ → Op → (ClientState → Told → Plan) → ClientState → Option Target → Plan
 plan_reopened mount name op go_on state None = ends replies.BadObject state
 plan_reopened mount name op go_on state (Some found) =
-    calls (asking found.file (access found.view 0 ops.Open)) state
-    (λ told. plan_try mount op go_on (rerouting state name (led_to found told)) (led_to found told))
+    calls (reopening mount state found) state
+    (λ told. plan_try mount op go_on (rerouting (sent (reopening mount state found) state) name (led_to found told)) (led_to found told))
 
 -- THE OBJECT FINDS ITS FILE AGAIN, so many times at most: behind an access that is answered with a life that is over, its path is resolved, what stands there
 -- is opened, and the access is tried in the new life
@@ -209,7 +260,7 @@ abbrev pub plan_access : Mount → ClientState → List ℕ → List ℕ → Op 
 plan_access mount state name word op target = plan_try mount op (plan_after mount (further_tries target.kind) name (unwrap_or (path_of word) []) op) state target
 
 abbrev pub plan_sync : Mount → ClientState → Keep → Target → Plan
-plan_sync mount state keep target = plan_call state (asking target.file (sync (node_at mount state target) keep))
+plan_sync mount state keep target = plan_call state (asking_at mount state (node_at mount state target) target.file (sync (node_at mount state target) keep))
 
 -- the channels of a layer of the stack end for a file of it: each right of the layer and of those above it is taken first
 abbrev pub plan_end : ClientState → (ℕ → Ask) → Option ℕ → Option ℕ → Plan
@@ -229,11 +280,15 @@ plan_drop state name target = ends replies.Done (holding state (without name sta
 abbrev pub opened : Target → Told → Target
 opened target told = record target { life = life_in told.answer }
 
+-- an Open at the node to which the calls of an object go
+abbrev pub opening : Mount → ClientState → Target → Request
+opening mount state target = asking_at mount state (node_at mount state target) target.file (access (node_at mount state target) 0 ops.Open)
+
 -- an Open of what a path leads to; the object is kept where it is answered
 abbrev pub plan_found : Mount → ClientState → List ℕ → List ℕ → Option Target → Plan
 plan_found mount state name word None = ends replies.BadObject state
 plan_found mount state name word (Some target) =
-    calls (asking target.file (access (node_at mount state target) 0 ops.Open)) state (λ told. ends (reply_of told) (holding state (with_object state.objects name (opened target told) word)))
+    calls (opening mount state target) state (λ told. ends (reply_of told) (holding (sent (opening mount state target) state) (with_object state.objects name (opened target told) word)))
 
 -- a path is resolved, and what stands there is opened, if it is an object that the stack has
 abbrev pub plan_open : Mount → ClientState → List ℕ → List (List ℕ) → Option Target → Plan
@@ -358,6 +413,24 @@ Refuses Full replies.TrailFull = Full
 Refuses Full replies.Memory = Unit {0}
 Refuses Full reply = ⊥
 
+-- a call that goes over a carrier, and for which nothing was entered, ended the line with this answer, and left this state: it was lost; or
+-- its history is full; or memory lacked before it was sent, or as it was served
+abbrev pub RefusesOver : CarrierSeen → Type 0 → Request → ClientState → Reply → ClientState → Type 0
+RefusesOver c Full request state (replies.Link count) left = (is_lost_by c ≡ true) × (count ≡ losses (after_call c)) × (left ≡ sent request state)
+RefusesOver c Full request state replies.TrailFull left = (is_lost_by c ≡ false) × Full × (left ≡ sent request state)
+RefusesOver c Full request state replies.Memory left = (left ≡ state) ⊎ ((after : CarrierSeen) × Starves c after × (left ≡ carrying state (Some after)))
+RefusesOver c Full request state reply left = ⊥
+
+-- a call for which nothing was entered
+abbrev pub Unmade : Option CarrierSeen → Type 0 → Request → ClientState → Reply → ClientState → Type 0
+Unmade None Full request state said left = Refuses Full said × (left ≡ state)
+Unmade (Some c) Full request state said left = RefusesOver c Full request state said left
+
+-- a line goes on if the reply to its call comes, and else ends
+abbrev pub Hears : Bool → Type 0 → Type 0 → Type 0
+Hears true Then Ended = Then
+Hears false Then Ended = Ended
+
 -- what a request made: its event, which was answered so; or a note of it, which ended the line
 abbrev pub Makes : ℕ → Ask → Item → (Told → Type 0) → (Reply → Type 0) → Type 0
 Makes caller ask (entered e) Then Ended = Asks caller ask e.event × ((told : Told) × (e.told ≡ Some told) × Then told)
@@ -378,12 +451,13 @@ told_names item = record { refused = item.entry.refused; names = item.names }
 abbrev pub Goes : (ℕ → Type 0) → ℕ → Plan → List Made → Reply → ClientState → Type 0
 Goes Full caller (ends reply state) [] said left = (said ≡ reply) × (left ≡ state)
 Goes Full caller (ends reply state) (made ∷ more) said left = ⊥
-Goes Full caller (calls request state go_on) [] said left = Refuses (Full request.file) said × (left ≡ state)
+Goes Full caller (calls request state go_on) [] said left = Unmade (over request state) (Full request.file) request state said left
 Goes Full caller (calls request state go_on) (at_file file item ∷ more) said left =
     (file ≡ request.file)
     × Makes caller request.ask item
-    (λ told. Goes Full caller (go_on told) more said left)
-    (λ reply. (more ≡ []) × (said ≡ reply) × (left ≡ state))
+    (λ told. Hears (comes (over request state)) (Goes Full caller (go_on told) more said left)
+    ((more ≡ []) × (said ≡ lost_reply (over request state)) × (left ≡ sent request state)))
+    (λ reply. (more ≡ []) × (said ≡ heard (over request state) reply) × (left ≡ sent request state))
 Goes Full caller (calls request state go_on) (with_names item ∷ more) said left = ⊥
 Goes Full caller (asks_names ask state go_on) [] said left = (said ≡ replies.Memory) × (left ≡ state)
 Goes Full caller (asks_names ask state go_on) (at_file file item ∷ more) said left = ⊥

@@ -1,5 +1,5 @@
 -- A mounted stack as a run sees it.
-use Rattle.std.specs.Prelude.{ℕ, ◌+◌, List, [], ◌&&◌, drop, map, slice_get, slice_index_or, position, Option, Some, None}
+use Rattle.std.specs.Prelude.{ℕ, ◌+◌, ◌==◌, Bool, false, not, List, [], ◌&&◌, drop, map, slice_get, slice_index_or, position, Option, Some, None}
 use Rattle.std.specs.Option.{option_map}
 use Rattle.std.specs.Str.{bytes_eq}
 use Rattle.hist_plain.specs.File.{Shape}
@@ -47,3 +47,10 @@ layer_of mount name = option_map (λ place. place + 1) (position (λ node. bytes
 -- the number of the file of a name
 abbrev pub file_named : Mount → List ℕ → Option ℕ
 file_named mount name = position (λ file. bytes_eq file.name name) mount.files
+
+-- whether a node is on another machine than this one
+abbrev pub is_far : Mount → ℕ → ℕ → Bool
+is_far mount machine node = far_in (slice_get mount.nodes node) where
+  far_in : Option NodeEntry → Bool
+  far_in None = false
+  far_in (Some entry) = not (entry.machine == machine)

@@ -30,5 +30,6 @@ answer_words disks (replies.Unmapped address) = codes "unmapped" ∷ decimal add
 answer_words disks replies.CrossesPage = codes "crosses" ∷ codes "page" ∷ []
 answer_words disks replies.NotWritable = codes "not" ∷ codes "writable" ∷ []
 answer_words disks (replies.Store disk count) = codes "store" ∷ slice_index_or disks disk [] ∷ decimal count ∷ []
+answer_words disks (replies.Link count) = codes "link" ∷ decimal count ∷ []
 answer_words disks replies.TrailFull = codes "trail" ∷ codes "full" ∷ []
 answer_words disks replies.Memory = codes "memory" ∷ []

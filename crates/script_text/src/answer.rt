@@ -86,6 +86,7 @@ pub fn put_reply(
             put_word(out, b"store")?;
             put_numbered(out, disk_name(disks, *disk), *count)
         }
+        Reply::Link { count } => put_numbered(out, b"link", *count),
         Reply::TrailFull => put_spaced(out, &[b"trail", b"full"]),
         Reply::Memory => put_spaced(out, &[b"memory"]),
     }

@@ -261,6 +261,11 @@ pub enum Reply {
         /// The store's count of faults then.
         count: u64,
     },
+    /// The link to another machine lost each try of the line's call. Whether the call was made is not known.
+    Link {
+        /// How many packets of the client were lost by then.
+        count: u64,
+    },
     /// The file's trail has all the events that it may have.
     TrailFull,
     /// Memory ran out.

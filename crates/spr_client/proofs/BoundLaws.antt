@@ -44,7 +44,7 @@ pub read_parts : (word : List ℕ) (path : List (List ℕ)) → Some path ≡ pa
 read_parts word path is = has_parts path (path_is word path (sym is)).1
 
 -- a frame may have the identifier
-pub id_range : (kind : ObjectKind) → (1 ≤ id_of kind) × (id_of kind ≤ 4)
+pub id_range : (kind : ObjectKind) → (1 ≤ id_of kind) × (id_of kind ≤ 5)
 id_range Singleton = (omega arith, omega arith)
 id_range Cluster = (omega arith, omega arith)
 id_range Caching = (omega arith, omega arith)

@@ -13,6 +13,8 @@ use Rattle.hist_plain.specs.Plain.{Told}
 use Rattle.hist_plain.specs.History.{Entry, is_by}
 use Rattle.hist_plain.specs.declared.TheConstants.{MAX_EVENTS}
 use Rattle.script_text.specs.declared.script.Reply.{Reply}
+use Rattle.script_text.specs.declared.script.Reply.TheVariants as replies
+use Rattle.link_lossy.specs.Carriers.{CarrierSeen}
 use Rattle.tower_log.specs.declared.logged.Entry.{Entry as LogEntry}
 use Rattle.tower_log.specs.declared.logged.Logged.{Logged}
 use Rattle.tower_log.specs.declared.logged.Logged.TheVariants.{Entered, Noted}
@@ -24,10 +26,10 @@ use Rattle.stack_accept.specs.Mount.{Mount}
 use Rattle.client_objects.specs.declared.state.ClientState.{ClientState}
 use Rattle.script_meaning.specs.Log.{Histories, Item, entered, noted, items, items_from, by_caller, name_items, names_by, log_at, IsFull}
 use Rattle.name_context.specs.History.{NamesSeen}
-use Rattle.script_meaning.specs.Plan.{Plan, ends, calls, Request, Ask, access, release, revoke, sync, Asks, Made, at_file, Goes}
+use Rattle.script_meaning.specs.Plan.{Plan, ends, calls, Request, Ask, access, release, revoke, sync, Asks, Made, at_file, Goes, comes, heard, over}
 use Rattle.script_meaning.specs.Fits.{made_on, made_with_names, SyncsFrom, SyncsInOrder, GoesOn, Did, Gone}
 use Rattle.script_meaning.proofs.Logs.{by_caller-more}
-use Rattle.script_meaning.proofs.Parts.{goes_on_same, goes_on_then, names_go_on_same, did_nothing, gone_call, gone_fault, gone_refused}
+use Rattle.script_meaning.proofs.Parts.{goes_on_same, goes_on_then, names_go_on_same, did_nothing, gone_call, gone_fault, gone_refused, sent_here}
 use Rattle.spr_volume.specs.declared.answered.Answered.{Answered}
 use Rattle.spr_volume.specs.FilePasses.{is_own, Quietly}
 use Rattle.client_objects.specs.Views.{names_at_start}
@@ -151,59 +153,83 @@ tells entry answer is = ap (λ (a : Option Answer). option_map {T = Answer} (λ 
 pub told_bytes : (entry : LogEntry) (answer : Answer) (out : List ℕ) → (answer ≡ answers.Bytes → entry.bytes ≡ out) → answer ≡ answers.Bytes → (told_of entry answer).bytes ≡ out
 told_bytes entry answer out bytes read = ap (λ (a : Answer). bytes_with a entry.bytes) read ∙ bytes read
 
--- a call that was answered, and ended the line
-pub line_end : (mount : Mount) (c : ℕ) (p : Plan) (request : Request) (state : ClientState) (go_on : Told → Plan) (old new : Knows) (out : List ℕ) (a : Answered) (said : Reply) (left : ClientState)
-    → p ≡ calls request state go_on → old.first ≤ c → c < old.end → (called : CallDone c request old new out (Ok a)) → go_on (told_of called.here.ends.0 a.answer) ≡ ends said left → Gone c p (histories mount old) (histories mount new) said left
-line_end mount c p request state go_on old new out a said left is low high called end =
+-- what a call that was answered entered
+pub record Entering (mount : Mount) (c : ℕ) (request : Request) (old new : Knows) (told : Told) : Type 0 where
+  pub entry : Entry
+  pub did : Did c (histories mount old) (histories mount new) (at_file request.file (entered entry) ∷ [])
+  pub asks : Asks c request.ask entry.event
+  pub tells : entry.told ≡ Some told
+
+pub entering : (mount : Mount) (c : ℕ) (request : Request) (old new : Knows) (out : List ℕ) (a : Answered) → old.first ≤ c → c < old.end → (called : CallDone c request old new out (Ok a))
+    → Entering mount c request old new (told_of called.here.ends.0 a.answer)
+entering mount c request old new out a low high called =
     let entry : LogEntry = called.here.ends.0 in
     let asked = called.here.ends.2 in
     let answered = called.here.ends.3 in
     let b : List Logged = called.here.before in
-    let h = histories mount new in
     let least : ℕ = place_of (log_at (histories mount old) request.file) in
     let e : Entry = record { place = place_of b; event = entry.event; told = told_by entry } in
-    let did : Did c (histories mount old) h (at_file request.file (entered e) ∷ []) =
-    called_by mount c c request old new out (Ok a) (entered e ∷ []) low high called
-    (entered_item c (place_of b) entry called.here.last called.here.ends.1 (event_by c least request.ask (trail_of b) entry.event asked))
-    (event_from c least request.ask (trail_of b) entry.event asked, tt) in
-    gone_call c p request state go_on (histories mount old) h h e (told_of entry a.answer) [] said left is did
-    (asks_event c least request.ask (trail_of b) entry.event asked) (tells entry a.answer answered.answer_is) (did_nothing c h h refl)
+    record {
+      entry = e;
+      did = called_by mount c c request old new out (Ok a) (entered e ∷ []) low high called
+          (entered_item c (place_of b) entry called.here.last called.here.ends.1 (event_by c least request.ask (trail_of b) entry.event asked))
+          (event_from c least request.ask (trail_of b) entry.event asked, tt);
+      asks = asks_event c least request.ask (trail_of b) entry.event asked;
+      tells = tells entry a.answer answered.answer_is;
+    }
+
+-- what a call whose store failed noted
+pub noting : (mount : Mount) (c : ℕ) (request : Request) (old new : Knows) (out : List ℕ) (disk count : ℕ) → old.first ≤ c → c < old.end → CallDone c request old new out (Err (StoreFault disk count))
+    → Did c (histories mount old) (histories mount new) (at_file request.file (noted c disk count) ∷ [])
+noting mount c request old new out disk count low high called =
+    called_by mount c c request old new out (Err (StoreFault disk count)) (noted c disk count ∷ []) low high called
+    (noted_item c c disk count (place_of called.here.before) called.here.last called.here.ends ∙ rw (same c) refl) tt
+
+-- a call that found its history full
+pub filling : (mount : Mount) (c : ℕ) (request : Request) (old new : Knows) (out : List ℕ) → old.first ≤ c → c < old.end → CallDone c request old new out (Err TrailFull)
+    → Did c (histories mount old) (histories mount new) [] × IsFull (histories mount new) request.file
+filling mount c request old new out low high called =
+    let b : List Logged = called.here.before in
+    let h = histories mount new in
+    let whole : log_at h request.file ≡ b = called.here.log ∙ (ap (λ (l : List Logged). b ++ l) called.here.ends.0 ∙ append-nil b) in (
+      called_by mount c c request old new out (Err TrailFull) [] low high called (no_item c (place_of b) called.here.last called.here.ends.0) tt,
+      subst (λ (l : List Logged). MAX_EVENTS ≤ place_of l) (sym whole) called.here.ends.1,
+    )
+
+-- a call for which memory lacked
+pub starving : (mount : Mount) (c : ℕ) (request : Request) (old new : Knows) (out : List ℕ) → old.first ≤ c → c < old.end → CallDone c request old new out (Err Memory) → Did c (histories mount old) (histories mount new) []
+starving mount c request old new out low high called =
+    called_by mount c c request old new out (Err Memory) [] low high called (no_item c (place_of called.here.before) called.here.last called.here.ends.0) tt
+
+-- a call that was answered, whose answer came, and ended the line
+pub line_end : (mount : Mount) (c : ℕ) (p : Plan) (request : Request) (state : ClientState) (go_on : Told → Plan) (old new : Knows) (out : List ℕ) (a : Answered) (said : Reply) (left : ClientState)
+    → p ≡ calls request state go_on → comes (over request state) ≡ true → old.first ≤ c → c < old.end → (called : CallDone c request old new out (Ok a)) → go_on (told_of called.here.ends.0 a.answer) ≡ ends said left → Gone c p (histories mount old) (histories mount new) said left
+line_end mount c p request state go_on old new out a said left is came low high called end =
+    let h = histories mount new in
+    let e = entering mount c request old new out a low high called in
+    gone_call c p request state go_on (histories mount old) h h e.entry (told_of called.here.ends.0 a.answer) [] said left is came e.did e.asks e.tells (did_nothing c h h refl)
     (subst (λ (q : Plan). Goes (IsFull h) c q [] said left) (sym end) (refl, refl))
 
--- a call that was answered, and what the line does then
+-- a call that was answered, whose answer came, and what the line does then
 pub line_then : (mount : Mount) (c : ℕ) (p : Plan) (request : Request) (state : ClientState) (go_on : Told → Plan) (old mid new : Knows) (out : List ℕ) (a : Answered) (said : Reply) (left : ClientState)
-    → p ≡ calls request state go_on → old.first ≤ c → c < old.end → (called : CallDone c request old mid out (Ok a)) → Gone c (go_on (told_of called.here.ends.0 a.answer)) (histories mount mid) (histories mount new) said left
+    → p ≡ calls request state go_on → comes (over request state) ≡ true → old.first ≤ c → c < old.end → (called : CallDone c request old mid out (Ok a)) → Gone c (go_on (told_of called.here.ends.0 a.answer)) (histories mount mid) (histories mount new) said left
     → Gone c p (histories mount old) (histories mount new) said left
-line_then mount c p request state go_on old mid new out a said left is low high called rest =
-    let entry : LogEntry = called.here.ends.0 in
-    let asked = called.here.ends.2 in
-    let b : List Logged = called.here.before in
-    let least : ℕ = place_of (log_at (histories mount old) request.file) in
-    let e : Entry = record { place = place_of b; event = entry.event; told = told_by entry } in
-    let did : Did c (histories mount old) (histories mount mid) (at_file request.file (entered e) ∷ []) =
-    called_by mount c c request old mid out (Ok a) (entered e ∷ []) low high called
-    (entered_item c (place_of b) entry called.here.last called.here.ends.1 (event_by c least request.ask (trail_of b) entry.event asked))
-    (event_from c least request.ask (trail_of b) entry.event asked, tt) in
-    gone_call c p request state go_on (histories mount old) (histories mount mid) (histories mount new) e (told_of entry a.answer) rest.made said left is did
-    (asks_event c least request.ask (trail_of b) entry.event asked) (tells entry a.answer called.here.ends.3.answer_is) rest.did rest.goes
+line_then mount c p request state go_on old mid new out a said left is came low high called rest =
+    let e = entering mount c request old mid out a low high called in
+    gone_call c p request state go_on (histories mount old) (histories mount mid) (histories mount new) e.entry (told_of called.here.ends.0 a.answer) rest.made said left is came e.did e.asks e.tells rest.did rest.goes
 
--- a call that was refused ends the line
+-- a call on the client's machine that was refused ends the line
 pub line_err : (mount : Mount) (c : ℕ) (p : Plan) (request : Request) (state : ClientState) (go_on : Told → Plan) (old new : Knows) (out : List ℕ) (err : StepErr)
-    → p ≡ calls request state go_on → old.first ≤ c → c < old.end → CallDone c request old new out (Err err) → Gone c p (histories mount old) (histories mount new) (refusal_of err) state
-line_err mount c p request state go_on old new out (StoreFault disk count) is low high called =
-    gone_fault c p request state go_on (histories mount old) (histories mount new) disk count is
-    (called_by mount c c request old new out (Err (StoreFault disk count)) (noted c disk count ∷ []) low high called
-    (noted_item c c disk count (place_of called.here.before) called.here.last called.here.ends ∙ rw (same c) refl) tt)
-line_err mount c p request state go_on old new out TrailFull is low high called =
-    let b : List Logged = called.here.before in
-    let h = histories mount new in
-    let whole : log_at h request.file ≡ b = called.here.log ∙ (ap (λ (l : List Logged). b ++ l) called.here.ends.0 ∙ append-nil b) in
-    let full : IsFull h request.file = subst (λ (l : List Logged). MAX_EVENTS ≤ place_of l) (sym whole) called.here.ends.1 in
-    gone_refused c p request state go_on (histories mount old) h (refusal_of TrailFull) is
-    (called_by mount c c request old new out (Err TrailFull) [] low high called (no_item c (place_of b) called.here.last called.here.ends.0) tt) full
-line_err mount c p request state go_on old new out Memory is low high called =
-    gone_refused c p request state go_on (histories mount old) (histories mount new) (refusal_of Memory) is
-    (called_by mount c c request old new out (Err Memory) [] low high called (no_item c (place_of called.here.before) called.here.last called.here.ends.0) tt) tt
+    → p ≡ calls request state go_on → over request state ≡ None → old.first ≤ c → c < old.end → CallDone c request old new out (Err err) → Gone c p (histories mount old) (histories mount new) (refusal_of err) state
+line_err mount c p request state go_on old new out (StoreFault disk count) is here low high called =
+    let gone = gone_fault c p request state go_on (histories mount old) (histories mount new) disk count is (noting mount c request old new out disk count low high called) in
+    subst (λ (r : Reply). Gone c p (histories mount old) (histories mount new) r state) (ap (λ (o : Option CarrierSeen). heard o (replies.Store disk count)) here)
+    (subst (λ (s : ClientState). Gone c p (histories mount old) (histories mount new) (heard (over request state) (replies.Store disk count)) s) (sent_here request state here) gone)
+line_err mount c p request state go_on old new out TrailFull is here low high called =
+    let full = filling mount c request old new out low high called in
+    gone_refused c p request state go_on (histories mount old) (histories mount new) (refusal_of TrailFull) is here full.0 full.1
+line_err mount c p request state go_on old new out Memory is here low high called =
+    gone_refused c p request state go_on (histories mount old) (histories mount new) (refusal_of Memory) is here (starving mount c request old new out low high called) tt
 
 -- a call of one caller is nothing for another of its pass
 pub called_other : (mount : Mount) (m c : ℕ) (request : Request) (old new : Knows) (out : List ℕ) (r : Result Answered StepErr) → c ≢ m → old.first ≤ c → c < old.end → CallDone m request old new out r → Did c (histories mount old) (histories mount new) []

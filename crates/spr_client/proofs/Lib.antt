@@ -10,3 +10,6 @@ pub mod Spaces
 pub mod MapLaws
 pub mod Translated
 pub mod BoundLaws
+pub mod CarryLaws
+pub mod CarriedLaws
+pub mod BackLaws

@@ -26,9 +26,9 @@ use Rattle.client_objects.specs.declared.target.Target.{Target}
 use Rattle.client_objects.specs.Objects.{with_object}
 use Rattle.client_objects.specs.Stored.{received, received_word}
 use Rattle.script_meaning.specs.Stack.{pages_of}
-use Rattle.script_meaning.specs.Plan.{Plan, ends, calls, Request, NamesAsk, told_names, unless_refused, refused_as, plan_call, plan_named, plan_names, plan_access, plan_after, plan_open, plan_found, plan_try, further_tries, access, asking, asking_names, holding, node_at, opened, reply_of}
+use Rattle.script_meaning.specs.Plan.{Plan, ends, calls, Request, NamesAsk, told_names, unless_refused, refused_as, plan_call, plan_named, plan_names, plan_access, plan_after, plan_open, plan_found, plan_try, further_tries, asking_names, comes, heard, holding, opened, opening, over, reply_of, sent, trial_of}
 use Rattle.script_meaning.specs.Fits.{Gone}
-use Rattle.script_meaning.proofs.Parts.{did_nothing, did_then, went_of, went_lacks, gone_as, gone_none, gone_named, gone_unnamed, gone_refused}
+use Rattle.script_meaning.proofs.Parts.{did_nothing, did_then, went_of, went_lacks, gone_as, gone_none, gone_named, gone_unnamed, gone_lacks, comes_here, sent_here}
 use Rattle.spr_volume.specs.declared.answered.Answered.{Answered}
 use Rattle.spr_volume.specs.Passes.{VolumeSeen, Knows, as_known}
 use Rattle.spr_client.specs.Calls.{CallDone, MayCall, NamesDone, histories, refusal_of}
@@ -64,44 +64,44 @@ done-lacks mount caller kept p pass = record { pass = refl; went = went_lacks ca
 pub plan-lacks : (mount : Mount) (caller : ℕ) (p : Plan) (request : Request) (state : ClientState) (go_on : Told → Plan) (pass : Knows) → p ≡ calls request state go_on → PlanDone mount caller p pass pass replies.Memory state
 plan-lacks mount caller p request state go_on pass is = record {
   pass = refl;
-  gone = gone_refused caller p request state go_on (histories mount pass) (histories mount pass) replies.Memory is (did_nothing caller (histories mount pass) (histories mount pass) refl) tt;
+  gone = gone_lacks caller p request state go_on (histories mount pass) (histories mount pass) is (did_nothing caller (histories mount pass) (histories mount pass) refl);
   others = idle-same mount caller pass;
 }
 
 -- a plan of one call that was answered
 pub plan-ok : (mount : Mount) (v : VolumeSeen) (caller : ℕ) (p : Plan) (request : Request) (state : ClientState) (go_on : Told → Plan) (old new : Knows) (out : List ℕ) (a : Answered) (said : Reply) (left : ClientState)
-    → MayCall mount v old caller → p ≡ calls request state go_on → (called : CallDone caller request old new out (Ok a))
+    → MayCall mount v old caller → p ≡ calls request state go_on → comes (over request state) ≡ true → (called : CallDone caller request old new out (Ok a))
     → ((t : Told) → t.answer ≡ a.answer → (a.answer ≡ answers.Bytes → t.bytes ≡ out) → go_on t ≡ ends said left) → PlanDone mount caller p old new said left
-plan-ok mount v caller p request state go_on old new out a said left may is called end = record {
+plan-ok mount v caller p request state go_on old new out a said left may is came called end = record {
   pass = called.pass;
-  gone = line_end mount caller p request state go_on old new out a said left is may.first may.last called
+  gone = line_end mount caller p request state go_on old new out a said left is came may.first may.last called
       (end (told_of called.here.ends.0 a.answer) refl (told_bytes called.here.ends.0 a.answer out called.here.ends.3.bytes));
   others = λ other ne low high. called_other mount caller other request old new out (Ok a) ne low high called;
 }
 
 -- a plan of one call that was refused, whatever it would have done then
 pub plan-refused : (mount : Mount) (v : VolumeSeen) (caller : ℕ) (p : Plan) (request : Request) (state : ClientState) (go_on : Told → Plan) (old new : Knows) (out : List ℕ) (err : StepErr) (said : Reply)
-    → MayCall mount v old caller → p ≡ calls request state go_on → CallDone caller request old new out (Err err) → said ≡ refusal_of err → PlanDone mount caller p old new said state
-plan-refused mount v caller p request state go_on old new out err said may is called same = record {
+    → MayCall mount v old caller → p ≡ calls request state go_on → over request state ≡ None → CallDone caller request old new out (Err err) → said ≡ refusal_of err → PlanDone mount caller p old new said state
+plan-refused mount v caller p request state go_on old new out err said may is here called same = record {
   pass = called.pass;
-  gone = subst (λ (r : Reply). Gone caller p (histories mount old) (histories mount new) r state) (sym same) (line_err mount caller p request state go_on old new out err is may.first may.last called);
+  gone = subst (λ (r : Reply). Gone caller p (histories mount old) (histories mount new) r state) (sym same) (line_err mount caller p request state go_on old new out err is here may.first may.last called);
   others = λ other ne low high. called_other mount caller other request old new out (Err err) ne low high called;
 }
 
 -- a line of one call that was refused
 pub done-refused : (mount : Mount) (v : VolumeSeen) (caller : ℕ) (kept : ClientState) (p : Plan) (request : Request) (state : ClientState) (go_on : Told → Plan) (old new : Knows) (out : List ℕ) (err : StepErr) (said : Reply)
-    → MayCall mount v old caller → p ≡ calls request state go_on → CallDone caller request old new out (Err err) → said ≡ refusal_of err → LineDone mount caller kept p old new said state
-done-refused mount v caller kept p request state go_on old new out err said may is called same =
-    line_of mount caller kept p old new said state (plan-refused mount v caller p request state go_on old new out err said may is called same)
+    → MayCall mount v old caller → p ≡ calls request state go_on → over request state ≡ None → CallDone caller request old new out (Err err) → said ≡ refusal_of err → LineDone mount caller kept p old new said state
+done-refused mount v caller kept p request state go_on old new out err said may is here called same =
+    line_of mount caller kept p old new said state (plan-refused mount v caller p request state go_on old new out err said may is here called same)
 
 -- a line of one call whose answer is the line's
 pub done-answered : (mount : Mount) (v : VolumeSeen) (caller : ℕ) (kept : ClientState) (request : Request) (state : ClientState) (old new : Knows) (out : List ℕ) (a : Answered) (said : Reply)
-    → MayCall mount v old caller → CallDone caller request old new out (Ok a) → ((t : Told) → t.answer ≡ a.answer → (a.answer ≡ answers.Bytes → t.bytes ≡ out) → said ≡ reply_of t)
+    → MayCall mount v old caller → over request state ≡ None → CallDone caller request old new out (Ok a) → ((t : Told) → t.answer ≡ a.answer → (a.answer ≡ answers.Bytes → t.bytes ≡ out) → said ≡ reply_of t)
     → LineDone mount caller kept (plan_call state request) old new said state
-done-answered mount v caller kept request state old new out a said may called is =
+done-answered mount v caller kept request state old new out a said may here called is =
     line_of mount caller kept (plan_call state request) old new said state
-    (plan-ok mount v caller (plan_call state request) request state (λ (t : Told). ends (reply_of t) state) old new out a said state may refl
-    called (λ t answer bytes. ap (λ (r : Reply). ends r state) (sym (is t answer bytes))))
+    (plan-ok mount v caller (plan_call state request) request state (λ (t : Told). ends (reply_of t) (sent request state)) old new out a said state may refl (comes_here (over request state) here)
+    called (λ t answer bytes. ap (λ (r : Reply). ends r (sent request state)) (sym (is t answer bytes)) ∙ ap (ends said) (sent_here request state here)))
 
 -- a call on the names that was refused ends the line
 pub plan-names-refused : (mount : Mount) (v : VolumeSeen) (caller : ℕ) (kept : ClientState) (p : Plan) (ask : NamesAsk) (go_on : List Name → Plan) (stored : Option Held) (Tells : List Name → Type 0) (old new : Knows) (err : NameErr) (said : Reply)
@@ -174,15 +174,14 @@ names-then mount v caller kept p ask go_on stored Tells old mid new said left ma
 
 -- a call at a file that was answered, and what the plan does then
 pub plan-then : (mount : Mount) (v : VolumeSeen) (caller : ℕ) (p : Plan) (request : Request) (state : ClientState) (go_on : Told → Plan) (old mid new : Knows) (out : List ℕ) (a : Answered) (said : Reply) (left : ClientState)
-    → MayCall mount v old caller → p ≡ calls request state go_on → (called : CallDone caller request old mid out (Ok a))
-    → ((t : Told) → t.answer ≡ a.answer → PlanDone mount caller (go_on t) mid new said left) → PlanDone mount caller p old new said left
-plan-then mount v caller p request state go_on old mid new out a said left may is called onward =
-    let rest = onward (told_of called.here.ends.0 a.answer) refl in
+    → MayCall mount v old caller → p ≡ calls request state go_on → comes (over request state) ≡ true → (called : CallDone caller request old mid out (Ok a))
+    → PlanDone mount caller (go_on (told_of called.here.ends.0 a.answer)) mid new said left → PlanDone mount caller p old new said left
+plan-then mount v caller p request state go_on old mid new out a said left may is came called rest =
     let first_is : mid.first ≡ old.first = ap (λ (k : Knows). k.first) called.pass in
     let end_is : mid.end ≡ old.end = ap (λ (k : Knows). k.end) called.pass in
     record {
       pass = pass_then old mid new called.pass rest.pass;
-      gone = line_then mount caller p request state go_on old mid new out a said left is may.first may.last called rest.gone;
+      gone = line_then mount caller p request state go_on old mid new out a said left is came may.first may.last called rest.gone;
       others = λ other ne low high. did_then other (histories mount old) (histories mount mid) (histories mount new) [] []
           (called_other mount caller other request old mid out (Ok a) ne low high called)
           (rest.others other ne (subst (λ (n : ℕ). n ≤ other) (sym first_is) low) (subst (λ (n : ℕ). other < n) (sym end_is) high));
@@ -219,7 +218,7 @@ few_tries Caching other = refl
 few_tries Reconnectable other = absurd (other refl)
 
 pub access-once : (mount : Mount) (state : ClientState) (name word : List ℕ) (op : Op) (object : Target) → object.kind ≢ Reconnectable → fits_page mount.page_size (pages_of mount object.file) op ≡ true
-    → plan_access mount state name word op object ≡ plan_call state (asking object.file (access (node_at mount state object) object.life op))
+    → plan_access mount state name word op object ≡ plan_call state (trial_of mount state object op)
 access-once mount state name word op object other fit =
     ap (λ (n : ℕ). plan_try mount op (plan_after mount n name (unwrap_or (path_of word) []) op) state object) (few_tries object.kind other) ∙ (rw fit refl)
 
@@ -257,4 +256,4 @@ clone-is xs ys each = AllZip-map (λ n. n) xs ys each ∙ map-id xs
 pub found-lacks : (mount : Mount) (caller : ℕ) (state : ClientState) (name word : List ℕ) (found : Option Target) (pass : Knows) → IsSome found → PlanDone mount caller (plan_found mount state name word found) pass pass replies.Memory state
 found-lacks mount caller state name word None pass some = absurd cc
 found-lacks mount caller state name word (Some target) pass some =
-    plan-lacks mount caller (plan_found mount state name word (Some target)) (asking target.file (access (node_at mount state target) 0 ops.Open)) state (λ told. ends (reply_of told) (holding state (with_object state.objects name (opened target told) word))) pass refl
+    plan-lacks mount caller (plan_found mount state name word (Some target)) (opening mount state target) state (λ told. ends (reply_of told) (holding (sent (opening mount state target) state) (with_object state.objects name (opened target told) word))) pass refl

@@ -4,12 +4,10 @@ use Rattle.std.specs.Prelude.{IfErr, IfOk, Result}
 use Rattle.hist_plain.specs.declared.event.Answer.{Answer}
 use Rattle.hist_plain.specs.declared.event.Answer.TheVariants as answers
 use Rattle.hist_plain.specs.declared.event.Op.{Op}
-use Rattle.hist_plain.specs.declared.event.Op.TheVariants as ops
 use Rattle.hist_plain.specs.Event.{fits_page}
 use Rattle.hist_plain.specs.Plain.{Told}
 use Rattle.script_text.specs.declared.script.Reply.{Reply}
 use Rattle.script_text.specs.declared.script.Reply.TheVariants as replies
-use Rattle.stack_engine.specs.declared.refusal.StepErr.{StepErr}
 use Rattle.stack_accept.specs.Mount.{Mount}
 use Rattle.stack_accept.specs.Sound.{IsMount}
 use Rattle.name_context.specs.declared.entry.NameCall.TheVariants as names_calls
@@ -26,47 +24,40 @@ use Rattle.client_objects.proofs.FoundLaws.{found_leads}
 use Rattle.client_objects.proofs.OpenLaws.{object_of-with_target, on_stack-with_target}
 use Rattle.client_objects.proofs.ReceivedLaws.{received_leads}
 use Rattle.script_meaning.specs.Stack.{pages_of}
-use Rattle.script_meaning.specs.Plan.{Plan, Request, access, asking, asking_names, calls, ends, is_revoked, led_to, life_in, node_at, plan_after, plan_names, plan_reopened, plan_try, reply_of, rerouting}
-use Rattle.spr_volume.specs.declared.answered.Answered.{Answered}
-use Rattle.spr_volume.specs.Passes.{VolumeSeen, Knows}
-use Rattle.spr_client.specs.Calls.{CallDone, MayCall, refusal_of}
+use Rattle.script_meaning.specs.Plan.{Plan, asking_names, calls, ends, is_revoked, led_to, life_in, node_at, plan_after, plan_names, plan_reopened, plan_try, reopening, reply_of, rerouting, sent, trial_of}
+use Rattle.spr_volume.specs.Passes.{Knows}
 use Rattle.spr_client.specs.Lines.{IsLed, IsOnMachine, IsTarget, LeadsOn, PlanDone}
-use Rattle.spr_client.proofs.LineLaws.{plan-lacks, plan-none, plan-ok, plan-refused, plan-then}
+use Rattle.spr_client.specs.Serving.{CameBack}
+use Rattle.spr_client.proofs.LineLaws.{plan-lacks, plan-none}
 
 -- WHAT STANDS AT THE PATH is opened
 
-module _ (mount : Mount) (v : VolumeSeen) (caller : ℕ) (state : ClientState) (name : List ℕ) (kept : Option Kept) where
+module _ (mount : Mount) (caller : ℕ) (state : ClientState) (name : List ℕ) (kept : Option Kept) where
   abbrev Reopens : Op → (ClientState → Told → Plan) → Plan
   Reopens op go_on = plan_reopened mount name op go_on state (received mount kept)
 
-  abbrev opening_of : Target → Request
-  opening_of target = asking target.file (access target.view 0 ops.Open)
+  -- what comes behind the Open
+  abbrev Behind : Op → (ClientState → Told → Plan) → Target → Told → Plan
+  Behind op go_on target told = plan_try mount op go_on (rerouting (sent (reopening mount state target) state) name (led_to target told)) (led_to target told)
 
   pub reopened-bad : (op : Op) (go_on : ClientState → Told → Plan) (pass : Knows) → received mount kept ≡ None → PlanDone mount caller (Reopens op go_on) pass pass replies.BadObject state
   reopened-bad op go_on pass none = plan-none mount caller (Reopens op go_on) pass replies.BadObject state (ap (plan_reopened mount name op go_on state) none)
 
-  pub reopened-lacks : (op : Op) (go_on : ClientState → Told → Plan) (target : Target) (pass : Knows) → received mount kept ≡ Some target → PlanDone mount caller (Reopens op go_on) pass pass replies.Memory state
-  reopened-lacks op go_on target pass is =
-      plan-lacks mount caller (Reopens op go_on) (opening_of target) state (λ told. plan_try mount op go_on (rerouting state name (led_to target told)) (led_to target told)) pass (ap (plan_reopened mount name op go_on state) is)
+  pub reopened-ends : (op : Op) (go_on : ClientState → Told → Plan) (target : Target) (old new : Knows) (said : Reply) (left : ClientState) → received mount kept ≡ Some target
+      → ((next : Told → Plan) → PlanDone mount caller (calls (reopening mount state target) state next) old new said left) → PlanDone mount caller (Reopens op go_on) old new said left
+  reopened-ends op go_on target old new said left is made =
+      subst (λ (p : Plan). PlanDone mount caller p old new said left) (sym (ap (plan_reopened mount name op go_on state) is)) (made (Behind op go_on target))
 
-  pub reopened-refused : (op : Op) (go_on : ClientState → Told → Plan) (target : Target) (old new : Knows) (out : List ℕ) (err : StepErr) (said : Reply) → MayCall mount v old caller → received mount kept ≡ Some target
-      → CallDone caller (opening_of target) old new out (Err err) → said ≡ refusal_of err → PlanDone mount caller (Reopens op go_on) old new said state
-  reopened-refused op go_on target old new out err said may is called same =
-      plan-refused mount v caller (Reopens op go_on) (opening_of target) state (λ told. plan_try mount op go_on (rerouting state name (led_to target told)) (led_to target told)) old new out err said may
-      (ap (plan_reopened mount name op go_on state) is) called same
-
-  pub reopened-leads : (op : Op) (go_on : ClientState → Told → Plan) (target : Target) (old mid : Knows) (out : List ℕ) (a : Answered) (left : ClientState) (led : Target) → MayCall mount v old caller → received mount kept ≡ Some target
-      → CallDone caller (opening_of target) old mid out (Ok a) → left ≡ rerouting state name (reconnected (door_to target) (life_in a.answer)) → led ≡ reconnected (door_to target) (life_in a.answer)
+  pub reopened-leads : (op : Op) (go_on : ClientState → Told → Plan) (target : Target) (old mid : Knows) (out : List ℕ) (answer : Answer) (back left : ClientState) (led : Target) → received mount kept ≡ Some target
+      → CameBack mount caller (reopening mount state target) old mid state back out answer → left ≡ rerouting back name (reconnected (door_to target) (life_in answer)) → led ≡ reconnected (door_to target) (life_in answer)
       → LeadsOn mount caller (Reopens op go_on) (plan_try mount op go_on left led) old mid
-  reopened-leads op go_on target old mid out a left led may is called left_is led_is new said end done =
-      plan-then mount v caller (Reopens op go_on) (opening_of target) state (λ told. plan_try mount op go_on (rerouting state name (led_to target told)) (led_to target told)) old mid new out a said end may
-      (ap (plan_reopened mount name op go_on state) is) called
-      (λ t answer.
-      let there : plan_try mount op go_on left led ≡ plan_try mount op go_on (rerouting state name (led_to target t)) (led_to target t) =
-      ap (λ (s : ClientState). plan_try mount op go_on s led) left_is
-      ∙ ap (plan_try mount op go_on (rerouting state name (reconnected (door_to target) (life_in a.answer)))) led_is
-      ∙ ap (λ (x : Answer). plan_try mount op go_on (rerouting state name (reconnected (door_to target) (life_in x))) (reconnected (door_to target) (life_in x))) (sym answer) in
-      subst (λ (p : Plan). PlanDone mount caller p mid new said end) there done)
+  reopened-leads op go_on target old mid out answer back left led is came left_is led_is new said end done =
+      let there : plan_try mount op go_on left led ≡ Behind op go_on target came.told =
+      ap (λ (s : ClientState). plan_try mount op go_on s led) (left_is ∙ ap (λ (s : ClientState). rerouting s name (reconnected (door_to target) (life_in answer))) came.left_is)
+      ∙ ap (plan_try mount op go_on (rerouting (sent (reopening mount state target) state) name (reconnected (door_to target) (life_in answer)))) led_is
+      ∙ ap (λ (x : Answer). plan_try mount op go_on (rerouting (sent (reopening mount state target) state) name (reconnected (door_to target) (life_in x))) (reconnected (door_to target) (life_in x))) (sym came.answer_is) in
+      subst (λ (p : Plan). PlanDone mount caller p old new said end) (sym (ap (plan_reopened mount name op go_on state) is))
+      (came.onward (Behind op go_on target) new said end (subst (λ (p : Plan). PlanDone mount caller p mid new said end) there done))
 
 -- where the object leads then
 some-target : (state : ClientState) (name : List ℕ) → IsReconnectable (object_of name state.objects) → IsSome (object_of name state.objects)
@@ -100,56 +91,70 @@ led-on mount state name kept target life left on is left_is =
 
 -- ONE TRY
 
-module _ (mount : Mount) (v : VolumeSeen) (caller left : ℕ) (name : List ℕ) (path : List (List ℕ)) (op : Op) (state : ClientState) (target : Target) where
+module _ (mount : Mount) (caller left : ℕ) (name : List ℕ) (path : List (List ℕ)) (op : Op) (state : ClientState) (target : Target) where
   abbrev Tries : Plan
   Tries = plan_try mount op (plan_after mount left name path op) state target
 
-  abbrev trial_of : Request
-  trial_of = asking target.file (access (node_at mount state target) target.life op)
+  -- the state after the call
+  abbrev then_state : ClientState
+  then_state = sent (trial_of mount state target op) state
 
   -- what comes behind a life that is over
   abbrev Again : ℕ → Plan
-  Again further = plan_names state (asking_names names_calls.Resolve (Some path)) (λ names. plan_reopened mount name op (plan_after mount further name path op) state (received mount (kept_at names path)))
+  Again further = plan_names then_state (asking_names names_calls.Resolve (Some path)) (λ names. plan_reopened mount name op (plan_after mount further name path op) then_state (received mount (kept_at names path)))
 
   pub try-unfit : (pass : Knows) → fits_page mount.page_size (pages_of mount target.file) op ≡ false → PlanDone mount caller Tries pass pass replies.NotOnePage state
   try-unfit pass unfit = plan-none mount caller Tries pass replies.NotOnePage state (rw unfit refl)
 
-  fits_so : fits_page mount.page_size (pages_of mount target.file) op ≡ true → Tries ≡ calls trial_of state (plan_after mount left name path op state)
+  fits_so : fits_page mount.page_size (pages_of mount target.file) op ≡ true → Tries ≡ calls (trial_of mount state target op) state (plan_after mount left name path op then_state)
   fits_so fit = rw fit refl
 
   pub try-lacks : (pass : Knows) → fits_page mount.page_size (pages_of mount target.file) op ≡ true → PlanDone mount caller Tries pass pass replies.Memory state
-  try-lacks pass fit = plan-lacks mount caller Tries trial_of state (plan_after mount left name path op state) pass (fits_so fit)
+  try-lacks pass fit = plan-lacks mount caller Tries (trial_of mount state target op) state (plan_after mount left name path op then_state) pass (fits_so fit)
 
-  pub try-refused : (old new : Knows) (out : List ℕ) (err : StepErr) (said : Reply) → fits_page mount.page_size (pages_of mount target.file) op ≡ true → MayCall mount v old caller → CallDone caller trial_of old new out (Err err) → said ≡ refusal_of err
-      → PlanDone mount caller Tries old new said state
-  try-refused old new out err said fit may called same = plan-refused mount v caller Tries trial_of state (plan_after mount left name path op state) old new out err said may (fits_so fit) called same
+  pub try-fails : (old new : Knows) (said : Reply) (end : ClientState) → fits_page mount.page_size (pages_of mount target.file) op ≡ true
+      → ((next : Told → Plan) → PlanDone mount caller (calls (trial_of mount state target op) state next) old new said end) → PlanDone mount caller Tries old new said end
+  try-fails old new said end fit made = subst (λ (p : Plan). PlanDone mount caller p old new said end) (sym (fits_so fit)) (made (plan_after mount left name path op then_state))
 
-  after-ends : (n : ℕ) (t : Told) → (n ≡ 0) ⊎ (is_revoked t.answer ≡ false) → plan_after mount n name path op state t ≡ ends (reply_of t) state
+  after-ends : (n : ℕ) (t : Told) → (n ≡ 0) ⊎ (is_revoked t.answer ≡ false) → plan_after mount n name path op then_state t ≡ ends (reply_of t) then_state
   after-ends zero t why = refl
   after-ends (suc n) t (inl none) = absurd cc
   after-ends (suc n) t (inr other) = rw other refl
 
-  pub try-ends : (old new : Knows) (out : List ℕ) (a : Answered) (said : Reply) → fits_page mount.page_size (pages_of mount target.file) op ≡ true → MayCall mount v old caller → CallDone caller trial_of old new out (Ok a)
-      → (left ≡ 0) ⊎ (is_revoked a.answer ≡ false) → ((t : Told) → t.answer ≡ a.answer → (a.answer ≡ answers.Bytes → t.bytes ≡ out) → said ≡ reply_of t) → PlanDone mount caller Tries old new said state
-  try-ends old new out a said fit may called why is =
-      plan-ok mount v caller Tries trial_of state (plan_after mount left name path op state) old new out a said state may (fits_so fit) called
-      (λ t answer bytes. after-ends left t (by why t answer) ∙ ap (λ (r : Reply). ends r state) (sym (is t answer bytes)))
+  pub try-ends : (old new : Knows) (out : List ℕ) (answer : Answer) (said : Reply) (end : ClientState) → fits_page mount.page_size (pages_of mount target.file) op ≡ true → CameBack mount caller (trial_of mount state target op) old new state end out answer
+      → (left ≡ 0) ⊎ (is_revoked answer ≡ false) → ((t : Told) → t.answer ≡ answer → (answer ≡ answers.Bytes → t.bytes ≡ out) → said ≡ reply_of t) → PlanDone mount caller Tries old new said end
+  try-ends old new out answer said end fit came why is =
+      subst (λ (p : Plan). PlanDone mount caller p old new said end) (sym (fits_so fit))
+      (came.onward (plan_after mount left name path op then_state) new said end
+      (plan-none mount caller (plan_after mount left name path op then_state came.told) new said end
+      (after-ends left came.told (by why) ∙ (ap (λ (r : Reply). ends r then_state) (sym (is came.told came.answer_is came.bytes_are)) ∙ ap (ends said) (sym came.left_is)))))
     where
-      by : (left ≡ 0) ⊎ (is_revoked a.answer ≡ false) → (t : Told) → t.answer ≡ a.answer → (left ≡ 0) ⊎ (is_revoked t.answer ≡ false)
-      by (inl none) t answer = inl none
-      by (inr other) t answer = inr (ap is_revoked answer ∙ other)
+      by : (left ≡ 0) ⊎ (is_revoked answer ≡ false) → (left ≡ 0) ⊎ (is_revoked came.told.answer ≡ false)
+      by (inl none) = inl none
+      by (inr other) = inr (ap is_revoked came.answer_is ∙ other)
 
-  after-again : (n further : ℕ) (t : Told) → n ≡ suc further → is_revoked t.answer ≡ true → plan_after mount n name path op state t ≡ Again further
+  after-again : (n further : ℕ) (t : Told) → n ≡ suc further → is_revoked t.answer ≡ true → plan_after mount n name path op then_state t ≡ Again further
   after-again zero further t is over = absurd cc
   after-again (suc n) further t is over =
       let same : n ≡ further = cc in
       rw over (ap Again same)
 
-  pub try-again : (further : ℕ) (old mid new : Knows) (out : List ℕ) (a : Answered) (said : Reply) (end : ClientState) → fits_page mount.page_size (pages_of mount target.file) op ≡ true → MayCall mount v old caller → CallDone caller trial_of old mid out (Ok a)
-      → left ≡ suc further → is_revoked a.answer ≡ true → PlanDone mount caller (Again further) mid new said end → PlanDone mount caller Tries old new said end
-  try-again further old mid new out a said end fit may called is over onward =
-      plan-then mount v caller Tries trial_of state (plan_after mount left name path op state) old mid new out a said end may (fits_so fit) called
-      (λ t answer. subst (λ (p : Plan). PlanDone mount caller p mid new said end) (sym (after-again left further t is (ap is_revoked answer ∙ over))) onward)
+  pub try-again : (further : ℕ) (old mid new : Knows) (out : List ℕ) (answer : Answer) (said : Reply) (back end : ClientState) → fits_page mount.page_size (pages_of mount target.file) op ≡ true → CameBack mount caller (trial_of mount state target op) old mid state back out answer
+      → left ≡ suc further → is_revoked answer ≡ true → PlanDone mount caller (Again further) mid new said end → PlanDone mount caller Tries old new said end
+  try-again further old mid new out answer said back end fit came is over onward =
+      subst (λ (p : Plan). PlanDone mount caller p old new said end) (sym (fits_so fit))
+      (came.onward (plan_after mount left name path op then_state) new said end
+      (subst (λ (p : Plan). PlanDone mount caller p mid new said end) (sym (after-again left further came.told is (ap is_revoked came.answer_is ∙ over))) onward))
+
+  -- the same from the state that the call left, where the caller's number may be written otherwise
+  pub try-onward : (further by : ℕ) (old mid new : Knows) (out : List ℕ) (answer : Answer) (said : Reply) (back end : ClientState) → fits_page mount.page_size (pages_of mount target.file) op ≡ true → CameBack mount caller (trial_of mount state target op) old mid state back out answer
+      → left ≡ suc further → is_revoked answer ≡ true → by ≡ caller
+      → PlanDone mount by (plan_names back (asking_names names_calls.Resolve (Some path)) (λ names. plan_reopened mount name op (plan_after mount further name path op) back (received mount (kept_at names path)))) mid new said end
+      → PlanDone mount caller Tries old new said end
+  try-onward further by old mid new out answer said back end fit came is over same onward =
+      let mine = subst (λ (n : ℕ). PlanDone mount n (plan_names back (asking_names names_calls.Resolve (Some path)) (λ names. plan_reopened mount name op (plan_after mount further name path op) back (received mount (kept_at names path)))) mid new said end) same onward in
+      try-again further old mid new out answer said back end fit came is over
+      (subst (λ (s : ClientState). PlanDone mount caller (plan_names s (asking_names names_calls.Resolve (Some path)) (λ names. plan_reopened mount name op (plan_after mount further name path op) s (received mount (kept_at names path)))) mid new said end) came.left_is mine)
 
 -- the view that stands at the path is above the ground, and the file is one of the stack
 pub reopened-route : (mount : Mount) (kept : Option Kept) (target : Target) → IsMount mount → received mount kept ≡ Some target

@@ -1,5 +1,5 @@
 -- Where the regions of a client lead.
-use Rattle.std.proofs.Common.{◌≡◌, ℕ, zero, suc, ◌<◌, List, [], ◌∷◌, length, Bool, true, false, cond, Some, refl, sym, ap, subst, ◌∙◌, arith, ◌⊎◌, ⊎_elim}
+use Rattle.std.proofs.Common.{◌≡◌, ℕ, zero, suc, ◌<◌, List, [], ◌∷◌, length, Bool, true, false, cond, Option, Some, refl, sym, ap, subst, ◌∙◌, arith, ◌⊎◌, ⊎_elim}
 use Rattle.std.specs.Prelude.{All, slice_get, slice_index_or}
 use Rattle.std.proofs.lemmas.List.{length-map}
 use Rattle.std.proofs.lemmas.List.Elements.{All-nil, All-cons, All-head, All-tail, All-push}
@@ -23,8 +23,8 @@ pub space-blank : (mount : Mount) → IsSpaceOf mount (blank_of mount)
 space-blank mount = record { page_size = refl; files = refl; regions = All-nil (IsMappedOn mount) }
 
 -- a client at the start
-pub on_machine-start : (mount : Mount) (line : ClientLine) → number_in mount.machines line.machine < length mount.machines → IsOnMachine mount (start_state mount line)
-on_machine-start mount line low = record { machine = low; objects = tt; regions = space-blank mount }
+pub on_machine-start : (mount : Mount) (loss : Option ℕ) (line : ClientLine) → number_in mount.machines line.machine < length mount.machines → IsOnMachine mount (start_state mount loss line)
+on_machine-start mount loss line low = record { machine = low; objects = tt; regions = space-blank mount }
 
 -- one more region
 pub space-with : (mount : Mount) (space : SpaceShape) (region : Region) → IsSpaceOf mount space → IsMappedOn mount region → IsSpaceOf mount (with_region space region)

@@ -14,8 +14,8 @@ use Rattle.client_objects.specs.Found.{node_of, found_on}
 use Rattle.client_objects.proofs.FoundLaws.{found_leads}
 use Rattle.client_objects.proofs.OpenLaws.{on_stack-object_of, on_stack-with_object}
 use Rattle.client_objects.proofs.ReceivedLaws.{received_leads}
-use Rattle.script_meaning.specs.Plan.{holding}
-use Rattle.spr_client.specs.Lines.{IsOnMachine, IsTarget}
+use Rattle.script_meaning.specs.Plan.{carrying, holding}
+use Rattle.spr_client.specs.Lines.{IsKept, IsOnMachine, IsTarget}
 
 -- what leads to a view and a file of the stack is found there
 target_is : (mount : Mount) (machine : ℕ) (target : Target) (name : List ℕ) → IsMount mount → IsOnStack mount (record { name = name; target = target; word = [] }) → IsTarget mount (found_on mount machine target)
@@ -75,10 +75,15 @@ on_machine-copy mount state new name other word target on found is =
     on_machine-holding mount state new on
     (subst (λ (os : List OpenObject). AllByRecursion (IsOnStack mount) os) (sym is) (on_stack-with_object mount state.objects other word target on.objects leads.view leads.file leads.chosen))
 
+-- the same client with this carrier
+pub on_machine-carrying : (mount : Mount) (state left : ClientState) → left ≡ carrying state left.carrier → IsOnMachine mount state → IsOnMachine mount left
+on_machine-carrying mount state left is on =
+    subst (λ (s : ClientState). IsOnMachine mount s) (sym is) (record { machine = on.machine; objects = on.objects; regions = on.regions })
+
 -- a client whose last object was kept, of some life, or given up
 pub on_machine-either : (mount : Mount) (left state : ClientState) (name word : List ℕ) (target : Target) (kept : Option Kept) → IsOnMachine mount state
-    → received mount kept ≡ Some target → (left ≡ state) ⊎ ((life : ℕ) × (left ≡ holding state (with_object state.objects name (record target { life = life }) word))) → IsOnMachine mount left
+    → received mount kept ≡ Some target → IsKept state left state.objects name target word → IsOnMachine mount left
 on_machine-either mount left state name word target kept on is either =
     ⊎_elim
-    (λ gone. subst (λ (s : ClientState). IsOnMachine mount s) (sym gone) on)
-    (λ held. subst (λ (s : ClientState). IsOnMachine mount s) (sym held.1) (on_machine-with mount state name word target kept held.0 on is)) either
+    (λ gone. on_machine-carrying mount (holding state state.objects) left gone on)
+    (λ held. on_machine-carrying mount (holding state (with_object state.objects name (record target { life = held.0 }) word)) left held.1 (on_machine-with mount state name word target kept held.0 on is)) either

@@ -1,5 +1,5 @@
 -- What a client's lines did.
-use Rattle.std.specs.Prelude.{◌≡◌, ◌≢◌, ℕ, ◌+◌, ◌<◌, ◌≤◌, List, [], length, map, All, true, IsSome, Some}
+use Rattle.std.specs.Prelude.{◌≡◌, ◌≢◌, ◌⊎◌, ℕ, ◌+◌, ◌<◌, ◌≤◌, List, [], length, map, All, true, IsSome, Some}
 use Rattle.std.specs.List.{AllByRecursion}
 use Rattle.script_text.specs.declared.script.Call.{Call}
 use Rattle.script_text.specs.declared.script.Call.TheVariants.{Context, Bind, Unbind, List as ListNames, Open, Copy, Drop, Read, Write, Clear, Sync, Clean, Map, Unmap, Load, Store, Revoke, Release}
@@ -18,10 +18,11 @@ use Rattle.name_context.specs.Names.{HasParts}
 use Rattle.client_objects.specs.declared.kind.ObjectKind.TheVariants.{Reconnectable}
 use Rattle.client_objects.specs.declared.state.ClientState.{ClientState}
 use Rattle.client_objects.specs.declared.target.Found.{Found}
-use Rattle.client_objects.specs.Objects.{IsOnStack, object_of}
+use Rattle.client_objects.specs.declared.target.Target.{Target}
+use Rattle.client_objects.specs.Objects.{IsOnStack, OpenObject, object_of, with_object}
 use Rattle.client_objects.specs.Found.{IsChosen}
 use Rattle.script_meaning.specs.Stack.{file_named, layer_of, pages_of, view_of}
-use Rattle.script_meaning.specs.Plan.{Plan}
+use Rattle.script_meaning.specs.Plan.{Plan, carrying, holding}
 use Rattle.script_meaning.specs.Fits.{Did, Gone, Went, Worked}
 use Rattle.spr_volume.specs.Passes.{Knows, as_known}
 use Rattle.spr_client.specs.Calls.{histories}
@@ -63,6 +64,11 @@ pub record IsPlaceOf (mount : Mount) (len : ℕ) (place : Place) : Type 0 where
   pub page : place.page < pages_of mount place.file
   pub some : 1 ≤ len
   pub within : place.off + len ≤ mount.page_size
+
+-- behind an Open of the last object, which stood behind these: it was kept, with a life, or given up; and the carrier may have sent packets
+abbrev pub IsKept : ClientState → ClientState → List OpenObject → List ℕ → Target → List ℕ → Type 0
+IsKept old new objects name target word =
+    (new ≡ carrying (holding old objects) new.carrier) ⊎ ((life : ℕ) × (new ≡ carrying (holding old (with_object objects name (record target { life = life }) word)) new.carrier))
 
 -- the client runs on a machine of the stack, its objects lead to views and files of it, and so do its regions to managers and files
 pub record IsOnMachine (mount : Mount) (state : ClientState) : Type 0 where

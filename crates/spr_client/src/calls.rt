@@ -3,7 +3,6 @@
 ghost use Rattle.std.specs.Prelude.{◌≡◌, ◌<◌, [], IfOk, IsTrue, length};
 ghost use Rattle.hist_plain.specs.Event.{fits_page};
 ghost use Rattle.hist_plain.specs.Plain.{asked_by};
-ghost use Rattle.client_objects.specs.Found.{IsChosen};
 ghost use Rattle.client_objects.specs.declared.kind.ObjectKind.{ObjectKind as AKind};
 ghost use Rattle.client_objects.specs.Kinds.{file_of, id_of};
 ghost use Rattle.script_meaning.specs.Plan.{asking, access, sync};
@@ -11,18 +10,17 @@ ghost use Rattle.script_meaning.specs.Stack.{pages_of};
 ghost use Rattle.spr_client.specs.Calls.{CallDone, MayCall, ask_of};
 
 use crate::client::Common;
-use client_objects::{ObjectKind, Target};
-use file_frames::{FileCall, Received, through_frame};
+use client_objects::ObjectKind;
+use file_frames::Received;
 use hist_plain::{Gate, Keep, Op};
-use marshal_buf::{Buf, Door};
+use marshal_buf::Door;
 use page_ground::Ground;
 use spr_volume::{Answered, CallErr, Pass};
 use stack_engine::End;
-use std::alloc::{AllocError, Global};
 use std::sync::Wait;
 
 /// The file of a call on an object of this door, as the frame of the call says it: by its subcontract and its tag.
-fn file_in(received: &Received, door: Door) -> u32
+pub(crate) fn file_in(received: &Received, door: Door) -> u32
     requires { (kind : AKind) × (received.now.subcontract ≡ id_of kind) }
     ensures { (kind : AKind) → received.now.subcontract ≡ id_of kind → result ≡ file_of kind door received.now.tag }
 {
@@ -30,52 +28,6 @@ fn file_in(received: &Received, door: Door) -> u32
         unreachable!();
     };
     kind.file(door, received.tag())
-}
-
-/// An access as its frame brings it, and the file that the frame says: the object's subcontract puts it into a frame, and it is read from
-/// there again. An error is that memory ran out.
-pub(crate) fn framed<G: Ground, T: Gate>(
-    alloc: Global,
-    common: &Common<'_, G, T>,
-    target: Target,
-    op: Op,
-) -> Result<(u32, Op), AllocError>
-    requires chosen { IsChosen target }
-    requires fits { IsTrue (fits_page common.now.mount.now.page_size (pages_of common.now.mount.now target.file) op) }
-    ensures file { IfOk result (λ read. read.0 ≡ target.file) }
-    ensures op { IfOk result (λ read. read.1 ≡ op) }
-{
-    let (page_size, id) = (common.mount.page_size(), target.kind.id());
-    let (call, mut frame) = (FileCall::Access { op }, Buf::new(alloc));
-    let received = through_frame(
-        alloc, common.ops, page_size, id, target.tag, &call, &mut frame,
-    )?;
-    let file = file_in(&received, target.door());
-    match received.into_call() {
-        FileCall::Access { op } => Ok((file, op)),
-        FileCall::Sync => unreachable!(),
-    }
-}
-
-/// A sync goes through a frame, which says the file. An error is that memory ran out.
-pub(crate) fn framed_sync<G: Ground, T: Gate>(
-    alloc: Global,
-    common: &Common<'_, G, T>,
-    target: Target,
-) -> Result<u32, AllocError>
-    requires chosen { IsChosen target }
-    ensures { IfOk result (λ file. file ≡ target.file) }
-{
-    let (page_size, id) = (common.mount.page_size(), target.kind.id());
-    let (call, mut frame) = (FileCall::Sync, Buf::new(alloc));
-    let received = through_frame(
-        alloc, common.ops, page_size, id, target.tag, &call, &mut frame,
-    )?;
-    let file = file_in(&received, target.door());
-    match received.into_call() {
-        FileCall::Sync => Ok(file),
-        FileCall::Access { .. } => unreachable!(),
-    }
 }
 
 /// Makes an access at a file, at a layer above the ground, within one page of the file.

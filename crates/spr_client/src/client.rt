@@ -1,8 +1,9 @@
 //! A client, and what it does.
 
 ghost use Rattle.std.specs.Prelude.{◌≡◌, [], IfOk};
+ghost use Rattle.std.specs.Option.{option_map};
 ghost use Rattle.vmm_space.specs.Spaces.{blank_of};
-ghost use Rattle.script_meaning.specs.Plan.{plan};
+ghost use Rattle.script_meaning.specs.Plan.{fresh, plan};
 ghost use Rattle.spr_client.specs.Calls.{MayCall};
 ghost use Rattle.spr_client.specs.Lines.{IsCallOf, IsOnMachine, LineDone};
 
@@ -14,6 +15,7 @@ use crate::opening::{copy_line, drop_line, open_line};
 use crate::places::{load_line, store_line};
 use client_objects::{ClientState, Objects};
 use hist_plain::{Gate, Keep};
+use link_lossy::Carrier;
 use page_ground::Ground;
 use pager_channel::Ops;
 use script_text::{Call, Reply};
@@ -47,15 +49,28 @@ pub struct Client {
     pub state: ClientState,
 }
 
+/// A carrier that has sent nothing and loses the packets whose number is divided by the one that is given, if one is.
+fn carrier_of(alloc: Global, loss: Option<u32>) -> Result<Option<Carrier>, AllocError>
+    ensures { IfOk result (λ carrier. carrier ≡ option_map fresh loss) }
+{
+    match loss {
+        Some(every) => Ok(Some(Carrier::new(alloc, every)?)),
+        None => Ok(None),
+    }
+}
+
 impl Client {
-    /// A client on a machine of the stack, with no object open and nothing mapped. An error is that memory ran out.
+    /// A client on a machine of the stack, with no object open and nothing mapped. If a number is given, its calls on objects whose node is
+    /// on another machine go over a link of its own, which loses the packets whose number this one divides. An error is that memory ran
+    /// out.
     pub fn new(
         alloc: Global,
         mount: &Mounted,
         caller: u32,
         machine: u32,
+        loss: Option<u32>,
     ) -> Result<Client, AllocError>
-        ensures { IfOk result (λ client. client ≡ record { caller = caller; state = record { machine = machine; objects = []; regions = blank_of mount.now } }) }
+        ensures { IfOk result (λ client. client ≡ record { caller = caller; state = record { machine = machine; objects = []; regions = blank_of mount.now; carrier = option_map fresh loss } }) }
     {
         Ok(Client {
             caller,
@@ -63,6 +78,7 @@ impl Client {
                 machine,
                 objects: Objects::new(alloc),
                 regions: Space::new(alloc, mount)?,
+                carrier: carrier_of(alloc, loss)?,
             },
         })
     }

@@ -8,15 +8,18 @@ ghost use Rattle.hist_plain.specs.Plain.{asked_by};
 ghost use Rattle.client_objects.specs.Objects.{object_of, word_of};
 ghost use Rattle.client_objects.specs.Found.{found_on};
 ghost use Rattle.script_meaning.specs.Stack.{pages_of};
-ghost use Rattle.script_meaning.specs.Plan.{access, asking, node_at, plan_access, plan_call, plan_named, plan_sync};
+ghost use Rattle.script_meaning.specs.Plan.{access, asking, node_at, plan_access, plan_call, plan_named, plan_sync, trial_of};
 ghost use Rattle.spr_client.specs.Calls.{MayCall};
+ghost use Rattle.spr_client.specs.Serving.{keep_number};
 ghost use Rattle.spr_client.specs.Lines.{IsLeafOf, IsOnMachine, IsTarget, LineDone};
 
-use crate::calls::{access_at, framed, framed_sync, sync_at};
+use crate::calls::access_at;
+use crate::carried::call_object;
 use crate::client::{Client, Common};
 use crate::line::{refused, reply_to};
 use crate::reconnecting::reconnecting;
 use client_objects::{Found, ObjectKind};
+use file_frames::FileCall;
 use hist_plain::{Gate, Keep, Op, fits};
 use page_ground::Ground;
 use script_meaning::pages_of;
@@ -67,35 +70,41 @@ fn access_object<R: Wait, G: Ground, T: Gate>(
     alloc: Global,
     common: &Common<'_, G, T>,
     pass: &mut Pass<G>,
-    client: &Client,
+    client: &mut Client,
     found: Found,
     op: Op,
     len: usize,
 ) -> Reply
-    requires may { MayCall common.now.mount.now common.now.volume.now pass.old client.now.caller }
+    requires may { MayCall common.now.mount.now common.now.volume.now pass.old client.old.caller }
+    requires on { IsOnMachine common.now.mount.now client.old.state }
     requires target { IsTarget common.now.mount.now found }
-    requires node { found.node ≡ node_at common.now.mount.now client.now.state found.target }
+    requires node { found.node ≡ node_at common.now.mount.now client.old.state found.target }
     requires fits { IsTrue (fits_page common.now.mount.now.page_size (pages_of common.now.mount.now found.target.file) op) }
     requires len { len ≡ asked_by op }
-    ensures { LineDone common.now.mount.now client.now.caller client.now.state (plan_call client.now.state (asking found.target.file (access (node_at common.now.mount.now client.now.state found.target) found.target.life op))) pass.old pass.new result client.now.state }
+    ensures done { LineDone common.now.mount.now client.old.caller client.old.state (plan_call client.old.state (trial_of common.now.mount.now client.old.state found.target op)) pass.old pass.new result client.new.state }
+    ensures on { IsOnMachine common.now.mount.now client.new.state }
+    ensures same { client.new ≡ record client.old { state = client.new.state } }
 {
-    let Ok(out) = vec![in alloc; 0u8; len] else {
+    let Ok(mut out) = vec![in alloc; 0u8; len] else {
         return Reply::Memory;
     };
-    let Ok((file, op)) = framed(alloc, common, found.target, op) else {
-        return Reply::Memory;
-    };
-    answer_access(
+    let call = FileCall::Access { op };
+    let life = found.target.life;
+    match call_object(
         rt,
+        alloc,
         common,
         pass,
         client,
-        file,
+        found.target,
         found.node,
-        found.target.life,
-        &op,
-        out,
-    )
+        life,
+        &call,
+        &mut out,
+    ) {
+        Ok(answer) => reply_to(answer, out),
+        Err(reply) => reply,
+    }
 }
 
 /// A line of one access of the object of a name.
@@ -204,23 +213,44 @@ pub(crate) fn sync_line<R: Wait, G: Ground, T: Gate>(
     alloc: Global,
     common: &Common<'_, G, T>,
     pass: &mut Pass<G>,
-    client: &Client,
+    client: &mut Client,
     name: &Text,
     keep: Keep,
 ) -> Reply
-    requires may { MayCall common.now.mount.now common.now.volume.now pass.old client.now.caller }
-    requires on { IsOnMachine common.now.mount.now client.now.state }
-    ensures { LineDone common.now.mount.now client.now.caller client.now.state (plan_named client.now.state (object_of name.now client.now.state.objects) (plan_sync common.now.mount.now client.now.state keep)) pass.old pass.new result client.now.state }
+    requires may { MayCall common.now.mount.now common.now.volume.now pass.old client.old.caller }
+    requires on { IsOnMachine common.now.mount.now client.old.state }
+    ensures done { LineDone common.now.mount.now client.old.caller client.old.state (plan_named client.old.state (object_of name.now client.old.state.objects) (plan_sync common.now.mount.now client.old.state keep)) pass.old pass.new result client.new.state }
+    ensures on { IsOnMachine common.now.mount.now client.new.state }
+    ensures same { client.new ≡ record client.old { state = client.new.state } }
 {
     let Some(found) = find(common, client, name) else {
         return Reply::NoObject;
     };
-    let Ok(file) = framed_sync(alloc, common, found.target) else {
-        return Reply::Memory;
-    };
-    match sync_at(rt, common, pass, client.caller, file, found.node, keep) {
-        Ok(answered) => reply_to(answered.answer, Vec::new(alloc)),
-        Err(err) => refused(err),
+    let life = keep_number(keep);
+    match call_object(
+        rt,
+        alloc,
+        common,
+        pass,
+        client,
+        found.target,
+        found.node,
+        life,
+        &FileCall::Sync,
+        &mut [],
+    ) {
+        Ok(answer) => reply_to(answer, Vec::new(alloc)),
+        Err(reply) => reply,
+    }
+}
+
+/// The number by which the request of a sync says which right it keeps.
+fn keep_number(keep: Keep) -> u32
+    ensures { result ≡ keep_number keep }
+{
+    match keep {
+        Keep::Write => 0,
+        Keep::Read => 1,
     }
 }
 

@@ -5,6 +5,7 @@
 #![tactic(auto)]
 
 mod calls;
+mod carried;
 mod client;
 mod ending;
 mod files;

@@ -1,18 +1,19 @@
 //! Lines that open, copy and drop objects.
 
-ghost use Rattle.std.specs.Prelude.{◌≡◌, ◌⊎◌, ℕ, List, Some};
+ghost use Rattle.std.specs.Prelude.{◌≡◌, ℕ, List, Some};
 ghost use Rattle.name_context.specs.Names.{HasParts, kept_object};
 ghost use Rattle.client_objects.specs.Objects.{OpenObject, object_of, with_object, word_of};
 ghost use Rattle.client_objects.specs.Stored.{received, received_word};
 ghost use Rattle.script_meaning.specs.Plan.{holding, node_at, plan_copy, plan_drop, plan_found, plan_named, plan_open};
 ghost use Rattle.spr_client.specs.Calls.{MayCall};
-ghost use Rattle.spr_client.specs.Lines.{IsOnMachine, IsTarget, LineDone, PlanDone};
+ghost use Rattle.spr_client.specs.Lines.{IsKept, IsOnMachine, IsTarget, LineDone, PlanDone};
 
-use crate::calls::{access_at, framed};
+use crate::carried::call_object;
 use crate::client::{Client, Common};
 use crate::files::find;
-use crate::line::{life_in, parts_of, refused, refused_names, reply_to};
+use crate::line::{life_in, parts_of, refused_names, reply_to};
 use client_objects::{Found, NotReceived};
+use file_frames::FileCall;
 use hist_plain::{Gate, Op};
 use page_ground::Ground;
 use script_text::Reply;
@@ -37,31 +38,29 @@ fn open_received<R: Wait, G: Ground, T: Gate>(
     ensures done { (objects : List OpenObject) (name word : List ℕ) → client.old.state.objects ≡ with_object objects name found.target word
         → PlanDone common.now.mount.now client.old.caller (plan_found common.now.mount.now (holding client.old.state objects) name word (Some found.target)) pass.old pass.new result client.new.state }
     ensures on { (objects : List OpenObject) (name word : List ℕ) → client.old.state.objects ≡ with_object objects name found.target word
-        → (client.new.state ≡ holding client.old.state objects) ⊎ ((life : ℕ) × (client.new.state ≡ holding client.old.state (with_object objects name (record found.target { life = life }) word))) }
+        → IsKept client.old.state client.new.state objects name found.target word }
     ensures same { client.new ≡ record client.old { state = client.new.state } }
 {
-    let Ok((file, op)) = framed(alloc, common, found.target, Op::Open) else {
-        client.state.objects.give_up_last();
-        return Reply::Memory;
-    };
-    match access_at(
+    let call = FileCall::Access { op: Op::Open };
+    match call_object(
         rt,
+        alloc,
         common,
         pass,
-        client.caller,
-        file,
+        client,
+        found.target,
         found.node,
         0,
-        &op,
+        &call,
         &mut [],
     ) {
-        Ok(answered) => {
-            client.state.objects.set_life(life_in(answered.answer));
-            reply_to(answered.answer, Vec::new(alloc))
+        Ok(answer) => {
+            client.state.objects.set_life(life_in(answer));
+            reply_to(answer, Vec::new(alloc))
         }
-        Err(err) => {
+        Err(reply) => {
             client.state.objects.give_up_last();
-            refused(err)
+            reply
         }
     }
 }

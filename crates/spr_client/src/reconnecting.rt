@@ -15,10 +15,11 @@ ghost use Rattle.client_objects.specs.Reconnected.{IsReconnectable};
 ghost use Rattle.spr_client.specs.Lines.{IsLed, IsOnMachine, LeadsOn, LineDone, PlanDone};
 ghost use Rattle.spr_volume.specs.Passes.{as_known};
 
-use crate::calls::{access_at, framed};
+use crate::carried::call_object;
 use crate::client::{Client, Common};
-use crate::line::{life_in, parts_of, refused, refused_names, reply_to};
+use crate::line::{life_in, parts_of, refused_names, reply_to};
 use client_objects::{Found, ObjectKind, Target, received_target};
+use file_frames::FileCall;
 use hist_plain::{Answer, Gate, Op, fits};
 use page_ground::Ground;
 use script_meaning::pages_of;
@@ -84,26 +85,25 @@ fn reopen<R: Wait, G: Ground, T: Gate>(
     let Some(target) = received_target(common.mount, stored) else {
         return Err(Reply::BadObject);
     };
-    let Ok((file, op)) = framed(alloc, common, target, Op::Open) else {
-        return Err(Reply::Memory);
-    };
-    match access_at(
+    let call = FileCall::Access { op: Op::Open };
+    match call_object(
         rt,
+        alloc,
         common,
         pass,
-        client.caller,
-        file,
+        client,
+        target,
         target.view,
         0,
-        &op,
+        &call,
         &mut [],
     ) {
-        Ok(answered) => {
-            let life = life_in(answered.answer);
+        Ok(answer) => {
+            let life = life_in(answer);
             client.state.objects.reroute(name, target.door(), life);
             Ok(led_to(target, life))
         }
-        Err(err) => Err(refused(err)),
+        Err(reply) => Err(reply),
     }
 }
 
@@ -172,26 +172,29 @@ fn tried<R: Wait, G: Ground, T: Gate>(
     let Ok(mut out) = vec![in alloc; 0u8; asked(&op) as usize] else {
         return Reply::Memory;
     };
-    let Ok((file, op)) = framed(alloc, common, found.target, op) else {
-        return Reply::Memory;
-    };
-    let answer = match access_at(
+    let call = FileCall::Access { op };
+    let life = found.target.life;
+    let answer = match call_object(
         rt,
+        alloc,
         common,
         pass,
-        client.caller,
-        file,
+        client,
+        found.target,
         found.node,
-        found.target.life,
-        &op,
+        life,
+        &call,
         &mut out,
     ) {
-        Ok(answered) => answered.answer,
-        Err(err) => return refused(err),
+        Ok(answer) => answer,
+        Err(reply) => return reply,
     };
     if left == 0 || !is_revoked(answer) {
         return reply_to(answer, out);
     }
+    let FileCall::Access { op } = call else {
+        unreachable!();
+    };
     match reconnect(rt, alloc, common, pass, client, name, path) {
         Ok(found) => tried(
             rt,

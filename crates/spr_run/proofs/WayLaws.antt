@@ -1,5 +1,5 @@
 -- How a command ends, from how its parts ended.
-use Rattle.std.proofs.Common.{◌≡◌, ℕ, Bool, List, Some, refl, subst}
+use Rattle.std.proofs.Common.{◌≡◌, ℕ, Bool, List, Option, Some, None, refl, subst}
 use Rattle.pager_channel.specs.declared.numbers.Ops.{Ops}
 use Rattle.script_text.specs.declared.script.Script.{Script}
 use Rattle.stack_accept.specs.Mount.{Mount}
@@ -49,19 +49,19 @@ pub ends-lists : (stack : List ℕ) (o : Outside) (mount : Mount) (before after 
     → Written (SaysDisks mount o.bay o.bay_after) before after result → Written (SaysListed stack o) before after result
 ends-lists stack o mount before after result is calm w = written-as before after result (λ text status said. lists mount is calm said) w
 
-pub ends-runs : (names : Names) (trace : Bool) (o : Outside) (mount : Mount) (script : Script) (ops : Ops) (before after heard hears : SinkSeen) (result : Status) → IsPrepared o.shelf names mount script ops → o.shelf_after.faults ≡ o.shelf.faults
-    → WrittenBeside (SaysRun mount script (traced_by ops trace) o.bay o.bay_after) before after heard hears result → WrittenBeside (SaysRan names trace o) before after heard hears result
-ends-runs names trace o mount script ops before after heard hears result prepared calm w = beside-as before after heard hears result (λ notices text status said. runs mount script ops prepared calm said) w
+pub ends-runs : (names : Names) (trace : Bool) (loss : Option ℕ) (o : Outside) (mount : Mount) (script : Script) (ops : Ops) (before after heard hears : SinkSeen) (result : Status) → IsPrepared o.shelf names mount script ops → o.shelf_after.faults ≡ o.shelf.faults
+    → WrittenBeside (SaysRun mount loss script (traced_by ops trace) o.bay o.bay_after) before after heard hears result → WrittenBeside (SaysRan names trace loss o) before after heard hears result
+ends-runs names trace loss o mount script ops before after heard hears result prepared calm w = beside-as before after heard hears result (λ notices text status said. runs mount script ops prepared calm said) w
 
 -- a run that is refused tells no notices
-pub ends-unrun : (names : Names) (trace : Bool) (o : Outside) (why : Refusal) (before after heard : SinkSeen) (result : Status) → IsIdle o → IsCause o.shelf o.shelf_after names why
-    → Finishes before after (refusal_text names why) (refusal_status why) result → WrittenBeside (SaysRan names trace o) before after heard heard result
-ends-unrun names trace o why before after heard result idle cause ends =
-    written-alone (SaysRan names trace o) before after heard result
+pub ends-unrun : (names : Names) (trace : Bool) (loss : Option ℕ) (o : Outside) (why : Refusal) (before after heard : SinkSeen) (result : Status) → IsIdle o → IsCause o.shelf o.shelf_after names why
+    → Finishes before after (refusal_text names why) (refusal_status why) result → WrittenBeside (SaysRan names trace loss o) before after heard heard result
+ends-unrun names trace loss o why before after heard result idle cause ends =
+    written-alone (SaysRan names trace loss o) before after heard result
     (record { text = refusal_text names why; status = refusal_status why; says = unrun idle refl (record { why = why; cause = cause; text_is = refl; status_is = refl }); ends = ends })
 
 pub ends-generates : (made : Generation) (o : Outside) (mount : Mount) (script : Script) (ops : Ops) (before after heard hears : SinkSeen) (result : Status) → IsGenerated o.shelf made mount script ops → o.shelf_after.faults ≡ o.shelf.faults
-    → WrittenBeside (SaysSum mount script o.bay o.bay_after) before after heard hears result → WrittenBeside (SaysGenerated made o) before after heard hears result
+    → WrittenBeside (SaysSum mount None script o.bay o.bay_after) before after heard hears result → WrittenBeside (SaysGenerated made o) before after heard hears result
 ends-generates made o mount script ops before after heard hears result is calm w = beside-as before after heard hears result (λ notices text status said. generates mount script ops is calm said) w
 
 -- so does one that makes its script
@@ -95,9 +95,9 @@ pub ends-list : (words : List (List ℕ)) (stack : List ℕ) (o : Outside) (befo
     → Written (SaysListed stack o) before after result → Ends words o (sinks before after heard heard) result
 ends-list words stack o before after heard result asks w = ends-quietly words o before after heard result (written-as before after result (λ text status said. listed stack asks said) w)
 
-pub ends-run : (words : List (List ℕ)) (names : Names) (trace : Bool) (o : Outside) (before after heard hears : SinkSeen) (result : Status) → asked words ≡ Some (Run trace names.idl names.stack names.script)
-    → WrittenBeside (SaysRan names trace o) before after heard hears result → Ends words o (sinks before after heard hears) result
-ends-run words names trace o before after heard hears result asks w = beside-as before after heard hears result (λ notices text status said. ran names trace asks said) w
+pub ends-run : (words : List (List ℕ)) (names : Names) (trace : Bool) (loss : Option ℕ) (o : Outside) (before after heard hears : SinkSeen) (result : Status) → asked words ≡ Some (Run trace loss names.idl names.stack names.script)
+    → WrittenBeside (SaysRan names trace loss o) before after heard hears result → Ends words o (sinks before after heard hears) result
+ends-run words names trace loss o before after heard hears result asks w = beside-as before after heard hears result (λ notices text status said. ran names trace loss asks said) w
 
 pub ends-generated : (words : List (List ℕ)) (made : Generation) (o : Outside) (before after heard hears : SinkSeen) (result : Status) → asked words ≡ Some (Gen made.idl made.stack made.seed made.calls)
     → WrittenBeside (SaysGenerated made o) before after heard hears result → Ends words o (sinks before after heard hears) result

@@ -1,5 +1,5 @@
 -- The command that the words ask for.
-use Rattle.std.specs.Prelude.{ℕ, ◌+◌, ◌<◌, ◌≤◌, ◌&&◌, nat_lt, Bool, false, List, Option, Some, None, codes, option_map, option_and_then, if◌then◌else◌}
+use Rattle.std.specs.Prelude.{ℕ, ◌+◌, ◌<◌, ◌≤◌, ◌&&◌, nat_lt, nat_le, Bool, false, List, Option, Some, None, codes, option_map, option_and_then, if◌then◌else◌}
 use Rattle.std.specs.Option.{option_map_or}
 use Rattle.std.specs.Str.{bytes_eq}
 use Rattle.std.specs.Str.Parse.{digits_value, without_leading_plus}
@@ -25,11 +25,23 @@ whole_number limit digits = if is_numeral digits && nat_lt (digits_value 10 digi
 abbrev pub number_below : ℕ → Text → List Row → Option ℕ
 number_below limit id found = option_and_then (λ text. whole_number limit (without_leading_plus text)) (one_of id found)
 
+-- the number by which the links of a run lose packets, which is from 2 to 1,000; none if no option says it, and no command if it is another
+abbrev pub loss_by : Option ℕ → Option (Option ℕ)
+loss_by None = None
+loss_by (Some number) = if nat_le 2 number then Some (Some number) else None
+
+abbrev pub loss_of : Option Text → List Row → Option (Option ℕ)
+loss_of None found = Some None
+loss_of (Some word) found = loss_by (number_below 1001 (codes "loss") found)
+
+abbrev pub loss_in : List Row → Option (Option ℕ)
+loss_in found = loss_of (first_of (codes "loss") found) found
+
 -- the names that each command has, by what clap found
 abbrev pub run_in : List Row → Option Asked
 run_in found =
-    option_and_then (λ idl. option_and_then (λ stack. option_map (λ script. Run (is_given (codes "trace") found) idl stack script)
-    (first_of (codes "script") found)) (first_of (codes "stack") found)) (first_of (codes "idl") found)
+    option_and_then (λ loss. option_and_then (λ idl. option_and_then (λ stack. option_map (λ script. Run (is_given (codes "trace") found) loss idl stack script)
+    (first_of (codes "script") found)) (first_of (codes "stack") found)) (first_of (codes "idl") found)) (loss_in found)
 
 abbrev pub gen_in : List Row → Option Asked
 gen_in found =

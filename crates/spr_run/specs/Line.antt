@@ -19,9 +19,13 @@ calls = record (new_rule (codes "calls")) { parser = Some (Signed (pos 0) (pos 1
 abbrev pub flag : Text → Rule
 flag id = record (new_rule id) { long = Some id; action = Some SetTrue }
 
--- run [--trace] IDL STACK SCRIPT
+-- the number of a run over links that lose packets, from 2 to 1,000
+abbrev pub loss : Rule
+loss = record (new_rule (codes "loss")) { long = Some (codes "loss"); parser = Some (Signed (pos 2) (pos 1000)) }
+
+-- run [--trace] [--loss N] IDL STACK SCRIPT
 abbrev pub run : Shape
-run = (with_rule (with_rule (with_rule (with_rule (new_app (codes "run")) (flag (codes "trace"))) (name (codes "idl"))) (name (codes "stack"))) (name (codes "script"))).top
+run = (with_rule (with_rule (with_rule (with_rule (with_rule (new_app (codes "run")) (flag (codes "trace"))) loss) (name (codes "idl"))) (name (codes "stack"))) (name (codes "script"))).top
 
 -- gen IDL STACK SEED CALLS
 abbrev pub generation : Shape

@@ -1,5 +1,5 @@
 -- The ways in which a command ends, each with the text that it writes and its status. The line of the status follows the text.
-use Rattle.std.specs.Prelude.{◌≡◌, ℕ, Bool, List, [], codes, Some, None}
+use Rattle.std.specs.Prelude.{◌≡◌, ℕ, Bool, List, [], codes, Option, Some, None}
 use Rattle.pager_channel.specs.declared.numbers.Ops.{Ops}
 use Rattle.script_text.specs.declared.script.Script.{Script}
 use Rattle.stack_accept.specs.Mount.{Mount}
@@ -84,11 +84,12 @@ pub data SaysListed (stack : List ℕ) (o : Outside) (text : List ℕ) (status :
   unlisted : IsIdle o → Refuses (IsStackCause o.shelf o.shelf_after stack) (only_stack stack) text status → SaysListed stack o text status
 
 -- `run`: the interfaces have each operation, and the script was run over the files of the stack, or they could not be opened; or
--- a text is refused, or could not be read. The report has the page messages if they are asked for
-pub data SaysRan (names : Names) (trace : Bool) (o : Outside) (notices text : List ℕ) (status : Status) : Type 0 where
+-- a text is refused, or could not be read. The report has the page messages if they are asked for; and
+-- if a number is given, each client's calls to other machines go over a link that loses the packets whose number this one divides
+pub data SaysRan (names : Names) (trace : Bool) (loss : Option ℕ) (o : Outside) (notices text : List ℕ) (status : Status) : Type 0 where
   runs : (mount : Mount) (script : Script) (ops : Ops) → IsPrepared o.shelf names mount script ops → o.shelf_after.faults ≡ o.shelf.faults
-      → SaysRun mount script (traced_by ops trace) o.bay o.bay_after notices text status → SaysRan names trace o notices text status
-  unrun : IsIdle o → notices ≡ [] → Refuses (IsCause o.shelf o.shelf_after names) names text status → SaysRan names trace o notices text status
+      → SaysRun mount loss script (traced_by ops trace) o.bay o.bay_after notices text status → SaysRan names trace loss o notices text status
+  unrun : IsIdle o → notices ≡ [] → Refuses (IsCause o.shelf o.shelf_after names) names text status → SaysRan names trace loss o notices text status
 
 -- the names of the texts of a command that makes its script
 abbrev pub names_made : Generation → Names
@@ -98,7 +99,7 @@ names_made made = record { idl = made.idl; stack = made.stack; script = [] }
 -- opened or read; or a text is refused, or could not be read
 pub data SaysGenerated (made : Generation) (o : Outside) (notices text : List ℕ) (status : Status) : Type 0 where
   generates : (mount : Mount) (script : Script) (ops : Ops) → IsGenerated o.shelf made mount script ops → o.shelf_after.faults ≡ o.shelf.faults
-      → SaysSum mount script o.bay o.bay_after notices text status → SaysGenerated made o notices text status
+      → SaysSum mount None script o.bay o.bay_after notices text status → SaysGenerated made o notices text status
   ungenerated : IsIdle o → notices ≡ [] → Refuses (IsGenerationCause o.shelf o.shelf_after made) (names_made made) text status → SaysGenerated made o notices text status
 
 abbrev pub usage_text : List ℕ
@@ -119,7 +120,7 @@ pub data Says (words : List (List ℕ)) (o : Outside) (notices text : List ℕ) 
   quiet : notices ≡ [] → SaysQuietly words o text status → Says words o notices text status
   dumped : (stack name : List ℕ) → asked words ≡ Some (Dump stack name) → SaysDumped stack name o notices text status → Says words o notices text status
   generated : (made : Generation) → asked words ≡ Some (Gen made.idl made.stack made.seed made.calls) → SaysGenerated made o notices text status → Says words o notices text status
-  ran : (names : Names) (trace : Bool) → asked words ≡ Some (Run trace names.idl names.stack names.script) → SaysRan names trace o notices text status → Says words o notices text status
+  ran : (names : Names) (trace : Bool) (loss : Option ℕ) → asked words ≡ Some (Run trace loss names.idl names.stack names.script) → SaysRan names trace loss o notices text status → Says words o notices text status
 
 -- what the sinks of a command were told before it, and after it: of its text and status, and of notices
 pub record Sinks : Type 0 where

@@ -2,7 +2,7 @@
 
 ghost use Rattle.std.specs.Prelude.{◌≡◌, false, IfOk};
 ghost use Rattle.clap.specs.Words.{app_of, rule_of, shape_of};
-ghost use Rattle.spr_run.specs.Line.{bare, calls, check, disks, dump, flag, format, generation, idl, line, name, run, seed};
+ghost use Rattle.spr_run.specs.Line.{bare, calls, check, disks, dump, flag, format, generation, idl, line, loss, name, run, seed};
 
 use clap::{Arg, ArgAction, Command, value_parser};
 use std::alloc::{AllocError, Global};
@@ -43,12 +43,23 @@ fn flag<'a>(alloc: Global, id: &'a str) -> Arg<'a>
     Arg::new(alloc, id).long(id).action(ArgAction::SetTrue)
 }
 
+/// The number of a run over links that lose packets: those whose numbers it divides.
+fn loss<'a>(alloc: Global) -> Arg<'a>
+    ensures rule { rule_of result ≡ loss }
+    ensures global { result.global ≡ false }
+{
+    Arg::new(alloc, "loss")
+        .long("loss")
+        .value_parser(value_parser!(u32).range(2..=1_000))
+}
+
 /// The command that runs a script.
 fn run<'a>(alloc: Global) -> Result<Command<'a>, AllocError>
     ensures shape { IfOk result (λ c. shape_of c ≡ run) }
 {
     Command::new(alloc, "run")
         .arg(flag(alloc, "trace"))?
+        .arg(loss(alloc))?
         .arg(name(alloc, "idl"))?
         .arg(name(alloc, "stack"))?
         .arg(name(alloc, "script"))

@@ -24,7 +24,7 @@ use value_types::Text;
 const USAGE: &[u8] = b"usage: spring run, gen, check, format, dump or idl\n";
 
 /// Reads the three texts, runs the script over the files of the stack, if the interfaces fit together and have each operation, and
-/// writes how that ended; with the page messages, if they are asked for.
+/// writes how that ended; with the page messages, if they are asked for. If a number is given, calls to other machines are lost by it.
 fn run_named<R: Threads + Wait + Sync, H: Shelf, B: Bay, K: Sink, N: Sink, G: LineGate>(
     rt: &R,
     alloc: Global,
@@ -32,17 +32,18 @@ fn run_named<R: Threads + Wait + Sync, H: Shelf, B: Bay, K: Sink, N: Sink, G: Li
     stack: &Text,
     name: &Text,
     trace: bool,
+    loss: Option<u32>,
     shelf: &mut H,
     bay: &mut B,
     sink: &mut K,
     notices: &mut N,
     gate: &G,
 ) -> Status
-    ensures ends { WrittenBeside (SaysRan (record { idl = idl.now; stack = stack.now; script = name.now }) trace (outside (H.told shelf.old) (H.told shelf.new) (B.told bay.old) (B.told bay.new))) (K.told sink.old) (K.told sink.new) (N.told notices.old) (N.told notices.new) result }
+    ensures ends { WrittenBeside (SaysRan (record { idl = idl.now; stack = stack.now; script = name.now }) trace loss (outside (H.told shelf.old) (H.told shelf.new) (B.told bay.old) (B.told bay.new))) (K.told sink.old) (K.told sink.new) (N.told notices.old) (N.told notices.new) result }
 {
     match read_run(alloc, shelf, idl, stack, name) {
         Ok((mount, script, ops)) => run_files(
-            rt, alloc, &mount, &script, &ops, trace, bay, sink, notices, gate,
+            rt, alloc, &mount, &script, &ops, trace, loss, bay, sink, notices, gate,
         ),
         Err(refusal) => {
             let names = TextNames {
@@ -78,12 +79,13 @@ pub fn spring<R: Threads + Wait + Sync, H: Shelf, B: Bay, K: Sink, N: Sink, G: L
         Ok(
             Asked::Run {
                 trace,
+                loss,
                 idl,
                 stack,
                 script,
             },
         ) => run_named(
-            rt, alloc, &idl, &stack, &script, trace, shelf, bay, sink, notices, gate,
+            rt, alloc, &idl, &stack, &script, trace, loss, shelf, bay, sink, notices, gate,
         ),
         Ok(
             Asked::Gen {

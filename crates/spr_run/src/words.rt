@@ -20,6 +20,8 @@ pub enum Asked {
     Run {
         /// Whether its messages are traced.
         trace: bool,
+        /// The number that divides those of the packets which each client's link loses, from 2 to 1,000; none if it loses none.
+        loss: Option<u32>,
         /// The name of the text of the interfaces.
         idl: Text,
         /// The name of the stack's text.
@@ -87,7 +89,7 @@ impl From<AllocError> for WordsErr {
     }
 }
 
-ghost use Rattle.spr_run.specs.Asked.{IsWithinLimits, asked, asked_by, asked_in, check_in, disks_in, dump_in, format_in, gen_in, idl_in, is_given, number_below, run_in};
+ghost use Rattle.spr_run.specs.Asked.{IsWithinLimits, asked, asked_by, asked_in, check_in, disks_in, dump_in, format_in, gen_in, idl_in, is_given, loss_in, number_below, run_in};
 
 /// Lends the words.
 fn lend<'a>(alloc: Global, words: &'a [Text]) -> Result<Vec<&'a str>, AllocError>
@@ -157,17 +159,34 @@ fn is_given(found: &ArgMatches<'_>, id: &str) -> bool
     }
 }
 
+/// The number by which the links of a run lose packets, if an option says one. It is compared once more, as `numbered` does.
+fn loss_in(found: &ArgMatches<'_>) -> Result<Option<u32>, WordsErr>
+    ensures ok { IfOk result (λ loss. loss_in (rows_of (found_of found.now)) ≡ Some loss) }
+    ensures usage { result ≡ Err WordsErr.Usage → loss_in (rows_of (found_of found.now)) ≡ None }
+{
+    let Some(_given) = found.get_str("loss") else {
+        return Ok(None);
+    };
+    match numbered(found, "loss", 1_001) {
+        Ok(number) if number >= 2 => Ok(Some(number)),
+        Ok(_) => Err(WordsErr::Usage),
+        Err(why) => Err(why),
+    }
+}
+
 /// A run, with its names.
 fn run_in(alloc: Global, found: &ArgMatches<'_>) -> Result<Asked, WordsErr>
     ensures ok { IfOk result (λ a. run_in (rows_of (found_of found.now)) ≡ Some a) }
     ensures usage { result ≡ Err WordsErr.Usage → run_in (rows_of (found_of found.now)) ≡ None }
 {
     let trace = is_given(found, "trace");
+    let loss = loss_in(found)?;
     let idl = named(alloc, found, "idl")?;
     let stack = named(alloc, found, "stack")?;
     let script = named(alloc, found, "script")?;
     Ok(Asked::Run {
         trace,
+        loss,
         idl,
         stack,
         script,

@@ -7,7 +7,7 @@ use Rattle.text_words.specs.declared.lines.LineWhy.{LineWhy}
 use Rattle.text_words.specs.declared.lines.LineWhy.TheVariants as why
 use Rattle.std.proofs.Math.Seq.{take-length}
 use Rattle.std.proofs.lemmas.Bool.Decides.{nat_tests}
-use Rattle.std.proofs.lemmas.List.{map_push}
+use Rattle.std.proofs.lemmas.List.{length-take-le, map_push}
 use Rattle.std.proofs.lemmas.List.Folds.{list_all_at}
 use Rattle.std.proofs.lemmas.List.Splits.{join_with_byte-slice_split, slice_split-cons_yes, slice_split-cons_no}
 use Rattle.text_words.proofs.Bytes.{list_all-weaker}
@@ -207,6 +207,38 @@ last_word_put before now word whole at put so =
     ∙ map_push (λ (w : Bor (List ℕ)). w.now) before word
     ∙ ap (λ (ws : List (List ℕ)). fronts ++ ws) (sym at)
     ∙ so
+
+and_again : (a b c : Bool) → (a && (b && c)) ≡ ((a && b) && c)
+and_again true b c = refl
+and_again false b c = refl
+
+-- the words so far have bytes, and those that are left decide
+pub full_left : (whole full : Bool) (rest : List ℕ) (i : ℕ) → i < length rest → words_in rest ≡ take i rest ∷ words_in (drop (suc i) rest)
+    → whole ≡ (full && list_all has_bytes (words_in rest))
+    → whole ≡ ((full && ltb 0 i) && list_all has_bytes (words_in (take (length rest - (i + 1)) (drop (i + 1) rest))))
+full_left whole full rest i lt at so =
+    let next : suc i ≡ i + 1 = omega arith in
+    let cut : drop (suc i) rest ≡ take (length rest - (i + 1)) (drop (i + 1) rest) = ap (λ (n : ℕ). drop n rest) next ∙ sym (rest_is rest (i + 1)) in
+    let after : Bool = list_all has_bytes (words_in (take (length rest - (i + 1)) (drop (i + 1) rest))) in
+    let len : length (take i rest) ≡ i = length-take-le i rest (omega arith) in
+    so ∙ ap (λ (ws : List (List ℕ)). full && list_all has_bytes ws) at
+    ∙ ap (λ (r : List ℕ). full && (has_bytes (take i rest) && list_all has_bytes (words_in r))) cut
+    ∙ ap (λ (n : ℕ). full && (ltb 0 n && after)) len
+    ∙ and_again full (ltb 0 i) after
+
+and-true : (b : Bool) → (b && true) ≡ b
+and-true true = refl
+and-true false = refl
+
+not-empty : (n : ℕ) → not (eqb n 0) ≡ ltb 0 n
+not-empty n = grind (arith, nat_tests)
+
+-- the last word decides
+pub full_last : (whole full empty : Bool) (rest : List ℕ) → empty ≡ eqb (length rest) 0 → words_in rest ≡ rest ∷ [] → whole ≡ (full && list_all has_bytes (words_in rest))
+    → (full && not empty) ≡ whole
+full_last whole full empty rest is at so =
+    ap (λ (b : Bool). full && not b) is ∙ ap (λ (b : Bool). full && b) (not-empty (length rest))
+    ∙ sym (so ∙ ap (λ (ws : List (List ℕ)). full && list_all has_bytes ws) at ∙ ap (λ (b : Bool). full && b) (and-true (has_bytes rest)))
 
 -- why words were not split
 pub split_refused : (row : Row) (w : LineWhy) → (w ≡ why.Memory) ⊎ ((w ≡ why.Byte) × (list_all is_line_byte row.body ≡ false)) → ReadsWords w (words_at row)

@@ -1,5 +1,5 @@
 -- A number that is read is the number that is written, and the other way round.
-use Rattle.std.proofs.Common.{◌≡◌, ℕ, zero, suc, ◌+◌, ◌-◌, ◌*◌, ◌^◌, ◌<◌, ◌≤◌, List, [], ◌∷◌, length, get_or, take, Bool, true, false, cond, eqb, ltb, not, ◌&&◌, ◌||◌, Option, Some, None, Result, Ok, Err, rules, inl, inr, refl, sym, ap, subst, ◌∙◌, arith, lit≤}
+use Rattle.std.proofs.Common.{◌≡◌, ℕ, ◌+◌, ◌-◌, ◌*◌, ◌^◌, ◌<◌, ◌≤◌, List, [], ◌∷◌, length, get_or, take, Bool, true, false, cond, eqb, ltb, not, ◌&&◌, ◌||◌, Option, Some, None, Result, Ok, Err, rules, inl, inr, refl, sym, ap, subst, ◌∙◌, arith, lit≤}
 use Rattle.std.specs.Prelude.{IfSome}
 use Rattle.std.specs.Char.{digit_value, is_ascii_digit}
 use Rattle.std.specs.List.{list_all}
@@ -10,8 +10,9 @@ use Rattle.std.specs.Result.{OkIff}
 use Rattle.std.proofs.lemmas.Bool.{ltb-true, and_parts, le-ltb, lt-ltb, cases_lt, cases_eq, and_from}
 use Rattle.std.proofs.lemmas.Bool.Decides.{nat_tests}
 use Rattle.std.proofs.lemmas.Str.{IsUtf8-from_ascii}
-use Rattle.std.proofs.lemmas.Str.Parse.{IsNumeralModel, numerals_by_value, parse_digits, digits_value_short, digits_value-take-le}
+use Rattle.std.proofs.lemmas.Str.Parse.{IsNumeralModel, numerals_by_value, parse_digits, digits_value_short}
 use Rattle.std.proofs.lemmas.Int.Digits.{digits_value_more}
+use Rattle.std.proofs.lemmas.List.{length-take}
 use Rattle.std.proofs.lemmas.Fmt.{decimal-digits_value, digits_decimal, digits_value-decimal, decimal_nonempty, first_decimal, decimal_digit}
 use Rattle.text_words.specs.Numbers.{is_decimal, number_below}
 use Rattle.text_words.proofs.Bytes.{ascii_by}
@@ -115,27 +116,20 @@ number_found limit w (Some n) fits e = let is = number_is limit n w fits (sym e)
 pub number_only : (limit : ℕ) (w : List ℕ) (r : Option ℕ) → limit ≤ 2 ^ 64 → r ≡ number_below limit w → (n : ℕ) → n < limit → w ≡ decimal n → r ≡ Some n
 number_only limit w r fits e n lt is = e ∙ ap (number_below limit) is ∙ number_again limit n fits lt
 
--- a byte of a word of digits
-pub digit_within : (w : List ℕ) (i : ℕ) → list_all is_ascii_digit w ≡ true → i < length w → (48 ≤ get_or w i 0) × (get_or w i 0 ≤ 57)
-digit_within [] i h lt = absurd (omega arith)
-digit_within (c ∷ cs) zero h lt =
-    let test = (and_parts (is_ascii_digit c) (list_all is_ascii_digit cs) h).0 in
-    (grind (arith, nat_tests, test), grind (arith, nat_tests, test))
-digit_within (c ∷ cs) (suc i) h lt = digit_within cs i (and_parts (is_ascii_digit c) (list_all is_ascii_digit cs) h).1 (omega arith)
+-- nine digits at most are below a thousand million
+pub few_below : (w : List ℕ) (i : ℕ) → list_all is_ascii_digit (take i w) ≡ true → length w ≤ 9 → digits_value 10 (take i w) < 10 ^ 9
+few_below w i h few = digits_value_short own (take i w) 9 h (omega (arith, length-take i w))
 
--- nine digits at most are below a thousand million, and so are those of them that were read
-pub few_below : (w : List ℕ) (i : ℕ) → list_all is_ascii_digit w ≡ true → length w ≤ 9 → digits_value 10 (take i w) < 10 ^ 9
-few_below w i h few =
-    let whole = digits_value_short own w 9 h few in
-    let part = digits_value-take-le 10 w i (lit≤ tt) in
-    omega (arith, whole, part)
+-- a digit is one of `0` to `9`
+pub digit_within : (c : ℕ) → is_ascii_digit c ≡ true → (48 ≤ c) × (c ≤ 57)
+digit_within c test = (grind (arith, nat_tests, test), grind (arith, nat_tests, test))
 
 digit_is : (c : ℕ) → 48 ≤ c → c ≤ 57 → digit_value c ≡ c - 48
 digit_is c low high = grind (arith, nat_tests)
 
 -- one digit more
-pub value_more : (w : List ℕ) (i : ℕ) → list_all is_ascii_digit w ≡ true → i < length w
+pub value_more : (w : List ℕ) (i : ℕ) → i < length w → is_ascii_digit (get_or w i 0) ≡ true
     → digits_value 10 (take (i + 1) w) ≡ digits_value 10 (take i w) * 10 + (get_or w i 0 - 48)
-value_more w i h lt =
-    let within = digit_within w i h lt in
+value_more w i lt test =
+    let within = digit_within (get_or w i 0) test in
     digits_value_more 10 w i lt ∙ ap (λ (d : ℕ). digits_value 10 (take i w) * 10 + d) (digit_is (get_or w i 0) within.0 within.1)

@@ -92,29 +92,26 @@ fn word_end(text: &[u8]) -> Option<usize>
     text.iter().position(|b| !(b'!' <= *b && *b <= b'~'))
 }
 
-/// Appends what stands between spaces, unless a byte is not one of space to `~`.
-fn split_words<'a>(words: &mut Vec<&'a [u8]>, body: &'a [u8]) -> Result<(), LineWhy>
+/// Appends what stands between spaces, unless a byte is not one of space to `~`; and tells whether each
+/// has a byte.
+fn split_words<'a>(words: &mut Vec<&'a [u8]>, body: &'a [u8]) -> Result<bool, LineWhy>
     ensures bytes { OnOk result (list_all is_line_byte body.now ≡ true) }
     ensures words { OnOk result (map (λ word. word.now) words.new.items ≡ map (λ word. word.now) words.old.items ++ words_in body.now) }
+    ensures full { IfOk result (λ full. full ≡ list_all has_bytes (words_in body.now)) }
     ensures err { IfErr result (λ why. (why ≡ LineWhy.Memory) ⊎ ((why ≡ LineWhy.Byte) × (list_all is_line_byte body.now ≡ false))) }
 {
     let mut rest = body;
+    let mut full = true;
     while let Some(end) = word_end(rest) {
         if rest[end] != b' ' {
             return Err(LineWhy::Byte);
         }
         words.push(&rest[..end])?;
         rest = &rest[end + 1..];
+        full &= end > 0;
     }
     words.push(rest)?;
-    Ok(())
-}
-
-/// Whether each word has a byte.
-fn have_bytes(words: &[&[u8]]) -> bool
-    ensures { result ≡ list_all (λ word. has_bytes word.now) words.now }
-{
-    words.iter().all(|word| !word.is_empty())
+    Ok(full & !rest.is_empty())
 }
 
 /// Puts the words of a line into a list, in place of what it has; or gives the first reason why it is
@@ -124,8 +121,8 @@ pub fn read_words<'a>(words: &mut Vec<&'a [u8]>, line: Line<'a>) -> Result<(), L
     ensures { MatchResult result (λ _. words_at (row_of line.entry) ≡ Ok (map (λ word. word.now) words.new.items)) (λ why. ReadsWords why (words_at (row_of line.entry))) }
 {
     words.clear();
-    split_words(words, line.body)?;
-    if !have_bytes(words.as_slice()) {
+    let full = split_words(words, line.body)?;
+    if !full {
         return Err(LineWhy::Space);
     }
     if !line.ended {

@@ -1,6 +1,6 @@
 //! Reading numbers.
 
-ghost use Rattle.std.specs.Prelude.{◌≡◌, ◌<◌, ◌≤◌, ◌^◌, ℕ, IfSome, Option, Some, None, length, true};
+ghost use Rattle.std.specs.Prelude.{◌≡◌, ◌<◌, ◌≤◌, ◌^◌, ◌&&◌, ◌||◌, ◌==◌, not, nat_lt, if◌then◌else◌, ℕ, IfSome, Option, Some, None, length, slice_index};
 ghost use Rattle.std.specs.Char.{is_ascii_digit};
 ghost use Rattle.std.specs.Fmt.{decimal};
 ghost use Rattle.std.specs.List.{list_all};
@@ -14,27 +14,51 @@ fn all_digits(word: &[u8]) -> bool
     word.iter().all(|c| c.is_ascii_digit())
 }
 
+/// Whether a word has a byte, and no `0` before others.
+fn is_plain(word: &[u8]) -> bool
+    ensures { result ≡ (nat_lt 0 (length word.now) && (not (slice_index word.now 0 == 48) || (length word.now == 1))) }
+{
+    match word {
+        [] => false,
+        [first, rest @ ..] => *first != b'0' || rest.is_empty(),
+    }
+}
+
 /// Whether a word is one or more digits, the first of several not `0`.
 fn is_decimal(word: &[u8]) -> bool
     ensures { result ≡ is_decimal word.now }
 {
-    match word {
-        [] => false,
-        [first, rest @ ..] => all_digits(word) && (*first != b'0' || rest.is_empty()),
-    }
+    all_digits(word) && is_plain(word)
 }
 
-/// The value of up to nine digits, which every `u64` can hold.
-fn short_value(digits: &[u8]) -> u64
-    requires short { length digits.now ≤ 9 }
-    requires digits { list_all is_ascii_digit digits.now ≡ true }
-    ensures { result ≡ digits_value 10 digits.now }
+/// The value of up to nine digits, which every `u64` can hold; none if a byte is no digit.
+fn short_value(word: &[u8]) -> Option<u64>
+    requires { length word.now ≤ 9 }
+    ensures { result ≡ (if list_all is_ascii_digit word.now then Some (digits_value 10 word.now) else None) }
 {
     let mut value = 0;
-    for digit in digits {
+    for digit in word {
+        if !digit.is_ascii_digit() {
+            return None;
+        }
         value = value * 10 + u64::from(*digit - b'0');
     }
-    value
+    Some(value)
+}
+
+/// The number below the limit that a word of up to nine bytes is, if it is one.
+#[tactic(auto, unfolding(crate::specs::Numbers::number_below))]
+fn short_number(word: &[u8], limit: u64) -> Option<u64>
+    requires { length word.now ≤ 9 }
+    ensures { result ≡ number_below limit word.now }
+{
+    if !is_plain(word) {
+        return None;
+    }
+    match short_value(word) {
+        Some(value) => (value < limit).then_some(value),
+        None => None,
+    }
 }
 
 /// The number below the limit that a word is, if it is one.
@@ -42,12 +66,11 @@ fn short_value(digits: &[u8]) -> u64
 fn number_below(word: &[u8], limit: u64) -> Option<u64>
     ensures { result ≡ number_below limit word.now }
 {
+    if word.len() <= 9 {
+        return short_number(word, limit);
+    }
     if !is_decimal(word) {
         return None;
-    }
-    if word.len() <= 9 {
-        let value = short_value(word);
-        return (value < limit).then_some(value);
     }
     let Ok(text) = str::from_utf8(word) else {
         return None;

@@ -607,6 +607,35 @@ pub victim_answer : (shape : TreeShape) (pages : ℕ) (s : State) (node page : �
 victim_answer shape pages s node page None none some' full = absurd (full_holds shape pages s node page full none)
 victim_answer shape pages s node page (Some victim) none some' full = record { full = full; oldest = some' }
 
+-- a node that has the right, none of whose children hinders, has nothing left to do
+pub at_once : (shape : TreeShape) (pages : ℕ) (s : State) (node page : ℕ) (want : Right) (len : ℕ) → IsTree shape → IsUpper shape node → IsCoherent shape len (s.column page) → want ≢ Right.Nothing
+    → lacks want ((s.column page).right node) ≡ false → ((child : ℕ) → IsChild shape child node → hinders want ((s.column page).right child) ≡ false) → IsReady shape pages s node page want
+at_once shape pages s node page Right.Nothing len tree upper coh wanted has free = absurd (wanted refl)
+at_once shape pages s node page Right.Read len tree upper coh wanted has free =
+    reads_ready shape pages s node page len tree upper coh (reader ((s.column page).right node) has, λ child is. calm ((s.column page).right child) (free child is))
+  where
+    reader : (r : Right) → lacks Right.Read r ≡ false → r ≢ Right.Nothing
+    reader Right.Nothing h = λ e. true≢false h
+    reader Right.Read h = λ e. cc
+    reader Right.Write h = λ e. cc
+
+    calm : (r : Right) → hinders Right.Read r ≡ false → r ≢ Right.Write
+    calm Right.Nothing h = λ e. cc
+    calm Right.Read h = λ e. cc
+    calm Right.Write h = λ e. true≢false h
+at_once shape pages s node page Right.Write len tree upper coh wanted has free =
+    writes_ready shape pages s node page len tree upper coh (writer ((s.column page).right node) has, λ child is. calm ((s.column page).right child) (free child is))
+  where
+    writer : (r : Right) → lacks Right.Write r ≡ false → r ≡ Right.Write
+    writer Right.Nothing h = absurd (true≢false h)
+    writer Right.Read h = absurd (true≢false h)
+    writer Right.Write h = refl
+
+    calm : (r : Right) → hinders Right.Write r ≡ false → r ≡ Right.Nothing
+    calm Right.Nothing h = refl
+    calm Right.Read h = absurd (true≢false h)
+    calm Right.Write h = absurd (true≢false h)
+
 -- where nothing is left no rule fits
 not_both : (shape : TreeShape) (pages : ℕ) (s : State) (node page : ℕ) (want : Right) (event : Event) → IsReady shape pages s node page want → IsNext shape pages s node page want event → ⊥
 not_both shape pages s node page want event ready (Revoke other first) = ready.free other first.is_one

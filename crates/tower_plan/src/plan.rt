@@ -1,7 +1,7 @@
 //! Which event comes next on the way to an access.
 
 ghost use Rattle.std.specs.Prelude.{IsTrue, MatchOption, ℕ, ◌+◌, ◌<◌, ◌≡◌, ◌≢◌, ◌≤◌, ◌↔◌, false};
-ghost use Rattle.tower_core.specs.TreeShape.{IsTree, IsUpper, frames_of, nodes};
+ghost use Rattle.tower_core.specs.TreeShape.{IsChild, IsTree, IsUpper, frames_of, nodes};
 ghost use Rattle.tower_core.specs.Column.{IsCoherent, MayStep};
 ghost use Rattle.tower_core.specs.Trail.{IsAllowed, held_below, state_after};
 ghost use Rattle.tower_core.specs.declared.step.Step.{Step as AStep};
@@ -254,6 +254,36 @@ fn by_rule<R: Rights>(tree: &Tree, rights: &R, node: u32, page: u32, want: Right
     }
 }
 
+/// Whether a child of the node hinders what is wanted there.
+fn is_hindered_below<R: Rights>(tree: &Tree, rights: &R, node: u32, page: u32, want: Right) -> bool
+    requires same_tree { nodes tree.now ≡ R.node_count rights.now }
+    requires upper { IsUpper tree.now node }
+    requires page_in { page < R.page_count rights.now }
+    ensures free { result ≡ false → (child : ℕ) → IsChild tree.now child node →
+        hinders want (((R.state rights.now).column page).right child) ≡ false }
+    ensures tree { IsTree tree.now }
+{
+    for child in 1..tree.nodes() {
+        if tree.parent(child) == node && hinders(want, rights.right(child, page)) {
+            return true;
+        }
+    }
+    false
+}
+
+/// Whether the access may be made at once: the node has the right, and no child of it hinders. Rights
+/// are coherent, so nobody else hinders then, and each node on the path has the right too.
+fn is_at_once<R: Rights>(tree: &Tree, rights: &R, node: u32, page: u32, want: Right) -> bool
+    requires same_tree { nodes tree.now ≡ R.node_count rights.now }
+    requires upper { IsUpper tree.now node }
+    requires page_in { page < R.page_count rights.now }
+    requires want { want ≢ Right.Nothing }
+    requires coherent { IsCoherent tree.now (R.state rights.now).len ((R.state rights.now).column page) }
+    ensures { IsTrue result → IsReady tree.now (R.page_count rights.now) (R.state rights.now) node page want }
+{
+    !lacks(want, rights.right(node, page)) && !is_hindered_below(tree, rights, node, page, want)
+}
+
 /// The event that comes next on the way to an access of the node that wants this right: Read for a
 /// read, Write for a write or a clear.
 ///
@@ -282,5 +312,10 @@ pub fn next_for<R: Rights>(tree: &Tree, rights: &R, node: u32, page: u32, want: 
         node page want + 1
         ≡ cost_of tree.now (R.page_count rights.now) (R.state rights.now) node page want) }
 {
+    // The proof reads here that this is a tree.
+    let _nodes = tree.nodes();
+    if is_at_once(tree, rights, node, page, want) {
+        return Next::Ready;
+    }
     by_rule(tree, rights, node, page, want)
 }

@@ -29,16 +29,26 @@ fn say_named(answer: &mut String, what: &str, name: &Text) -> Result<(), AllocEr
     writeln!(answer, "{what} {name}")
 }
 
+/// Appends the number by which the links of a run lose packets, if there is one.
+fn say_loss(answer: &mut String, loss: Option<u32>) -> Result<(), AllocError> {
+    match loss {
+        Some(every) => writeln!(answer, "loss {every}"),
+        None => Ok(()),
+    }
+}
+
 /// Appends a command and its names.
 fn say_asked(answer: &mut String, asked: &Asked) -> Result<(), AllocError> {
     match asked {
         Asked::Run {
             trace,
+            loss,
             idl,
             stack,
             script,
         } => {
             say(answer, if *trace { "traced run" } else { "run" })?;
+            say_loss(answer, *loss)?;
             say_named(answer, "idl", idl)?;
             say_named(answer, "stack", stack)?;
             say_named(answer, "script", script)

@@ -146,6 +146,7 @@ fn numbered_reply(name: &str, number: u64) -> Option<Reply> {
             life: small(number),
         }),
         "Unmapped" => Some(Reply::Unmapped { address: number }),
+        "Link" => Some(Reply::Link { count: number }),
         _ => None,
     }
 }

@@ -83,7 +83,7 @@ fn client_does<R: Wait>(
     if mount.machines().is_empty() {
         return Err(Halt::Impossible);
     }
-    let mut client = Client::new(alloc, mount, 0, 0)?;
+    let mut client = Client::new(alloc, mount, 0, 0, None)?;
     Ok(run_phase(
         rt,
         alloc,

@@ -5,4 +5,4 @@ use Rattle.hist_lock.proofs.lock.await_turn.Given as goal
 abbrev pub invariant-loop : goal.invariant-loop
 invariant-loop g l =
     (goal.iterator-loop g).can_next l.iterator' × (goal.iterator-loop g).is_finite l.iterator'
-    × (l.place.table_id ≡ l.initial.place.table_id) × (l.place.id ≡ l.initial.place.id) × (l.place.me ≡ l.initial.place.me) × (l.looks ≤ 100)
+    × (l.place.table_id ≡ l.initial.place.table_id) × (l.place.id ≡ l.initial.place.id) × (l.place.me ≡ l.initial.place.me) × (l.looks ≤ 400)

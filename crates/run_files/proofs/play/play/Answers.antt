@@ -19,7 +19,7 @@ returns-clause-played g c =
     let towers : List TowerSeen = c.unmount-towers.result.0.items in
     let names : NamesSeen = c.unmount-towers.result.1 in
     let began : v.names ≡ unnamed c.args.mount.now = mounted.names_are ∙ c.in-Ok.ensures in
-    played-back c.args.mount.now script c.args.towers.items towers names p c.play_over-pass.result.0 (map (λ v. v.items) c.play_over-pass.result.1.said.items) c.play_over-pass.result.1.closing.items
+    played-back c.args.mount.now c.args.asked.loss script c.args.towers.items towers names p c.play_over-pass.result.0 (map (λ v. v.items) c.play_over-pass.result.1.said.items) c.play_over-pass.result.1.closing.items
     (ap (λ (x : Knows). x.first) is) (ap (λ (x : Knows). x.end) is ∙ end) (ap (λ (x : Knows). x.logs) is ∙ ap logs mounted.towers_are) (ap (λ (x : Knows). x.history) is ∙ ap (λ (n : NamesSeen). n.history) began)
     c.requires.unwritten c.play_over-pass.ensures
     (subst (λ (ts : List TowerSeen). AreBack (suc (length script.clients)) ts towers) mounted.towers_are (subst (λ n. AreBack n v.towers towers) end c.unmount-towers.ensures.back))

@@ -24,7 +24,7 @@ pub shut_files-trails-requires-clause-own : goal.shut_files-trails-requires-clau
 shut_files-trails-requires-clause-own g c κs within news told shut ended =
     let b = c.requires.begun in
     has-stores c.args.given.now.mount.now b.1 c.args.files.towers.items b.0 news
-    (record { of = b.2; opened = b.3; end = suc (length c.args.given.now.script.now.clients); back = b.5.later; shut = shut; mades = map (λ m. m.items) c.args.files.made.items; told = told; made = b.4; ended = ended })
+    (record { of = b.2; opened = b.3; end = suc (length c.args.given.now.script.now.clients); back = b.6.later; shut = shut; mades = map (λ m. m.items) c.args.files.made.items; told = told; made = b.4; ended = ended })
 
 pub tell-requires-clause-logs : goal.tell-requires-clause-logs
 tell-requires-clause-logs g c κs within =
@@ -62,10 +62,10 @@ returns g c =
     (subst (λ (ss : List (List Said)). Tells mount script traced (record { logs = ls; names = c.args.names }) ss c.deref-3.result.now c.deref-4.result.now status old new c.tell.result) said_is
     (subst (λ (o : Option Ops). Tells mount script o (record { logs = ls; names = c.args.names }) (map (λ v. v.items) c.deref-2.result.now) c.deref-3.result.now c.deref-4.result.now status old new c.tell.result) c.traced_by.ensures c.tell.ensures))) in
     record {
-      ended = λ bay olds begun taken of opens made played. record {
+      ended = λ bay olds begun taken of opens made loss played. record {
         notices = all_notices mount closed.told;
         offered = closed.offered;
-        written = run-over mount script traced bay mid end begun after c.args.names olds closed.news lost said closing ls old new status c.tell.result c.requires.mount taken
+        written = run-over mount loss script traced bay mid end begun after c.args.names olds closed.news lost said closing ls old new status c.tell.result c.requires.mount taken
             (record { of = of; opened = opens; end = suc (length script.clients); back = played.later; shut = closed.shut; mades = map (λ m. m.items) c.args.files.made.items; told = closed.told; made = made; ended = closed.ended }) played closed.given told how tells;
       };
     }

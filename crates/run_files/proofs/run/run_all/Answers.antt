@@ -59,7 +59,7 @@ returns-in-Err g c =
     let new = g.K.Sink.told c.stopped.new.sink in
     let cause = subst (λ (ks : List StoreKey). IsUntaken ks (length taken) before mid stop) items c.in-Err.ensures.cause in
     let first = c.in-Err.ensures.first ∙ ap (take (length taken)) items in
-    wanted-stopped mount c.args.given.now.script.now c.args.given.now.ops.now c.args.wanted before after old new (g.N.Sink.told c.args.notices.now) c.stopped.result
+    wanted-stopped mount c.args.asked.loss c.args.given.now.script.now c.args.given.now.ops.now c.args.wanted before after old new (g.N.Sink.told c.args.notices.now) c.stopped.result
     (untaken-writes mount before after lost stop old new c.stopped.result
     (subst (λ (ks : List StoreKey). Untaken mount before after ks lost stop) c.requires.keys (stops-taking mount before mid after keys lost taken stop c.in-Err.ensures.out first cause c.give_back.ensures))
     (subst (λ (l : List StoreKey). Finishes old new (stop_text mount stop l) (stop_status stop) c.stopped.result) c.deref-in-Err.ensures.value c.stopped.ensures))

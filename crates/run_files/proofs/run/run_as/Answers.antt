@@ -12,7 +12,7 @@ returns-in_default g c =
     let bay = g.B.Bay.told c.args.bay.now in
     let old = g.K.Sink.told c.args.sink.now in
     let new = g.K.Sink.told c.stopped.new.sink in
-    wanted-stopped mount c.args.given.now.script.now c.args.given.now.ops.now c.args.wanted bay bay old new (g.N.Sink.told c.args.notices.now) c.stopped.result (untaken-writes mount bay bay [] stops.Memory old new c.stopped.result (no-memory mount bay (stores_of mount)) c.stopped.ensures)
+    wanted-stopped mount c.args.loss c.args.given.now.script.now c.args.given.now.ops.now c.args.wanted bay bay old new (g.N.Sink.told c.args.notices.now) c.stopped.result (untaken-writes mount bay bay [] stops.Memory old new c.stopped.result (no-memory mount bay (stores_of mount)) c.stopped.ensures)
 
 pub returns-in_default-room_for_stores : goal.returns-in_default-room_for_stores
 returns-in_default-room_for_stores g c =
@@ -20,4 +20,4 @@ returns-in_default-room_for_stores g c =
     let bay = g.B.Bay.told c.args.bay.now in
     let old = g.K.Sink.told c.args.sink.now in
     let new = g.K.Sink.told c.stopped-in_default-room_for_stores.new.sink in
-    wanted-stopped mount c.args.given.now.script.now c.args.given.now.ops.now c.args.wanted bay bay old new (g.N.Sink.told c.args.notices.now) c.stopped-in_default-room_for_stores.result (untaken-writes mount bay bay [] stops.Memory old new c.stopped-in_default-room_for_stores.result (no-memory mount bay (stores_of mount)) c.stopped-in_default-room_for_stores.ensures)
+    wanted-stopped mount c.args.loss c.args.given.now.script.now c.args.given.now.ops.now c.args.wanted bay bay old new (g.N.Sink.told c.args.notices.now) c.stopped-in_default-room_for_stores.result (untaken-writes mount bay bay [] stops.Memory old new c.stopped-in_default-room_for_stores.result (no-memory mount bay (stores_of mount)) c.stopped-in_default-room_for_stores.ensures)

@@ -10,7 +10,7 @@ returns-in-Report g c =
     let after = g.B.Bay.told c.run_open.new.bay in
     record {
       ended = λ before olds taken of opens made.
-          subst (λ (w : Wanted). WrittenBeside (SaysWanted given.mount.now given.script.now given.ops.now w before after) (g.K.Sink.told c.args.sink.now) (g.K.Sink.told c.run_open.new.sink) (g.N.Sink.told c.args.notices.now) (g.N.Sink.told c.run_open.new.notices) c.run_open.result) (sym c.in-Report.is)
+          subst (λ (w : Wanted). WrittenBeside (SaysWanted given.mount.now c.args.asked.loss given.script.now given.ops.now w before after) (g.K.Sink.told c.args.sink.now) (g.K.Sink.told c.run_open.new.sink) (g.N.Sink.told c.args.notices.now) (g.N.Sink.told c.run_open.new.notices) c.run_open.result) (sym c.in-Report.is)
           (c.run_open.ensures.ended before olds taken of opens made);
     }
 
@@ -20,6 +20,6 @@ returns-in-Sum g c =
     let after = g.B.Bay.told c.sum_open.new.bay in
     record {
       ended = λ before olds taken of opens made.
-          subst (λ (w : Wanted). WrittenBeside (SaysWanted given.mount.now given.script.now given.ops.now w before after) (g.K.Sink.told c.args.sink.now) (g.K.Sink.told c.sum_open.new.sink) (g.N.Sink.told c.args.notices.now) (g.N.Sink.told c.sum_open.new.notices) c.sum_open.result) (sym c.in-Sum.is)
+          subst (λ (w : Wanted). WrittenBeside (SaysWanted given.mount.now c.args.asked.loss given.script.now given.ops.now w before after) (g.K.Sink.told c.args.sink.now) (g.K.Sink.told c.sum_open.new.sink) (g.N.Sink.told c.args.notices.now) (g.N.Sink.told c.sum_open.new.notices) c.sum_open.result) (sym c.in-Sum.is)
           (c.sum_open.ensures.ended before olds taken of opens made);
     }

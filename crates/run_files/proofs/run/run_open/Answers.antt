@@ -20,7 +20,7 @@ pub play-requires-clause-unwritten : goal.play-requires-clause-unwritten
 play-requires-clause-unwritten g c κs within = let o = c.requires.opened in unwritten-opened c.args.given.now.mount.now o.0 c.args.files.towers.items o.2
 
 pub end_run-requires-clause-begun : goal.end_run-requires-clause-begun
-end_run-requires-clause-begun g c κs within = let o = c.requires.opened in (o.0, c.args.files.towers.items, o.1, o.2, o.3, c.in-Ok.ensures.played)
+end_run-requires-clause-begun g c κs within = let o = c.requires.opened in (o.0, c.args.files.towers.items, o.1, o.2, o.3, c.args.asked.loss, c.in-Ok.ensures.played)
 
 pub end_run-requires-clause-towers : goal.end_run-requires-clause-towers
 end_run-requires-clause-towers g c κs within =
@@ -34,7 +34,7 @@ return_all-requires-clause-halts g c κs within =
     (o.0, o.1, inr (subst (λ (ts : List TowerSeen). OpensEach c.args.given.now.mount.now o.0 ts) (sym c.in-Err.ensures.back) o.2, c.requires.rest, refl))
 
 pub returns-in-Ok : goal.returns-in-Ok
-returns-in-Ok g c = record { ended = λ before olds taken of opens made. c.end_run.ensures.ended before olds c.args.files.towers.items taken of opens made c.in-Ok.ensures.played }
+returns-in-Ok g c = record { ended = λ before olds taken of opens made. c.end_run.ensures.ended before olds c.args.files.towers.items taken of opens made c.args.asked.loss c.in-Ok.ensures.played }
 
 pub returns-in-Err : goal.returns-in-Err
 returns-in-Err g c =
@@ -42,7 +42,7 @@ returns-in-Err g c =
     let after = g.B.Bay.told c.return_all.new.bay in
     record {
       ended = λ before olds taken of opens made.
-          run-stopped mount c.args.given.now.script.now (traced_by c.args.given.now.ops.now c.args.trace) before after (g.K.Sink.told c.args.sink.now) (g.K.Sink.told c.return_all.new.sink) (g.N.Sink.told c.args.notices.now) c.return_all.result
+          run-stopped mount c.args.asked.loss c.args.given.now.script.now (traced_by c.args.given.now.ops.now c.args.trace) before after (g.K.Sink.told c.args.sink.now) (g.K.Sink.told c.return_all.new.sink) (g.N.Sink.told c.args.notices.now) c.return_all.result
           (c.return_all.ensures.ended before olds taken of
           (inr (subst (λ (ts : List TowerSeen). OpensEach mount olds ts) (sym c.in-Err.ensures.back) opens, c.requires.rest, refl)));
     }

@@ -26,7 +26,7 @@ returns-in-Err g c =
     let after = g.B.Bay.told c.return_all.new.bay in
     record {
       ended = λ before taken.
-          wanted-stopped mount c.args.given.now.script.now c.args.given.now.ops.now c.args.wanted before after (g.K.Sink.told c.args.sink.now) (g.K.Sink.told c.return_all.new.sink) (g.N.Sink.told c.args.notices.now) c.return_all.result
+          wanted-stopped mount c.args.asked.loss c.args.given.now.script.now c.args.given.now.ops.now c.args.wanted before after (g.K.Sink.told c.args.sink.now) (g.K.Sink.told c.return_all.new.sink) (g.N.Sink.told c.args.notices.now) c.return_all.result
           (c.return_all.ensures.ended before c.args.parts.items taken c.requires.parts (inl c.in-Err.ensures.stopped));
     }
 

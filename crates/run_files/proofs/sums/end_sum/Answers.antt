@@ -32,7 +32,7 @@ shut_files-logs-requires-clause-towers g c κs within =
     let closing : List Reply = c.args.answers.closing.items in
     let mades : List (List (Option Notice)) = map (λ m. m.items) c.args.files.made.items in
     let b = c.requires.begun in
-    many-read mount script b.0 b.1 b.2 towers bs b.3 said closing b.4 b.5 b.7 b.8
+    many-read mount b.8 script b.0 b.1 b.2 towers bs b.3 said closing b.4 b.5 b.7 b.9
 
 pub shut_files-logs-requires-clause-own : goal.shut_files-logs-requires-clause-own
 shut_files-logs-requires-clause-own g c κs within news told shut ended =
@@ -44,7 +44,7 @@ shut_files-logs-requires-clause-own g c κs within news told shut ended =
     let closing : List Reply = c.args.answers.closing.items in
     let mades : List (List (Option Notice)) = map (λ m. m.items) c.args.files.made.items in
     let b = c.requires.begun in
-    has-stores mount b.1 towers b.0 news (read-over mount script b.0 news b.1 b.2 towers bs b.3 said closing mades told b.4 b.5 b.6 b.7 b.8 shut ended)
+    has-stores mount b.1 towers b.0 news (read-over mount b.8 script b.0 news b.1 b.2 towers bs b.3 said closing mades told b.4 b.5 b.6 b.7 b.9 shut ended)
 
 pub tell_sum-requires-clause-begun : goal.tell_sum-requires-clause-begun
 tell_sum-requires-clause-begun g c =
@@ -73,7 +73,7 @@ tell_sum-requires-clause-logs g c =
     let b = c.requires.begun in
     let closed = c.shut_files-logs.ensures.closed in
     let told : map (λ t. t.log) c.deref-6.result.now ≡ logs towers = ap (λ (ts : List TrailSeen). map (λ t. t.log) ts) c.deref-6.ensures.value ∙ c.shut_files-logs.ensures.logs in
-    subst (λ (ls : List (List Logged)). AreReported mount mount.files ls) (sym told) (logs-over mount towers closed.news (stack-read mount script b.0 b.1 b.2 towers bs b.3 said closing b.4 b.5 b.7 b.8) closed.shut)
+    subst (λ (ls : List (List Logged)). AreReported mount mount.files ls) (sym told) (logs-over mount towers closed.news (stack-read mount b.8 script b.0 b.1 b.2 towers bs b.3 said closing b.4 b.5 b.7 b.9) closed.shut)
 
 pub returns : goal.returns
 returns g c =
@@ -104,10 +104,10 @@ returns g c =
     (subst (λ (ss : List (List Said)). SumTold mount script bs ls ss c.deref-7.result.now status old new c.tell_sum.result) said_is
     (subst (λ (rs : List (List ℕ)). SumTold mount script rs ls (map (λ v. v.items) c.deref-4.result.now) c.deref-7.result.now status old new c.tell_sum.result) bytes_is c.tell_sum.ensures)) in
     record {
-      ended = λ bay olds opened begun names taken of opens made read played. record {
+      ended = λ bay olds opened begun names taken of opens made read loss played. record {
         notices = all_notices mount closed.told;
         offered = closed.offered;
-        written = summed-over mount script bay mid end opened begun towers bs names olds closed.news lost said closing ls old new status c.tell_sum.result c.requires.mount taken
-            (read-over mount script olds closed.news opened begun towers bs names said closing mades closed.told of opens made read played closed.shut closed.ended) read played closed.given told how tells;
+        written = summed-over mount loss script bay mid end opened begun towers bs names olds closed.news lost said closing ls old new status c.tell_sum.result c.requires.mount taken
+            (read-over mount loss script olds closed.news opened begun towers bs names said closing mades closed.told of opens made read played closed.shut closed.ended) read played closed.given told how tells;
       };
     }

@@ -44,10 +44,10 @@ returns g c =
     let ends : Finishes old new (stop_text mount c.args.stop lost) (stop_status c.args.stop) c.stopped.result =
     subst (λ (l : List StoreKey). Finishes old new (stop_text mount c.args.stop l) (stop_status c.args.stop) c.stopped.result) c.deref.ensures.value c.stopped.ensures in
     record {
-      ended = λ before olds opened taken of opens made tried. record {
+      ended = λ before olds opened taken of opens made tried loss. record {
         notices = all_notices mount closed.told;
         offered = closed.offered;
-        written = unplayed-over mount script before mid end opened towers olds closed.news lost c.args.stop old new c.stopped.result c.requires.mount taken
+        written = unplayed-over mount loss script before mid end opened towers olds closed.news lost c.args.stop old new c.stopped.result c.requires.mount taken
             (tried-over mount (length script.clients) olds closed.news opened towers mades closed.told of opens made tried closed.shut closed.ended) tried c.requires.halt closed.given ends;
       };
     }

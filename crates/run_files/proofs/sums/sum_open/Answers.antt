@@ -21,7 +21,7 @@ pub end_sum-requires-clause-begun : goal.end_sum-requires-clause-begun
 end_sum-requires-clause-begun g c κs within =
     let o = c.requires.opened in
     let p = c.in-Ok.ensures.played in
-    (o.0, c.args.files.towers.items, p.0, p.1, o.1, o.2, o.3, p.2, p.3)
+    (o.0, c.args.files.towers.items, p.0, p.1, o.1, o.2, o.3, p.2, c.args.asked.loss, p.3)
 
 pub end_sum-requires-clause-made : goal.end_sum-requires-clause-made
 end_sum-requires-clause-made g c κs within =
@@ -38,7 +38,7 @@ end_unplayed-requires-clause-made g c κs within =
 pub returns-in-Ok : goal.returns-in-Ok
 returns-in-Ok g c =
     let p = c.in-Ok.ensures.played in
-    record { ended = λ before olds taken of opens made. c.end_sum.ensures.ended before olds c.args.files.towers.items p.0 p.1 taken of opens made p.2 p.3 }
+    record { ended = λ before olds taken of opens made. c.end_sum.ensures.ended before olds c.args.files.towers.items p.0 p.1 taken of opens made p.2 c.args.asked.loss p.3 }
 
 pub returns-in-Err : goal.returns-in-Err
-returns-in-Err g c = record { ended = λ before olds taken of opens made. c.end_unplayed.ensures.ended before olds c.args.files.towers.items taken of opens made c.in-Err.ensures.halted.0 }
+returns-in-Err g c = record { ended = λ before olds taken of opens made. c.end_unplayed.ensures.ended before olds c.args.files.towers.items taken of opens made c.in-Err.ensures.halted.0 c.args.asked.loss }

@@ -13,7 +13,7 @@ sync_at-requires-clause-route g c κs within = (c.requires.file, omega arith, la
 pub returns-in-Ok-clause-done : goal.returns-in-Ok-clause-done
 returns-in-Ok-clause-done g c =
     let ask : Request = asking c.args.file (sync 1 keeps.Write) in
-    done-answered c.args.common.now.mount.now c.args.common.now.volume.now c.args.closer no_client ask no_client c.args.pass.now c.sync_at.new.pass [] c.in-Ok.answered c.reply_to.result c.requires.may
+    done-answered c.args.common.now.mount.now c.args.common.now.volume.now c.args.closer no_client ask no_client c.args.pass.now c.sync_at.new.pass [] c.in-Ok.answered c.reply_to.result c.requires.may refl
     c.in-Ok.ensures (λ t answer bytes. c.reply_to.ensures t answer (λ read. bytes read ∙ sym c.new.ensures.items))
 
 pub returns-in-Ok-clause-closed : goal.returns-in-Ok-clause-closed
@@ -23,7 +23,7 @@ pub returns-in-Err-clause-done : goal.returns-in-Err-clause-done
 returns-in-Err-clause-done g c =
     let ask : Request = asking c.args.file (sync 1 keeps.Write) in
     done-refused c.args.common.now.mount.now c.args.common.now.volume.now c.args.closer no_client (plan_call no_client ask) ask no_client (λ (t : Told). ends (reply_of t) no_client) c.args.pass.now c.sync_at.new.pass [] c.in-Err.err c.refused.result
-    c.requires.may refl c.in-Err.ensures c.refused.ensures
+    c.requires.may refl refl c.in-Err.ensures c.refused.ensures
 
 pub returns-in-Err-clause-closed : goal.returns-in-Err-clause-closed
 returns-in-Err-clause-closed g c = λ done. absurd (refusal-not-done c.in-Err.err (sym c.refused.ensures ∙ done))

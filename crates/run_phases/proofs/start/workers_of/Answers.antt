@@ -19,11 +19,11 @@ loop-number-preserved c =
     let same = c.as_slice-lines.ensures in
     let items = c.in_ok-push.ensures.items in
     let lt = subst (λ (ls : List ClientLine). number < length ls) same c.loop-number-test.true in
-    let started : IsStarted c.args.mount.now number (get_or lines number d) worker =
-    subst (λ (l : ClientLine). IsStarted c.args.mount.now number l worker) (c.index-lines-number.is ∙ ap (λ (ls : List ClientLine). get_or ls number d) same) c.in_ok-worker.ensures.started in
+    let started : IsStarted c.args.mount.now c.args.loss number (get_or lines number d) worker =
+    subst (λ (l : ClientLine). IsStarted c.args.mount.now c.args.loss number l worker) (c.index-lines-number.is ∙ ap (λ (ls : List ClientLine). get_or ls number d) same) c.in_ok-worker.ensures.started in
     let fits : length (flat_map (lines_of worker.client.caller) phases) ≤ vec_capacity worker.said =
     subst (λ n. length (flat_map (lines_of n) phases) ≤ vec_capacity worker.said) (sym started.caller_is) (subst (λ n. n ≤ vec_capacity worker.said) c.lines_of.ensures c.in_ok-worker.ensures.room) in
     record {
-      started = subst (AreStarted c.args.mount.now 0 _) (sym items) (started-next c.args.mount.now lines number workers d worker lt inv.started started);
+      started = subst (AreStarted c.args.mount.now c.args.loss 0 _) (sym items) (started-next c.args.mount.now c.args.loss lines number workers d worker lt inv.started started);
       room = subst (HaveRoom phases) (sym items) (room-more phases workers worker inv.room started.silent fits);
     }

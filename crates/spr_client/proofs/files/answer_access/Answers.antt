@@ -12,7 +12,7 @@ returns-in-Ok g c =
     let ask : Request = asking c.args.file (access c.args.node c.args.life c.args.op.now) in
     let out : List ℕ = c.access_at.new.out in
     let items = with_items_is c.args.out out (c.access_at.auto.out ∙ c.deref_mut.ensures.len) in
-    done-answered mount c.args.common.now.volume.now c.args.client.now.caller state ask state c.args.pass.now c.access_at.new.pass out c.in-Ok.answered c.reply_to.result c.requires.may
+    done-answered mount c.args.common.now.volume.now c.args.client.now.caller state ask state c.args.pass.now c.access_at.new.pass out c.in-Ok.answered c.reply_to.result c.requires.may refl
     c.in-Ok.ensures (λ t answer bytes. c.reply_to.ensures t answer (λ read. bytes read ∙ sym items))
 
 pub returns-in-Err : goal.returns-in-Err
@@ -21,4 +21,4 @@ returns-in-Err g c =
     let state = c.args.client.now.state in
     let ask : Request = asking c.args.file (access c.args.node c.args.life c.args.op.now) in
     done-refused mount c.args.common.now.volume.now c.args.client.now.caller state (plan_call state ask) ask state (λ (t : Told). ends (reply_of t) state) c.args.pass.now c.access_at.new.pass c.access_at.new.out c.in-Err.err c.refused.result
-    c.requires.may refl c.in-Err.ensures c.refused.ensures
+    c.requires.may refl refl c.in-Err.ensures c.refused.ensures

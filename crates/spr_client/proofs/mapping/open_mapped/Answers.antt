@@ -22,7 +22,7 @@ returns-in-Ok-clause-done g c = λ space region is leaf file.
     let there = subst (λ n. CallDone caller (asking c.args.file (access n 0 ops.Open)) c.args.pass.now c.access_at.new.pass out c.access_at.result) (sym leaf) c.access_at.ensures in
     let called = subst (λ n. CallDone caller (asking n (access region.leaf 0 ops.Open)) c.args.pass.now c.access_at.new.pass out c.access_at.result) (sym file) there in
     let done = subst (λ r. CallDone caller ask c.args.pass.now c.access_at.new.pass out r) c.in-Ok.is called in
-    plan-ok mount c.args.common.now.volume.now caller (plan_mapped state region) ask state go_on c.args.pass.now c.access_at.new.pass out answered c.reply_to.result (mapping state c.set_life.new.self) c.requires.may refl done
+    plan-ok mount c.args.common.now.volume.now caller (plan_mapped state region) ask state go_on c.args.pass.now c.access_at.new.pass out answered c.reply_to.result (mapping state c.set_life.new.self) c.requires.may refl refl done
     (λ t answer bytes.
     let said : c.reply_to.result ≡ reply_of t = c.reply_to.ensures t answer (λ read. bytes read ∙ (no-bytes out c.access_at.auto.out ∙ sym c.new.ensures.items)) in
     let life : life_in t.answer ≡ c.life_in.result = ap life_in answer ∙ sym c.life_in.ensures in
@@ -47,7 +47,7 @@ returns-in-Err-clause-done g c = λ space region is leaf file.
     let called = subst (λ n. CallDone caller (asking n (access region.leaf 0 ops.Open)) c.args.pass.now c.access_at.new.pass out c.access_at.result) (sym file) there in
     let done = subst (λ r. CallDone caller ask c.args.pass.now c.access_at.new.pass out r) c.in-Err.is called in
     subst (λ (s : SpaceShape). PlanDone mount caller (plan_mapped state region) c.args.pass.now c.access_at.new.pass c.refused.result (mapping state s)) (sym (c.give_up_last.ensures.last space region is))
-    (plan-refused mount c.args.common.now.volume.now caller (plan_mapped state region) ask state go_on c.args.pass.now c.access_at.new.pass out c.in-Err.err c.refused.result c.requires.may refl done c.refused.ensures)
+    (plan-refused mount c.args.common.now.volume.now caller (plan_mapped state region) ask state go_on c.args.pass.now c.access_at.new.pass out c.in-Err.err c.refused.result c.requires.may refl refl done c.refused.ensures)
 
 pub returns-in-Err-clause-on : goal.returns-in-Err-clause-on
 returns-in-Err-clause-on g c = λ space region is.

@@ -13,7 +13,7 @@ run_files-requires-clause-calls g c κs within = phases-built c.in-Ok.mount c.in
 pub returns-in-Ok : goal.returns-in-Ok
 returns-in-Ok g c =
     let o = outside (g.H.Shelf.told c.args.shelf.now) (g.H.Shelf.told c.read_run.new.shelf) (g.B.Bay.told c.args.bay.now) (g.B.Bay.told c.run_files.new.bay) in
-    record { ends = ends-runs (record { idl = c.args.idl.now; stack = c.args.stack.now; script = c.args.name.now }) c.args.trace o c.in-Ok.mount c.in-Ok.script c.in-Ok.ops (g.K.Sink.told c.args.sink.now) (g.K.Sink.told c.run_files.new.sink) (g.N.Sink.told c.args.notices.now) (g.N.Sink.told c.run_files.new.notices) c.run_files.result c.in-Ok.ensures.ok c.in-Ok.ensures.calm c.run_files.ensures.says }
+    record { ends = ends-runs (record { idl = c.args.idl.now; stack = c.args.stack.now; script = c.args.name.now }) c.args.trace c.args.loss o c.in-Ok.mount c.in-Ok.script c.in-Ok.ops (g.K.Sink.told c.args.sink.now) (g.K.Sink.told c.run_files.new.sink) (g.N.Sink.told c.args.notices.now) (g.N.Sink.told c.run_files.new.notices) c.run_files.result c.in-Ok.ensures.ok c.in-Ok.ensures.calm c.run_files.ensures.says }
 
 pub returns-in-Err : goal.returns-in-Err
 returns-in-Err g c =
@@ -26,4 +26,4 @@ returns-in-Err g c =
     subst (λ n. Finishes old new (refusal_text (named c.args.idl.now c.args.stack.now n) why) (refusal_status why) c.refuse.result) c.as_str-in-Err-2.ensures
     (subst (λ n. Finishes old new (refusal_text (named c.args.idl.now n c.as_str-in-Err-2.result.now) why) (refusal_status why) c.refuse.result) c.as_str-in-Err.ensures
     (subst (λ n. Finishes old new (refusal_text (named n c.as_str-in-Err.result.now c.as_str-in-Err-2.result.now) why) (refusal_status why) c.refuse.result) c.as_str.ensures c.refuse.ensures)) in
-    record { ends = ends-unrun (named c.args.idl.now c.args.stack.now c.args.name.now) c.args.trace o why old new (g.N.Sink.told c.args.notices.now) c.refuse.result refl c.in-Err.ensures.err ends }
+    record { ends = ends-unrun (named c.args.idl.now c.args.stack.now c.args.name.now) c.args.trace c.args.loss o why old new (g.N.Sink.told c.args.notices.now) c.refuse.result refl c.in-Err.ensures.err ends }

@@ -13,7 +13,7 @@ returns-in-Ok-Run g c =
     let o = outside (g.H.Shelf.told c.args.shelf.now) (g.H.Shelf.told c.run_named.new.shelf) (g.B.Bay.told c.args.bay.now) (g.B.Bay.told c.run_named.new.bay) in
     let names : Names = record { idl = c.in-Ok-Run.idl; stack = c.in-Ok-Run.stack; script = c.in-Ok-Run.script } in
     let written = rw c.in-Ok-Run.field-0-is at c.run_named.ensures.ends in
-    record { ends = ends-run c.args.words.now names c.in-Ok-Run.trace o (g.K.Sink.told c.args.sink.now) (g.K.Sink.told c.run_named.new.sink) (g.N.Sink.told c.args.notices.now) (g.N.Sink.told c.run_named.new.notices) c.run_named.result asks written }
+    record { ends = ends-run c.args.words.now names c.in-Ok-Run.trace c.in-Ok-Run.loss o (g.K.Sink.told c.args.sink.now) (g.K.Sink.told c.run_named.new.sink) (g.N.Sink.told c.args.notices.now) (g.N.Sink.told c.run_named.new.notices) c.run_named.result asks written }
 
 pub returns-in-Ok-Gen : goal.returns-in-Ok-Gen
 returns-in-Ok-Gen g c =

@@ -1,7 +1,12 @@
-use Rattle.std.proofs.Common.{◌≡◌, take}
+use Rattle.std.proofs.Common.{◌≡◌, take, true}
+use Rattle.std.specs.Char.{is_ascii_digit}
+use Rattle.std.specs.List.{list_all}
 use Rattle.std.specs.Str.Parse.{digits_value}
 use Rattle.text_words.proofs.numbers.short_value.Given as goal
 
--- the value of the digits so far
+-- the bytes so far are digits, and their value
 abbrev pub invariant-loop-digit : goal.invariant-loop-digit
-invariant-loop-digit l = l.value ≡ digits_value 10 (take l.digit-index l.digits)
+invariant-loop-digit l = record {
+  digits : list_all is_ascii_digit (take l.digit-index l.word) ≡ true;
+  value : l.value ≡ digits_value 10 (take l.digit-index l.word);
+}
