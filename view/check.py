@@ -8,9 +8,10 @@ after it may be wrong for its sake alone: the first counts.
 from collections import Counter
 
 import heads
+import losses
 import names
 import rules
-from names import is_hex
+import told
 from reasons import Reasons
 from report import ENDS, MESSAGES, NUMBER, SYNCS
 
@@ -209,11 +210,13 @@ class FileCheck:
 class Check:
     """A report over its stack, checked. `findings` has what is wrong, in the order of the report's lines.
 
-    `notices` is what was told of the disks in mirrors beside the report; nothing of it is checked.
+    `notices` is what was told of the disks in mirrors beside the report; nothing of it is checked. `losses` has
+    the lines that lost a call.
     """
 
     def __init__(self, stack, report, notices=()):
         self.stack, self.report, self.notices, self.findings = stack, report, list(notices), []
+        self.losses = losses.find_losses(report)
         self.traced = report.is_traced()
         self.numbers = heads.Numbers(report)
         self.files = []
@@ -225,6 +228,7 @@ class Check:
             file.run()
         self.check_numbers()
         self.check_lines()
+        self.check_losses()
         self.check_told()
         self.check_closing()
         if report.names is not None:
@@ -267,23 +271,18 @@ class Check:
                     before = int(number)
                 seen.add(number)
 
+    def check_losses(self):
+        """Asks whether the lines that lost a call tell what can be, and whether the status tells of them."""
+        for client, line, text in losses.faults(self.report):
+            self.findings.append(Finding("client %s" % client, None, None, line, text))
+        if self.losses and self.report.status == 0:
+            self.findings.append(Finding("report", None, None, self.report.lines, (
+                "it ends with status 0, and %d of its lines lost a call" % len(self.losses))))
+
     def check_told(self):
         """Asks whether what each client was told is what its events answer."""
-        if self.report.status in (None, 8):
-            return
-        made = {client: Counter() for client in self.report.clients}
-        for file in self.files:
-            for row in file.part.rows:
-                if row.caller in made:
-                    made[row.caller][answer_words(row)] += 1
-        for client, lines in self.report.clients.items():
-            told = Counter(answer for _, _, answer in lines)
-            for answer in sorted(set(made[client]) | set(told)):
-                if is_told_wrong(answer, told[answer], made[client][answer]):
-                    line = max([line for line, _, said in lines if said == answer] + [self.report.heading[client]])
-                    self.findings.append(Finding("client %s" % client, None, None, line, (
-                        "%d of its lines have the answer %s, and %d of its events" % (
-                            told[answer], answer, made[client][answer]))))
+        for client, line, text in told.faults(self.report, self.losses):
+            self.findings.append(Finding("client %s" % client, None, None, line, text))
 
     def check_closing(self):
         """Asks whether each file has its closing sync, or the report tells why it has not."""
@@ -294,22 +293,3 @@ class Check:
                 self.findings.append(Finding("file %s" % part.name, None, None, part.line, (
                     "the closing sync is both done and refused" if done else
                     "the closing sync is neither done nor told to be refused")))
-
-
-def is_told_wrong(answer, told, made):
-    """Whether so many lines with an answer cannot come from so many events with it.
-
-    Each event that answers bytes or `done` is one line's. A line is told bytes by an event alone, but may
-    be done without one. An object may be opened, and a life be refused, in the midst of a line.
-    """
-    if is_hex(answer):
-        return told != made
-    return told < made if answer == "done" else told > made and answer.startswith(("life ", "revoked "))
-
-
-def answer_words(row):
-    """What an event's caller is told."""
-    if row.answer is None:
-        return "done"
-    answer, said = row.answer
-    return row.told.hex() if answer == "bytes" else answer if said is None else "%s %d" % (answer, said)

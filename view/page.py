@@ -7,6 +7,7 @@ from pathlib import Path
 from heads import ORDERS
 from report import ENDS, MESSAGES, SYNCS
 from sentences import message_words
+from texts import beside
 
 HERE = Path(__file__).resolve().parent
 MOST_ROWS = 300000
@@ -140,7 +141,7 @@ def pack(check, name, page):
         "columns": [node.number for node in stack.columns()],
         "nodes": [pack_node(node) for node in stack.nodes],
         "files": files, "findings": pack_findings(check), "found": len(check.findings),
-        "notices": [notice.words() for notice in check.notices],
+        "notices": beside(check),
         "texts": texts.texts, "file": at, "page": page}
 
 

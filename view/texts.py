@@ -22,9 +22,22 @@ def write_text(name, text):
         file.write(text)
 
 
+def lost_lines(check):
+    """The lines that lost a call, in words."""
+    said = [loss.words() for loss in check.losses[:MOST_TOLD]]
+    if len(check.losses) > MOST_TOLD:
+        said.append("and %d more lines lost a call" % (len(check.losses) - MOST_TOLD))
+    return said
+
+
+def beside(check):
+    """What is told beside the check: the notices of disks, and the lines that lost a call."""
+    return [notice.words() for notice in check.notices] + lost_lines(check)
+
+
 def verdict(check):
-    """What was found, as lines: each file's rows, or what is wrong."""
+    """What was found, as lines: each file's rows, or what is wrong; and what is told beside."""
     said = [finding.words() for finding in check.findings[:MOST_TOLD]]
     if len(check.findings) > MOST_TOLD:
         said.append("and %d more, which may follow from the first" % (len(check.findings) - MOST_TOLD))
-    return (said or [file.words() for file in check.files]) + [notice.words() for notice in check.notices]
+    return (said or [file.words() for file in check.files]) + beside(check)

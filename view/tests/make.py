@@ -1,7 +1,8 @@
-"""The stacks and the reports that the tests read: `eight`, of eight nodes with memory managers, and
-`mirrored`, over a mirror of two disks. The trees are worked by hand from the stacks.
+"""The stacks and the reports that the tests read: `eight`, of eight nodes with memory managers,
+`mirrored`, over a mirror of two disks, and `lossy`, of lines that lost calls. The trees are worked by hand
+from the stacks.
 
-    python3 view/tests/make.py          writes both beside this file
+    python3 view/tests/make.py          writes them beside this file
     python3 view/tests/make.py long N   prints a history of about N events over the first stack's first file
 """
 
@@ -38,6 +39,14 @@ dfs r m c
 coherency k n r
 """
 MIRRORED_TREE = [("x", "m", None, 0), ("c", "m", 0, 0), ("v", "m", 1, 1), ("r", "m", 1, 0), ("k", "n", 3, 0)]
+
+LOSSY = """page 64
+file f 2
+disk d m
+coherency c m d
+dfs r m c
+"""
+LOSSY_TREE = [("d", "m", None, 0), ("c", "m", 0, 0), ("r", "m", 1, 0)]
 
 
 def some_calls(run, client, seats, count):
@@ -89,6 +98,16 @@ def run_mirrored():
     return run
 
 
+def run_lossy():
+    """Three clients, of which two are on a machine beyond r: their lines lose the calls' replies, or requests."""
+    run = Run(64, [("f", 2)], LOSSY_TREE, ["ann", "bob", "cleo"], 4)
+    run.phase([("bob", "0 r open"), ("bob", "0 r write 0 0 0 6f6e65"), ("bob", "replies 9 0 r write 0 0 0 74776f")])
+    run.phase([("ann", "0 c open"), ("ann", "0 c read 0 0 0 3"), ("ann", "0 r release"), ("ann", "0 c write 0 1 0 61")])
+    run.phase([("bob", "0 r read 0 0 0 3"), ("bob", "replies 18 0 r read 0 1 0 1"), ("bob", "replies 26 0 r sync")])
+    run.phase([("cleo", "0 r open"), ("cleo", "0 r read 0 1 0 1"), ("cleo", "requests 8 0 r read 0 0 0 3")])
+    return run
+
+
 def run_long(events):
     """Three clients at eight nodes and one file, until its history has about so many events."""
     run = Run(64, [("f", 3)], EIGHT_TREE, ["ann", "bob", "cleo"], 3)
@@ -108,6 +127,11 @@ def mirrored():
     return run_mirrored().report(names=False)
 
 
+def lossy():
+    """The report of the run over links that lose packets."""
+    return run_lossy().report()
+
+
 def long(events):
     """The report of a long run."""
     return run_long(events).report()
@@ -118,7 +142,7 @@ def main(words):
     if words[:1] == ["long"]:
         sys.stdout.write(long(int(words[1])))
         return
-    for name, stack, report in (("eight", EIGHT, eight()), ("mirrored", MIRRORED, mirrored())):
+    for name, stack, report in (("eight", EIGHT, eight()), ("mirrored", MIRRORED, mirrored()), ("lossy", LOSSY, lossy())):
         (HERE / (name + ".stack")).write_text(stack)
         (HERE / (name + ".report")).write_text(report)
 

@@ -272,10 +272,21 @@ class Run:
             return (yield from file.end(client, layer, kind == "revoke"))
         return (yield from file.access(client, layer, int(rest[0]), [kind] + rest[1:]))
 
+    def line_of(self, client, words):
+        """A line's answer, event by event. One that begins with `replies COUNT` or `requests COUNT` loses these of
+        its call, so that the count stands then."""
+        lost, _, behind = words.partition(" ")
+        if lost not in ("replies", "requests"):
+            return (yield from self.call(client, words))
+        count, _, call = behind.partition(" ")
+        if lost == "replies":
+            yield from self.call(client, call)
+        return "link %s" % count
+
     def lines_of(self, client, calls):
         """A client's lines of a phase, event by event."""
         for line, words in calls:
-            answer = yield from self.call(client, words)
+            answer = yield from self.line_of(client, words)
             self.told[client].append("%d %s" % (line, answer))
 
     def phase(self, calls):
@@ -302,4 +313,5 @@ class Run:
             for _ in file.sync("mount", file.layers[1]):
                 pass
             said += ["file %s" % file.name] + file.lines
-        return "\n".join(said + (["names"] + self.names if names else []) + ["status 0"]) + "\n"
+        lost = any(" link " in line for lines in self.told.values() for line in lines)
+        return "\n".join(said + (["names"] + self.names if names else []) + ["status %d" % lost]) + "\n"
