@@ -8,3 +8,4 @@ pub mod Laws
 pub mod Views
 pub mod Begun
 pub mod Reconnected
+pub mod Ways

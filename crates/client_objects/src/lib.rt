@@ -26,5 +26,5 @@ pub use objects::Objects;
 pub use reading::received_target;
 pub use state::ClientState;
 pub use stored::bound_object;
-pub use target::{Found, Target};
+pub use target::{Found, Target, Way, file_by};
 pub use why::NotReceived;

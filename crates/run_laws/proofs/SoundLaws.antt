@@ -39,7 +39,7 @@ use Rattle.tower_log.specs.Notes.{Rises, counts_of}
 use Rattle.name_context.specs.declared.entry.NameCall.TheVariants as names_calls
 use Rattle.name_context.specs.declared.entry.NameErr.{NameErr}
 use Rattle.name_context.specs.declared.entry.NameErr.TheVariants as refusals
-use Rattle.name_context.specs.Names.{Name, kept_at}
+use Rattle.name_context.specs.Names.{Kept, Name, kept_at}
 use Rattle.name_context.specs.Listed.{listed}
 use Rattle.client_objects.specs.declared.state.ClientState.{ClientState}
 use Rattle.client_objects.specs.declared.target.Target.{Target}
@@ -57,7 +57,12 @@ use Rattle.script_meaning.specs.declared.store.StoreKey.{StoreKey}
 use Rattle.script_meaning.specs.Log.{Histories, IsFull, Item, by_caller, entered, items, items_from, log_at, noted, who}
 use Rattle.client_objects.specs.declared.kind.ObjectKind.{ObjectKind}
 use Rattle.link_lossy.specs.Carriers.{CarrierSeen, after_call}
-use Rattle.script_meaning.specs.Plan.{Ask, Asks, Goes, Made, NamesAsk, NamesTold, Plan, Hears, Refuses, Request, Unmade, access, asking, asking_at, asking_names, asks_names, at_file, binding, calls, comes, ends, further_tries, is_revoked, kind_named, led_to, loading, lost_reply, mapping, node_at, opening, over, plan, plan_access, plan_after, plan_bind, plan_bound, plan_call, plan_copy, plan_done, plan_drop, plan_end, plan_found, plan_map, plan_named, plan_names, plan_open, plan_place, plan_reopened, plan_sync, plan_try, refused_as, region_of, release, reopening, reply_of, rerouting, revoke, rights_at, sent, start_state, storing, sync, told_names, trial_of, unknown, unless_refused, unless_unmappable, with_names}
+use Rattle.marshal_buf.specs.declared.door.Door.{Door}
+use Rattle.client_replicas.specs.declared.door.OpenDoor.{OpenDoor}
+use Rattle.client_replicas.specs.Objects.{doors_of, with_doors}
+use Rattle.client_replicas.specs.OpenDoors.{fresh, open_door}
+use Rattle.client_replicas.specs.Received.{received_doors}
+use Rattle.script_meaning.specs.Plan.{Ask, Asks, Goes, Hears, Made, NamesAsk, NamesTold, Plan, Refuses, Request, Unmade, access, asking, asking_at, asking_names, asks_names, at_file, binding, binding_doors, by_door, calls, comes, ends, further_tries, is_open, is_revoked, kind_named, led_to, life_in, loading, lost_reply, mapping, node_at, opening, over, plan, plan_access, plan_after, plan_bind, plan_bound, plan_by_doors, plan_call, plan_copy, plan_copy_doors, plan_done, plan_doors, plan_drop, plan_drop_doors, plan_end, plan_found, plan_map, plan_named, plan_names, plan_next, plan_open, plan_opens, plan_place, plan_received, plan_reopened, plan_replicate, plan_sync, plan_synced, plan_try, plan_use, reached, refused_as, region_of, release, reopening, replica_doors, replicating, reply_of, rerouting, revoke, rights_at, sent, start_state, storing, sync, told_names, trial_of, unknown, unless_refused, unless_unmappable, with_names}
 use Rattle.script_meaning.specs.Stack.{file_named, pages_of, view_of, layer_of}
 use Rattle.script_meaning.specs.Fits.{Acts, AllGoOn, ClientsFit, Closes, Did, Does, InOrder, Line, Phased, last_cut, lines_of, made_on, no_client, plan_closing}
 use Rattle.script_meaning.proofs.Logs.{items-more}
@@ -312,10 +317,10 @@ after-calm : (mount : Mount) (left : ℕ) (name : List ℕ) (path : List (List �
 after-calm mount zero name path op state told un = (told-calm told, un)
 after-calm mount (suc left) name path op state told un =
     if-calm (is_revoked told.answer)
-    (plan_names state (asking_names names_calls.Resolve (Some path)) (λ names. plan_reopened mount name op (plan_after mount left name path op) state (received mount (kept_at names path))))
+    (plan_names state (asking_names names_calls.Resolve (Some path)) (λ names. plan_reopened mount name op (plan_after mount left name path op) state (reached mount (kept_at names path))))
     (ends (reply_of told) state)
-    (names-calm state (asking_names names_calls.Resolve (Some path)) (λ names. plan_reopened mount name op (plan_after mount left name path op) state (received mount (kept_at names path))) un
-    (λ names. reopened-calm mount name op (plan_after mount left name path op) state (received mount (kept_at names path)) un (after-calm mount left name path op)))
+    (names-calm state (asking_names names_calls.Resolve (Some path)) (λ names. plan_reopened mount name op (plan_after mount left name path op) state (reached mount (kept_at names path))) un
+    (λ names. reopened-calm mount name op (plan_after mount left name path op) state (reached mount (kept_at names path)) un (after-calm mount left name path op)))
     (told-calm told, un)
 
 access-calm : (mount : Mount) (state : ClientState) (name word : List ℕ) (op : Op) → Uncarried state → (target : Target) → EndsCalm (plan_access mount state name word op target)
@@ -325,19 +330,62 @@ access-calm mount state name word op un target =
 sync-calm : (mount : Mount) (state : ClientState) (keep : Keep) → Uncarried state → (target : Target) → EndsCalm (plan_sync mount state keep target)
 sync-calm mount state keep un target = call-calm state (asking_at mount state (node_at mount state target) target.file (sync (node_at mount state target) keep)) un
 
-copy-calm : (state : ClientState) (word other : List ℕ) (taken : Option Target) → Uncarried state → (target : Target) → EndsCalm (plan_copy state word other taken target)
-copy-calm state word other (Some taken) un target = (refl, un)
-copy-calm state word other None un target = (refl, un)
+copy-calm : (state : ClientState) (word other : List ℕ) (taken : Bool) → Uncarried state → (target : Target) → EndsCalm (plan_copy state word other taken target)
+copy-calm state word other true un target = (refl, un)
+copy-calm state word other false un target = (refl, un)
+
+-- replicon objects
+doors-calm : (doors : Option (List OpenDoor)) (go_on : OpenDoor → List OpenDoor → Plan) (otherwise : Plan) → ((door : OpenDoor) (more : List OpenDoor) → EndsCalm (go_on door more)) → EndsCalm otherwise → EndsCalm (plan_doors doors go_on otherwise)
+doors-calm (Some (door ∷ more)) go_on otherwise calm other = calm door more
+doors-calm (Some []) go_on otherwise calm other = other
+doors-calm None go_on otherwise calm other = other
+
+next-calm : (mount : Mount) (name : List ℕ) (op : Op) (more : List OpenDoor) → GoesCalm (plan_next mount name op more)
+next-calm mount name op [] state told un = (told-calm told, un)
+next-calm mount name op (next ∷ more) state told un =
+    if-calm (is_revoked told.answer) (plan_try mount op (plan_next mount name op more) (replicating state (with_doors name (next ∷ more) state.replicas)) (by_door next)) (ends (reply_of told) state)
+    (try-calm mount op (plan_next mount name op more) (replicating state (with_doors name (next ∷ more) state.replicas)) (by_door next) un (next-calm mount name op more)) (told-calm told, un)
+
+by_doors-calm : (mount : Mount) (state : ClientState) (name : List ℕ) (op : Op) → Uncarried state → (door : OpenDoor) (more : List OpenDoor) → EndsCalm (plan_by_doors mount state name op door more)
+by_doors-calm mount state name op un door more = try-calm mount op (plan_next mount name op more) state (by_door door) un (next-calm mount name op more)
+
+use-calm : (mount : Mount) (state : ClientState) (name : List ℕ) (op : Op) → Uncarried state → EndsCalm (plan_use mount state name op)
+use-calm mount state name op un =
+    doors-calm (doors_of name state.replicas) (plan_by_doors mount state name op) (plan_named state (object_of name state.objects) (plan_access mount state name (word_of name state.objects) op)) (by_doors-calm mount state name op un)
+    (named-calm state (object_of name state.objects) (plan_access mount state name (word_of name state.objects) op) un (access-calm mount state name (word_of name state.objects) op un))
+
+synced-calm : (mount : Mount) (state : ClientState) (name : List ℕ) (keep : Keep) → Uncarried state → EndsCalm (plan_synced mount state name keep)
+synced-calm mount state name keep un =
+    doors-calm (doors_of name state.replicas) (λ door more. plan_sync mount state keep (by_door door)) (plan_named state (object_of name state.objects) (plan_sync mount state keep)) (λ door more. sync-calm mount state keep un (by_door door))
+    (named-calm state (object_of name state.objects) (plan_sync mount state keep) un (sync-calm mount state keep un))
+
+copy_doors-calm : (state : ClientState) (other : List ℕ) (taken : Bool) → Uncarried state → (door : OpenDoor) (more : List OpenDoor) → EndsCalm (plan_copy_doors state other taken door more)
+copy_doors-calm state other true un door more = (refl, un)
+copy_doors-calm state other false un door more = (refl, un)
+
+opens-calm : (mount : Mount) (name : List ℕ) (before : List OpenDoor) (doors : List Door) (state : ClientState) → Uncarried state → EndsCalm (plan_opens mount name before doors state)
+opens-calm mount name before [] state un = (refl, un)
+opens-calm mount name before (door ∷ doors) state un =
+    let request : Request = opening mount state (by_door (fresh door)) in
+    (un, λ told. opens-calm mount name (before ++ open_door door (life_in told.answer) ∷ []) doors (sent request state) (sent-uncarried request state un))
+
+replicate-calm : (state : ClientState) (path : List (List ℕ)) (doors : Option (List Door)) → Uncarried state → EndsCalm (plan_replicate state path doors)
+replicate-calm state path (Some doors) un = done-calm state (binding_doors path doors) un
+replicate-calm state path None un = tt
 
 found-calm : (mount : Mount) (state : ClientState) (name word : List ℕ) (target : Option Target) → Uncarried state → EndsCalm (plan_found mount state name word target)
 found-calm mount state name word None un = (refl, un)
 found-calm mount state name word (Some target) un = (un, λ told. (told-calm told, sent-uncarried (opening mount state target) state un))
 
-open-calm : (mount : Mount) (state : ClientState) (name : List ℕ) (path : List (List ℕ)) (taken : Option Target) → Uncarried state → EndsCalm (plan_open mount state name path taken)
-open-calm mount state name path (Some taken) un = (refl, un)
-open-calm mount state name path None un =
-    names-calm state (asking_names names_calls.Resolve (Some path)) (λ names. plan_found mount state name (received_word (kept_at names path)) (received mount (kept_at names path))) un
-    (λ names. found-calm mount state name (received_word (kept_at names path)) (received mount (kept_at names path)) un)
+received-calm : (mount : Mount) (state : ClientState) (name : List ℕ) (kept : Option Kept) (doors : Option (List Door)) → Uncarried state → EndsCalm (plan_received mount state name kept doors)
+received-calm mount state name kept (Some doors) un = opens-calm mount name [] doors state un
+received-calm mount state name kept None un = found-calm mount state name (received_word kept) (received mount kept) un
+
+open-calm : (mount : Mount) (state : ClientState) (name : List ℕ) (path : List (List ℕ)) (taken : Bool) → Uncarried state → EndsCalm (plan_open mount state name path taken)
+open-calm mount state name path true un = (refl, un)
+open-calm mount state name path false un =
+    names-calm state (asking_names names_calls.Resolve (Some path)) (λ names. plan_received mount state name (kept_at names path) (received_doors mount (kept_at names path))) un
+    (λ names. received-calm mount state name (kept_at names path) (received_doors mount (kept_at names path)) un)
 
 bound-calm : (state : ClientState) (rights : Option CacheRights) (region : CacheRights → Region) → Uncarried state → EndsCalm (plan_bound state rights region)
 bound-calm state None region un = (refl, un)
@@ -350,6 +398,11 @@ map-calm state (Some spaces.Unaligned) onward un calm = (refl, un)
 map-calm state (Some spaces.TooLong) onward un calm = (refl, un)
 map-calm state (Some spaces.Overlap) onward un calm = (refl, un)
 map-calm state (Some spaces.Memory) onward un calm = (refl, un)
+
+mapped-calm : (mount : Mount) (state : ClientState) (region : List ℕ) (address pages : ℕ) (write : Bool) → Uncarried state → (target : Target) → EndsCalm (plan_map mount state region address pages write target)
+mapped-calm mount state region address pages write un target =
+    map-calm state (refusal state.regions region target.file address pages) (plan_bound state (rights_at mount state target) (region_of region address pages write)) un
+    (bound-calm state (rights_at mount state target) (region_of region address pages write) un)
 
 place-calm : (state : ClientState) (place : Result Place TranslateErr) (request : Place → Request) → Uncarried state → EndsCalm (plan_place state place request)
 place-calm state (Ok place) request un = call-calm state (request place) un
@@ -365,25 +418,24 @@ end-calm state ask None file un = tt
 plan-calm : (mount : Mount) (state : ClientState) (call : Call) → Uncarried state → EndsCalm (plan mount state call)
 plan-calm mount state (lines.Context path) un = done-calm state (asking_names names_calls.Context (Some path)) un
 plan-calm mount state (lines.Bind path sub view file) un = bind-calm state path (kind_named sub) (view_of mount view) (file_named mount file) un
+plan-calm mount state (lines.Replicate path file views) un = replicate-calm state path (replica_doors mount (file_named mount file) views) un
 plan-calm mount state (lines.Unbind path) un = done-calm state (asking_names names_calls.Unbind (Some path)) un
 plan-calm mount state (lines.List path) un = names-calm state (asking_names names_calls.List path) (λ names. ends (replies.Names (listed names path)) state) un (λ names. (refl, un))
-plan-calm mount state (lines.Open name path) un = open-calm mount state name path (object_of name state.objects) un
+plan-calm mount state (lines.Open name path) un = open-calm mount state name path (is_open name state) un
 plan-calm mount state (lines.Copy name other) un =
-    named-calm state (object_of name state.objects) (plan_copy state (word_of name state.objects) other (object_of other state.objects)) un (copy-calm state (word_of name state.objects) other (object_of other state.objects) un)
-plan-calm mount state (lines.Drop name) un = named-calm state (object_of name state.objects) (plan_drop state name) un (λ target. (refl, un))
-plan-calm mount state (lines.Read name page off len) un =
-    named-calm state (object_of name state.objects) (plan_access mount state name (word_of name state.objects) (ops.Read page off len)) un (access-calm mount state name (word_of name state.objects) (ops.Read page off len) un)
-plan-calm mount state (lines.Write name page off bytes) un =
-    named-calm state (object_of name state.objects) (plan_access mount state name (word_of name state.objects) (ops.Write page off bytes)) un (access-calm mount state name (word_of name state.objects) (ops.Write page off bytes) un)
-plan-calm mount state (lines.Clear name page) un =
-    named-calm state (object_of name state.objects) (plan_access mount state name (word_of name state.objects) (ops.Clear page)) un (access-calm mount state name (word_of name state.objects) (ops.Clear page) un)
-plan-calm mount state (lines.Sync name) un = named-calm state (object_of name state.objects) (plan_sync mount state keeps.Write) un (sync-calm mount state keeps.Write un)
-plan-calm mount state (lines.Clean name) un = named-calm state (object_of name state.objects) (plan_sync mount state keeps.Read) un (sync-calm mount state keeps.Read un)
+    doors-calm (doors_of name state.replicas) (plan_copy_doors state other (is_open other state)) (plan_named state (object_of name state.objects) (plan_copy state (word_of name state.objects) other (is_open other state))) (copy_doors-calm state other (is_open other state) un)
+    (named-calm state (object_of name state.objects) (plan_copy state (word_of name state.objects) other (is_open other state)) un (copy-calm state (word_of name state.objects) other (is_open other state) un))
+plan-calm mount state (lines.Drop name) un =
+    doors-calm (doors_of name state.replicas) (λ door more. plan_drop_doors state name) (plan_named state (object_of name state.objects) (plan_drop state name)) (λ door more. (refl, un))
+    (named-calm state (object_of name state.objects) (plan_drop state name) un (λ target. (refl, un)))
+plan-calm mount state (lines.Read name page off len) un = use-calm mount state name (ops.Read page off len) un
+plan-calm mount state (lines.Write name page off bytes) un = use-calm mount state name (ops.Write page off bytes) un
+plan-calm mount state (lines.Clear name page) un = use-calm mount state name (ops.Clear page) un
+plan-calm mount state (lines.Sync name) un = synced-calm mount state name keeps.Write un
+plan-calm mount state (lines.Clean name) un = synced-calm mount state name keeps.Read un
 plan-calm mount state (lines.Map region name address pages write) un =
-    named-calm state (object_of name state.objects) (plan_map mount state region address pages write) un
-    (λ target.
-    map-calm state (refusal state.regions region target.file address pages) (plan_bound state (rights_at mount state target) (region_of region address pages write)) un
-    (bound-calm state (rights_at mount state target) (region_of region address pages write) un))
+    doors-calm (doors_of name state.replicas) (λ door more. plan_map mount state region address pages write (by_door door)) (plan_named state (object_of name state.objects) (plan_map mount state region address pages write))
+    (λ door more. mapped-calm mount state region address pages write un (by_door door)) (named-calm state (object_of name state.objects) (plan_map mount state region address pages write) un (mapped-calm mount state region address pages write un))
 plan-calm mount state (lines.Unmap region) un =
     if-calm (has_region region state.regions) (ends replies.Done (mapping state (without_region region state.regions))) (ends replies.NoRegion state) (refl, un) (refl, un)
 plan-calm mount state (lines.Load address len) un = place-calm state (translation state.regions address len false) (loading len) un

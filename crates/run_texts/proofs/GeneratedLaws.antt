@@ -51,6 +51,7 @@ client-none mount clients all = ap (option_map (λ place. place + 1)) (position_
 
 call-known : (mount : Mount) (call : Call) → IsTrue (is_made call) → is_known mount call ≡ true
 call-known mount (calls.Bind path sub view file) made = absurd cc
+call-known mount (calls.Replicate path file views) made = absurd cc
 call-known mount (calls.Revoke layer file) made = absurd cc
 call-known mount (calls.Release layer file) made = absurd cc
 call-known mount call made = refl

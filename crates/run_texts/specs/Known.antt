@@ -1,10 +1,10 @@
 -- What a script names that the stack does not have.
 use Rattle.std.specs.Prelude.{ℕ, ◌+◌, List, [], ◌∷◌, drop, not, ◌&&◌, find, position, Bool, true, Option, None}
 use Rattle.std.specs.Option.{option_map, option_or}
-use Rattle.std.specs.List.{list_any}
+use Rattle.std.specs.List.{list_all, list_any}
 use Rattle.std.specs.Str.{bytes_eq}
 use Rattle.script_text.specs.declared.script.Call.{Call}
-use Rattle.script_text.specs.declared.script.Call.TheVariants.{Bind, Revoke, Release}
+use Rattle.script_text.specs.declared.script.Call.TheVariants.{Bind, Replicate, Revoke, Release}
 use Rattle.script_text.specs.declared.script.CallLine.{CallLine}
 use Rattle.script_text.specs.declared.script.ClientLine.{ClientLine}
 use Rattle.script_text.specs.declared.script.Script.{Script}
@@ -26,6 +26,7 @@ has_layer mount name = list_any (λ node. bytes_eq node.name name) (drop 1 mount
 -- whether the stack has what a call names
 abbrev pub is_known : Mount → Call → Bool
 is_known mount (Bind path sub view file) = has_view mount view && has_file mount file
+is_known mount (Replicate path file views) = has_file mount file && list_all (has_view mount) views
 is_known mount (Revoke layer file) = has_layer mount layer && has_file mount file
 is_known mount (Release layer file) = has_layer mount layer && has_file mount file
 is_known mount call = true

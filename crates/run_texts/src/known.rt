@@ -1,13 +1,14 @@
 //! What a script names that the stack does not have.
 
 ghost use Rattle.std.specs.Prelude.{◌≡◌, ◌≤◌, ◌<◌, drop, length, not, position, IfSome};
+ghost use Rattle.std.specs.List.{list_all};
 ghost use Rattle.std.specs.Option.{option_map, option_copied};
 ghost use Rattle.script_text.specs.Grammar.{IsScript};
 ghost use Rattle.run_texts.specs.Known.{has_machine, has_file, has_view, has_layer, is_known, unknown_client, unknown_in, unknown_call, unknown_line};
 
 use script_text::{Call, CallLine, ClientLine, Script};
 use stack_accept::{Mounted, NodeEntry};
-use value_types::{Items, Text};
+use value_types::{Items, Path, Text};
 
 /// Whether there is a machine of the name.
 fn has_machine(mount: &Mounted, name: &Text) -> bool
@@ -33,6 +34,13 @@ fn has_view(mount: &Mounted, name: &Text) -> bool
     nodes.iter().any(|node| node.kind.is_view() && node.name.as_str() == name.as_str())
 }
 
+/// Whether each of the names is a view's.
+fn has_views(mount: &Mounted, names: &Path) -> bool
+    ensures { result ≡ list_all (has_view mount.now) names.now }
+{
+    names.as_slice().iter().all(|name| has_view(mount, name))
+}
+
 /// The nodes but the ground, which is the first.
 fn layers(mount: &Mounted) -> &[NodeEntry]
     ensures { result.now ≡ drop 1 mount.now.nodes }
@@ -56,6 +64,7 @@ fn is_known(mount: &Mounted, call: &Call) -> bool
 {
     match call {
         Call::Bind { view, file, .. } => has_view(mount, view) && has_file(mount, file),
+        Call::Replicate { file, views, .. } => has_file(mount, file) && has_views(mount, views),
         Call::Revoke { layer, file } | Call::Release { layer, file } => {
             has_layer(mount, layer) && has_file(mount, file)
         }

@@ -168,7 +168,7 @@ EachAnswered script said = AreAnswered script.phases 0 script.clients said
 
 -- the caller `mount` is no client: it has no object, no address space and no carrier
 abbrev pub no_client : ClientState
-no_client = record { machine = 0; objects = []; regions = record { page_size = 0; files = []; regions = [] }; carrier = None }
+no_client = record { machine = 0; objects = []; replicas = []; regions = record { page_size = 0; files = []; regions = [] }; carrier = None }
 
 -- the closing sync of a file, at the layer above the ground
 abbrev pub plan_closing : ℕ → Plan

@@ -1,6 +1,6 @@
 -- What a line of a script does: the calls that it makes, one after another, and its answer.
-use Rattle.std.specs.Prelude.{◌≡◌, ℕ, zero, suc, List, [], ◌∷◌, length, unwrap_or, Bool, true, false, not, ◌==◌, ◌⊎◌, if◌then◌else◌, slice_get, slice_index_or, Option, Some, None, Result, Ok, Err}
-use Rattle.std.specs.Option.{option_map}
+use Rattle.std.specs.Prelude.{◌≡◌, ℕ, zero, suc, List, [], ◌∷◌, ◌++◌, length, unwrap_or, is_some, Bool, true, false, not, ◌||◌, ◌==◌, ◌⊎◌, if◌then◌else◌, slice_get, slice_index_or, Option, Some, None, Result, Ok, Err}
+use Rattle.std.specs.Option.{option_map, option_and_then}
 use Rattle.hist_plain.specs.declared.event.Op.{Op}
 use Rattle.hist_plain.specs.declared.event.Op.TheVariants as ops
 use Rattle.hist_plain.specs.declared.event.Keep.{Keep}
@@ -13,7 +13,7 @@ use Rattle.hist_plain.specs.Event.{fits_page}
 use Rattle.hist_plain.specs.Plain.{Told}
 use Rattle.script_text.specs.declared.script.Call.{Call}
 use Rattle.script_text.specs.declared.script.ClientLine.{ClientLine}
-use Rattle.script_text.specs.declared.script.Call.TheVariants.{Context, Bind, Unbind, List as ListNames, Open, Copy, Drop, Read, Write, Clear, Sync, Clean, Map, Unmap, Load, Store, Revoke, Release}
+use Rattle.script_text.specs.declared.script.Call.TheVariants.{Context, Bind, Replicate, Unbind, List as ListNames, Open, Copy, Drop, Read, Write, Clear, Sync, Clean, Map, Unmap, Load, Store, Revoke, Release}
 use Rattle.script_text.specs.declared.script.Sub.{Sub}
 use Rattle.script_text.specs.declared.script.Sub.TheVariants.{Singleton, Cluster, Caching, Reconnectable}
 use Rattle.script_text.specs.declared.script.Reply.{Reply}
@@ -35,6 +35,12 @@ use Rattle.client_objects.specs.declared.kind.ObjectKind.TheVariants as kinds
 use Rattle.client_objects.specs.Stored.{bound_object, received, received_word}
 use Rattle.client_objects.specs.Found.{door_to, node_of}
 use Rattle.client_objects.specs.Reconnected.{reconnected}
+use Rattle.marshal_buf.specs.declared.door.Door.{Door}
+use Rattle.client_replicas.specs.declared.door.OpenDoor.{OpenDoor}
+use Rattle.client_replicas.specs.declared.replicas.OpenReplicon.{OpenReplicon}
+use Rattle.client_replicas.specs.Objects.{doors_of, with_doors, with_replicon, without_replicon}
+use Rattle.client_replicas.specs.OpenDoors.{first_life, fresh as unopened, open_door}
+use Rattle.client_replicas.specs.Received.{received_doors, stored_replicon}
 use Rattle.memory_object.specs.declared.binding.CacheRights.{CacheRights}
 use Rattle.memory_object.specs.Managers.{rights_of}
 use Rattle.vmm_space.specs.declared.regions.Region.{Region}
@@ -97,6 +103,7 @@ abbrev pub start_state : Mount → Option ℕ → ClientLine → ClientState
 start_state mount loss line = record {
   machine = number_in mount.machines line.machine;
   objects = [];
+  replicas = [];
   regions = blank_of mount;
   carrier = option_map {T = ℕ} fresh loss;
 }
@@ -104,6 +111,14 @@ start_state mount loss line = record {
 -- the state with these objects open
 abbrev pub holding : ClientState → List OpenObject → ClientState
 holding state objects = record state { objects = objects }
+
+-- the state with these replicon objects open
+abbrev pub replicating : ClientState → List OpenReplicon → ClientState
+replicating state replicas = record state { replicas = replicas }
+
+-- whether the client has an open object of the name
+abbrev pub is_open : List ℕ → ClientState → Bool
+is_open name state = is_some (doors_of name state.replicas) || is_some (object_of name state.objects)
 
 -- the state with this address space
 abbrev pub mapping : ClientState → SpaceShape → ClientState
@@ -190,6 +205,24 @@ plan_bind state path kind (Some node) (Some file) = plan_done state (binding pat
 plan_bind state path kind (Some node) None = unknown
 plan_bind state path kind None file = unknown
 
+-- the doors of a file at these views, one for each, if the stack has the views
+abbrev pub doors_at : Mount → ℕ → List (List ℕ) → Option (List Door)
+doors_at mount file [] = Some []
+doors_at mount file (view ∷ views) =
+    option_and_then {T = ℕ} (λ node. option_map {T = List Door} (λ doors. record { node = node; file = file } ∷ doors) (doors_at mount file views)) (view_of mount view)
+
+-- the doors of a replicon object for a file at these views, if the stack has them
+abbrev pub replica_doors : Mount → Option ℕ → List (List ℕ) → Option (List Door)
+replica_doors mount file views = option_and_then {T = ℕ} (λ number. doors_at mount number views) file
+
+abbrev pub binding_doors : List (List ℕ) → List Door → NamesAsk
+binding_doors path doors = record { call = names_calls.Bind; path = Some path; bound = Some (stored_replicon doors) }
+
+-- a replicon object of these doors is bound under a path
+abbrev pub plan_replicate : ClientState → List (List ℕ) → Option (List Door) → Plan
+plan_replicate state path (Some doors) = plan_done state (binding_doors path doors)
+plan_replicate state path None = unknown
+
 abbrev pub plan_list : ClientState → Option (List (List ℕ)) → Plan
 plan_list state path = plan_names state (asking_names names_calls.List path) (λ names. ends (replies.Names (listed names path)) state)
 
@@ -197,6 +230,16 @@ plan_list state path = plan_names state (asking_names names_calls.List path) (λ
 abbrev pub plan_named : ClientState → Option Target → (Target → Plan) → Plan
 plan_named state None go_on = ends replies.NoObject state
 plan_named state (Some target) go_on = go_on target
+
+-- a line on the object of a name, by its first door and the doors behind that, if it is a replicon object; and else the other line
+abbrev pub plan_doors : Option (List OpenDoor) → (OpenDoor → List OpenDoor → Plan) → Plan → Plan
+plan_doors (Some (door ∷ more)) go_on otherwise = go_on door more
+plan_doors (Some []) go_on otherwise = otherwise
+plan_doors None go_on otherwise = otherwise
+
+-- where the calls by a door of a replicon object go: to the node that it names, as those of a singleton do
+abbrev pub by_door : OpenDoor → Target
+by_door door = record { kind = kinds.Singleton; tag = 0; view = door.view; file = door.file; life = door.life }
 
 -- the life that an Open was answered
 abbrev pub life_in : Answer → ℕ
@@ -227,6 +270,16 @@ rerouting state name target = holding state (with_target name target state.objec
 abbrev pub led_to : Target → Told → Target
 led_to found told = reconnected (door_to found) (life_in told.answer)
 
+-- where a reconnectable object finds its file again, by what stands at its path: by the first door of a replicon object of these, and by the door
+-- of any other
+abbrev pub reached_by : Mount → Option Kept → Option (List Door) → Option Target
+reached_by mount kept (Some (door ∷ doors)) = Some (by_door (unopened door))
+reached_by mount kept (Some []) = received mount kept
+reached_by mount kept None = received mount kept
+
+abbrev pub reached : Mount → Option Kept → Option Target
+reached mount kept = reached_by mount kept (received_doors mount kept)
+
 -- an Open of the view that stands at the path of a reconnectable object
 abbrev pub reopening : Mount → ClientState → Target → Request
 reopening mount state found = asking_at mount state found.view found.file (access found.view 0 ops.Open)
@@ -245,7 +298,7 @@ plan_after mount zero name path op state told = ends (reply_of told) state
 plan_after mount (suc left) name path op state told =
     if is_revoked told.answer
     then plan_names state (asking_names names_calls.Resolve (Some path))
-    (λ names. plan_reopened mount name op (plan_after mount left name path op) state (received mount (kept_at names path)))
+    (λ names. plan_reopened mount name op (plan_after mount left name path op) state (reached mount (kept_at names path)))
     else ends (reply_of told) state
 
 -- how often an object finds its file again within one line: a reconnectable one makes three tries
@@ -259,6 +312,18 @@ further_tries kinds.Reconnectable = 2
 abbrev pub plan_access : Mount → ClientState → List ℕ → List ℕ → Op → Target → Plan
 plan_access mount state name word op target = plan_try mount op (plan_after mount (further_tries target.kind) name (unwrap_or (path_of word) []) op) state target
 
+-- AN ACCESS OF A REPLICON OBJECT is made by its first door; if that is answered with a life that is over and another door is left, the first is
+-- dropped, and the access is made by the next
+abbrev pub plan_next : Mount → List ℕ → Op → List OpenDoor → ClientState → Told → Plan
+plan_next mount name op [] state told = ends (reply_of told) state
+plan_next mount name op (next ∷ more) state told =
+    if is_revoked told.answer
+    then plan_try mount op (plan_next mount name op more) (replicating state (with_doors name (next ∷ more) state.replicas)) (by_door next)
+    else ends (reply_of told) state
+
+abbrev pub plan_by_doors : Mount → ClientState → List ℕ → Op → OpenDoor → List OpenDoor → Plan
+plan_by_doors mount state name op door more = plan_try mount op (plan_next mount name op more) state (by_door door)
+
 abbrev pub plan_sync : Mount → ClientState → Keep → Target → Plan
 plan_sync mount state keep target = plan_call state (asking_at mount state (node_at mount state target) target.file (sync (node_at mount state target) keep))
 
@@ -269,12 +334,20 @@ plan_end state ask (Some node) None = unknown
 plan_end state ask None file = unknown
 
 -- another name for an open object
-abbrev pub plan_copy : ClientState → List ℕ → List ℕ → Option Target → Target → Plan
-plan_copy state word other (Some taken) target = ends replies.ObjectExists state
-plan_copy state word other None target = ends replies.Done (holding state (with_object state.objects other target word))
+abbrev pub plan_copy : ClientState → List ℕ → List ℕ → Bool → Target → Plan
+plan_copy state word other true target = ends replies.ObjectExists state
+plan_copy state word other false target = ends replies.Done (holding state (with_object state.objects other target word))
+
+-- and for a replicon object, with the same doors in the same lives
+abbrev pub plan_copy_doors : ClientState → List ℕ → Bool → OpenDoor → List OpenDoor → Plan
+plan_copy_doors state other true door more = ends replies.ObjectExists state
+plan_copy_doors state other false door more = ends replies.Done (replicating state (with_replicon state.replicas other (door ∷ more)))
 
 abbrev pub plan_drop : ClientState → List ℕ → Target → Plan
 plan_drop state name target = ends replies.Done (holding state (without name state.objects))
+
+abbrev pub plan_drop_doors : ClientState → List ℕ → Plan
+plan_drop_doors state name = ends replies.Done (replicating state (without_replicon name state.replicas))
 
 -- an object whose Open was told this
 abbrev pub opened : Target → Told → Target
@@ -290,11 +363,24 @@ plan_found mount state name word None = ends replies.BadObject state
 plan_found mount state name word (Some target) =
     calls (opening mount state target) state (λ told. ends (reply_of told) (holding (sent (opening mount state target) state) (with_object state.objects name (opened target told) word)))
 
--- a path is resolved, and what stands there is opened, if it is an object that the stack has
-abbrev pub plan_open : Mount → ClientState → List ℕ → List (List ℕ) → Option Target → Plan
-plan_open mount state name path (Some taken) = ends replies.ObjectExists state
-plan_open mount state name path None =
-    plan_names state (asking_names names_calls.Resolve (Some path)) (λ names. plan_found mount state name (received_word (kept_at names path)) (received mount (kept_at names path)))
+-- an Open by each of the doors that are left, in order, behind these that were opened; the object is kept where all are answered, and the line
+-- answers the life of the first
+abbrev pub plan_opens : Mount → List ℕ → List OpenDoor → List Door → ClientState → Plan
+plan_opens mount name before [] state = ends (replies.Life (first_life before)) (replicating state (with_replicon state.replicas name before))
+plan_opens mount name before (door ∷ doors) state =
+    calls (opening mount state (by_door (unopened door))) state
+    (λ told. plan_opens mount name (before ++ open_door door (life_in told.answer) ∷ []) doors (sent (opening mount state (by_door (unopened door))) state))
+
+-- what stands at a path is opened, if it is an object that the stack has: a replicon object of these doors, or another one
+abbrev pub plan_received : Mount → ClientState → List ℕ → Option Kept → Option (List Door) → Plan
+plan_received mount state name kept (Some doors) = plan_opens mount name [] doors state
+plan_received mount state name kept None = plan_found mount state name (received_word kept) (received mount kept)
+
+-- a path is resolved, and what stands there is opened
+abbrev pub plan_open : Mount → ClientState → List ℕ → List (List ℕ) → Bool → Plan
+plan_open mount state name path true = ends replies.ObjectExists state
+plan_open mount state name path false =
+    plan_names state (asking_names names_calls.Resolve (Some path)) (λ names. plan_received mount state name (kept_at names path) (received_doors mount (kept_at names path)))
 
 -- why a region is not mapped, as an answer to a line
 abbrev pub unmappable : SpaceErr → Reply
@@ -373,21 +459,34 @@ kind_named Cluster = kinds.Cluster
 kind_named Caching = kinds.Caching
 kind_named Reconnectable = kinds.Reconnectable
 
+-- an access of the object of a name
+abbrev pub plan_use : Mount → ClientState → List ℕ → Op → Plan
+plan_use mount state name op =
+    plan_doors (doors_of name state.replicas) (plan_by_doors mount state name op) (plan_named state (object_of name state.objects) (plan_access mount state name (word_of name state.objects) op))
+
+-- a sync of the object of a name
+abbrev pub plan_synced : Mount → ClientState → List ℕ → Keep → Plan
+plan_synced mount state name keep =
+    plan_doors (doors_of name state.replicas) (λ door more. plan_sync mount state keep (by_door door)) (plan_named state (object_of name state.objects) (plan_sync mount state keep))
+
 -- what a call does, in this state of its client
 abbrev pub plan : Mount → ClientState → Call → Plan
 plan mount state (Context path) = plan_done state (asking_names names_calls.Context (Some path))
 plan mount state (Bind path sub view file) = plan_bind state path (kind_named sub) (view_of mount view) (file_named mount file)
+plan mount state (Replicate path file views) = plan_replicate state path (replica_doors mount (file_named mount file) views)
 plan mount state (Unbind path) = plan_done state (asking_names names_calls.Unbind (Some path))
 plan mount state (ListNames path) = plan_list state path
-plan mount state (Open name path) = plan_open mount state name path (object_of name state.objects)
-plan mount state (Copy name other) = plan_named state (object_of name state.objects) (plan_copy state (word_of name state.objects) other (object_of other state.objects))
-plan mount state (Drop name) = plan_named state (object_of name state.objects) (plan_drop state name)
-plan mount state (Read name page off len) = plan_named state (object_of name state.objects) (plan_access mount state name (word_of name state.objects) (ops.Read page off len))
-plan mount state (Write name page off bytes) = plan_named state (object_of name state.objects) (plan_access mount state name (word_of name state.objects) (ops.Write page off bytes))
-plan mount state (Clear name page) = plan_named state (object_of name state.objects) (plan_access mount state name (word_of name state.objects) (ops.Clear page))
-plan mount state (Sync name) = plan_named state (object_of name state.objects) (plan_sync mount state keeps.Write)
-plan mount state (Clean name) = plan_named state (object_of name state.objects) (plan_sync mount state keeps.Read)
-plan mount state (Map region name address pages write) = plan_named state (object_of name state.objects) (plan_map mount state region address pages write)
+plan mount state (Open name path) = plan_open mount state name path (is_open name state)
+plan mount state (Copy name other) =
+    plan_doors (doors_of name state.replicas) (plan_copy_doors state other (is_open other state)) (plan_named state (object_of name state.objects) (plan_copy state (word_of name state.objects) other (is_open other state)))
+plan mount state (Drop name) = plan_doors (doors_of name state.replicas) (λ door more. plan_drop_doors state name) (plan_named state (object_of name state.objects) (plan_drop state name))
+plan mount state (Read name page off len) = plan_use mount state name (ops.Read page off len)
+plan mount state (Write name page off bytes) = plan_use mount state name (ops.Write page off bytes)
+plan mount state (Clear name page) = plan_use mount state name (ops.Clear page)
+plan mount state (Sync name) = plan_synced mount state name keeps.Write
+plan mount state (Clean name) = plan_synced mount state name keeps.Read
+plan mount state (Map region name address pages write) =
+    plan_doors (doors_of name state.replicas) (λ door more. plan_map mount state region address pages write (by_door door)) (plan_named state (object_of name state.objects) (plan_map mount state region address pages write))
 plan mount state (Unmap region) = plan_unmap state region
 plan mount state (Load address len) = plan_load state address len
 plan mount state (Store address bytes) = plan_store state address bytes

@@ -11,13 +11,14 @@ use Rattle.script_text.specs.declared.verb.Verb.{Verb}
 use Rattle.script_text.specs.declared.verb.Verb.TheVariants as verbs
 use Rattle.script_text.specs.declared.why.ScriptWhy.{ScriptWhy}
 use Rattle.script_text.specs.Grammar.{IsCall, call_words, verb_word, sub_word, mode_word}
-use Rattle.script_text.specs.Reading.{◌>>=◌, verb_at, one_at, two_at, bind_at, read_at, write_at, map_at, args_at, call_at, name_at, path_at, sub_at, mode_at, number_at, address_at, hex_at}
+use Rattle.script_text.specs.Reading.{◌>>=◌, verb_at, one_at, two_at, bind_at, replicate_at, read_at, write_at, map_at, args_at, call_at, name_at, path_at, sub_at, mode_at, number_at, address_at, hex_at}
 use Rattle.script_text.proofs.Fields.{Reads, step, name_reads, path_reads, root_reads, sub_reads, mode_reads, number_reads, address_reads, hex_reads}
 
 pub verb_again : (verb : Verb) → verb_at (verb_word verb) ≡ Ok verb
 unfolding verb_at
 verb_again verbs.Context = refl
 verb_again verbs.Bind = refl
+verb_again verbs.Replicate = refl
 verb_again verbs.Unbind = refl
 verb_again verbs.List = refl
 verb_again verbs.Open = refl
@@ -44,7 +45,7 @@ one_again : {A : Type 0} {read : List ℕ → Result A ScriptWhy} {write : A →
 one_again {read = read} {write = write} R make x is = step (read (write x)) x (λ y. Ok (make y)) (R.again x is)
 
 pub call_again : (call : Call) → IsCall call → call_at (call_words call) ≡ Ok call
-unfolding one_at two_at bind_at read_at write_at map_at
+unfolding one_at two_at bind_at replicate_at read_at write_at map_at
 call_again (calls.Context path) h = args_again verbs.Context _ _ (one_again path_reads calls.Context path h)
 call_again (calls.Bind path sub view file) h =
     args_again verbs.Bind _ _
@@ -52,6 +53,11 @@ call_again (calls.Bind path sub view file) h =
     ∙ step (sub_at (sub_word sub)) sub (λ s. name_at view >>= λ v. name_at file >>= λ f. Ok (calls.Bind path s v f)) (sub_reads.again sub tt)
     ∙ step (name_at view) view (λ v. name_at file >>= λ f. Ok (calls.Bind path sub v f)) (name_reads.again view h.1)
     ∙ one_again name_reads (calls.Bind path sub view) file h.2)
+call_again (calls.Replicate path file views) h =
+    args_again verbs.Replicate _ _
+    (step (path_at (path_word path)) path (λ p. name_at file >>= λ f. path_at (path_word views) >>= λ v. Ok (calls.Replicate p f v)) (path_reads.again path h.0)
+    ∙ step (name_at file) file (λ f. path_at (path_word views) >>= λ v. Ok (calls.Replicate path f v)) (name_reads.again file h.1)
+    ∙ one_again path_reads (calls.Replicate path file) views h.2)
 call_again (calls.Unbind path) h = args_again verbs.Unbind _ _ (one_again path_reads calls.Unbind path h)
 call_again (calls.List path) h = args_again verbs.List _ _ (one_again root_reads calls.List path h)
 call_again (calls.Open object path) h = args_again verbs.Open _ _ (step (name_at object) object (λ o. path_at (path_word path) >>= λ p. Ok (calls.Open o p)) (name_reads.again object h.0) ∙ one_again path_reads (calls.Open object) path h.1)
@@ -111,9 +117,10 @@ fits_more m k word words is short rest = let r = rest.bytes in record { are = (i
 with_field : {A : Type 0} {read : List ℕ → Result A ScriptWhy} {write : A → List ℕ} {Is : A → Type 0} {most k : ℕ} {words : List (List ℕ)} (R : Reads read write Is most) (x : A) → Is x → Fits k words → Fits (most + 1 + k) (write x ∷ words)
 with_field {write = write} {most = most} {k = k} {words = words} R x is rest = fits_more most k (write x) words (R.word x is) (R.short x is) rest
 
-verb_is_word : (verb : Verb) → IsWord (verb_word verb) × (length (verb_word verb) ≤ 7)
+verb_is_word : (verb : Verb) → IsWord (verb_word verb) × (length (verb_word verb) ≤ 9)
 verb_is_word verbs.Context = (refl, lit≤ tt)
 verb_is_word verbs.Bind = (refl, lit≤ tt)
+verb_is_word verbs.Replicate = (refl, lit≤ tt)
 verb_is_word verbs.Unbind = (refl, lit≤ tt)
 verb_is_word verbs.List = (refl, lit≤ tt)
 verb_is_word verbs.Open = (refl, lit≤ tt)
@@ -131,12 +138,13 @@ verb_is_word verbs.Store = (refl, lit≤ tt)
 verb_is_word verbs.Revoke = (refl, lit≤ tt)
 verb_is_word verbs.Release = (refl, lit≤ tt)
 
-fits_call : (k : ℕ) (verb : Verb) (args : List (List ℕ)) → k ≤ 8300 → Fits k args → Fits 8308 (verb_word verb ∷ args)
+fits_call : (k : ℕ) (verb : Verb) (args : List (List ℕ)) → k ≤ 8300 → Fits k args → Fits 8310 (verb_word verb ∷ args)
 fits_call k verb args few rest = let v = verb_is_word verb in let r = rest.bytes in let s = v.1 in record { are = (v.0, rest.are); bytes = omega arith }
 
-pub call_fits : (call : Call) → IsCall call → Fits 8308 (call_words call)
+pub call_fits : (call : Call) → IsCall call → Fits 8310 (call_words call)
 call_fits (calls.Context path) h = fits_call _ verbs.Context _ (lit≤ tt) (with_field path_reads path h fits_none)
 call_fits (calls.Bind path sub view file) h = fits_call _ verbs.Bind _ (lit≤ tt) (with_field path_reads path h.0 (with_field sub_reads sub tt (with_field name_reads view h.1 (with_field name_reads file h.2 fits_none))))
+call_fits (calls.Replicate path file views) h = fits_call _ verbs.Replicate _ (lit≤ tt) (with_field path_reads path h.0 (with_field name_reads file h.1 (with_field path_reads views h.2 fits_none)))
 call_fits (calls.Unbind path) h = fits_call _ verbs.Unbind _ (lit≤ tt) (with_field path_reads path h fits_none)
 call_fits (calls.List path) h = fits_call _ verbs.List _ (lit≤ tt) (with_field root_reads path h fits_none)
 call_fits (calls.Open object path) h = fits_call _ verbs.Open _ (lit≤ tt) (with_field name_reads object h.0 (with_field path_reads path h.1 fits_none))

@@ -1,6 +1,7 @@
 -- A call that is read is spelled so, and a call that is spelled so is read.
 use Rattle.std.proofs.Common.{◌≡◌, ℕ, List, [], ◌∷◌, Bool, true, false, cond, Option, Some, Result, Ok, refl, sym, ap, subst, ◌∙◌, inl, inr, ◌⊎◌}
 use Rattle.std.specs.Str.{bytes_eq}
+use Rattle.text_words.specs.Words.{path_word}
 use Rattle.script_text.specs.declared.script.Call.{Call}
 use Rattle.script_text.specs.declared.script.Call.TheVariants as calls
 use Rattle.script_text.specs.declared.verb.Verb.{Verb}
@@ -8,7 +9,7 @@ use Rattle.script_text.specs.declared.verb.Verb.TheVariants as verbs
 use Rattle.script_text.specs.declared.why.ScriptWhy.{ScriptWhy}
 use Rattle.script_text.specs.declared.why.ScriptWhy.TheVariants as why
 use Rattle.script_text.specs.Grammar.{IsCall, call_words, verb_word}
-use Rattle.script_text.specs.Reading.{◌>>=◌, named, all_verbs, verb_at, one_at, two_at, bind_at, read_at, write_at, map_at, four_at, five_at, args_at, call_at, name_at, mode_at, address_at, number_at}
+use Rattle.script_text.specs.Reading.{◌>>=◌, named, all_verbs, verb_at, one_at, two_at, bind_at, replicate_at, read_at, write_at, map_at, three_at, four_at, five_at, args_at, call_at, name_at, mode_at, address_at, number_at, path_at}
 use Rattle.script_text.proofs.Fields.{Reads, ok_is, bind_ok, some_of, same_word, name_reads, path_reads, root_reads, sub_reads, mode_reads, number_reads, address_reads, hex_reads}
 
 -- the verb that a word is has that word
@@ -75,6 +76,7 @@ spelled_one verbs.Sync a call e = one_found name_reads calls.Sync (λ c w. Spell
 spelled_one verbs.Clean a call e = one_found name_reads calls.Clean (λ c w. Spells verbs.Clean c (w ∷ [])) (λ x is. (is, refl)) a call e
 spelled_one verbs.Unmap a call e = one_found name_reads calls.Unmap (λ c w. Spells verbs.Unmap c (w ∷ [])) (λ x is. (is, refl)) a call e
 spelled_one verbs.Bind a call e = absurd cc
+spelled_one verbs.Replicate a call e = absurd cc
 spelled_one verbs.Open a call e = absurd cc
 spelled_one verbs.Copy a call e = absurd cc
 spelled_one verbs.Read a call e = absurd cc
@@ -97,6 +99,7 @@ spelled_two verbs.Revoke a b call e = two_found name_reads name_reads calls.Revo
 spelled_two verbs.Release a b call e = two_found name_reads name_reads calls.Release (λ c v w. Spells verbs.Release c (v ∷ w ∷ [])) (λ x p y q. ((p, q), refl)) a b call e
 spelled_two verbs.Context a b call e = absurd cc
 spelled_two verbs.Bind a b call e = absurd cc
+spelled_two verbs.Replicate a b call e = absurd cc
 spelled_two verbs.Unbind a b call e = absurd cc
 spelled_two verbs.List a b call e = absurd cc
 spelled_two verbs.Drop a b call e = absurd cc
@@ -110,6 +113,14 @@ spelled_two verbs.Unmap a b call e = absurd cc
 spelled_bind : (a b c d : List ℕ) (call : Call) → bind_at a b c d ≡ Ok call → Spells verbs.Bind call (a ∷ b ∷ c ∷ d ∷ [])
 unfolding bind_at
 spelled_bind a b c d call e = four_found path_reads sub_reads name_reads name_reads calls.Bind (λ k s t u v. Spells verbs.Bind k (s ∷ t ∷ u ∷ v ∷ [])) (λ x p y q z r u s. ((p, r, s), refl)) a b c d call e
+
+spelled_replicate : (a b c : List ℕ) (call : Call) → replicate_at a b c ≡ Ok call → Spells verbs.Replicate call (a ∷ b ∷ c ∷ [])
+unfolding replicate_at
+spelled_replicate a b c call e =
+    let t = bind_ok (path_at a) (λ p. name_at b >>= λ f. path_at c >>= λ v. Ok (calls.Replicate p f v)) call e in
+    let f = path_reads.found a t.0 t.1 in
+    subst (λ (w : List ℕ). Spells verbs.Replicate call (w ∷ b ∷ c ∷ [])) (sym f.0)
+    (two_found name_reads path_reads (calls.Replicate t.0) (λ k v w. Spells verbs.Replicate k (path_word t.0 ∷ v ∷ w ∷ [])) (λ x p y q. ((f.1, p, q), refl)) b c call t.2)
 
 spelled_read : (a b c d : List ℕ) (call : Call) → read_at a b c d ≡ Ok call → Spells verbs.Read call (a ∷ b ∷ c ∷ d ∷ [])
 unfolding read_at
@@ -128,11 +139,33 @@ spelled_map a b c d m call e =
     subst (λ (w : List ℕ). Spells verbs.Map call (w ∷ b ∷ c ∷ d ∷ m ∷ [])) (sym f.0)
     (four_found name_reads mode_reads address_reads number_reads (λ o w x p. calls.Map t.0 o x p w) (λ k o w x p. Spells verbs.Map k (t.0 ∷ o ∷ x ∷ p ∷ w ∷ [])) (λ o i w j x k p l. ((f.1, i, k, l), refl)) b m c d call t.2)
 
+spelled_three : (verb : Verb) (a b c : List ℕ) (call : Call) → three_at verb a b c ≡ Ok call → Spells verb call (a ∷ b ∷ c ∷ [])
+spelled_three verbs.Replicate a b c call e = spelled_replicate a b c call e
+spelled_three verbs.Context a b c call e = absurd cc
+spelled_three verbs.Bind a b c call e = absurd cc
+spelled_three verbs.Unbind a b c call e = absurd cc
+spelled_three verbs.List a b c call e = absurd cc
+spelled_three verbs.Open a b c call e = absurd cc
+spelled_three verbs.Copy a b c call e = absurd cc
+spelled_three verbs.Drop a b c call e = absurd cc
+spelled_three verbs.Read a b c call e = absurd cc
+spelled_three verbs.Write a b c call e = absurd cc
+spelled_three verbs.Clear a b c call e = absurd cc
+spelled_three verbs.Sync a b c call e = absurd cc
+spelled_three verbs.Clean a b c call e = absurd cc
+spelled_three verbs.Map a b c call e = absurd cc
+spelled_three verbs.Unmap a b c call e = absurd cc
+spelled_three verbs.Load a b c call e = absurd cc
+spelled_three verbs.Store a b c call e = absurd cc
+spelled_three verbs.Revoke a b c call e = absurd cc
+spelled_three verbs.Release a b c call e = absurd cc
+
 spelled_four : (verb : Verb) (a b c d : List ℕ) (call : Call) → four_at verb a b c d ≡ Ok call → Spells verb call (a ∷ b ∷ c ∷ d ∷ [])
 spelled_four verbs.Bind a b c d call e = spelled_bind a b c d call e
 spelled_four verbs.Read a b c d call e = spelled_read a b c d call e
 spelled_four verbs.Write a b c d call e = spelled_write a b c d call e
 spelled_four verbs.Context a b c d call e = absurd cc
+spelled_four verbs.Replicate a b c d call e = absurd cc
 spelled_four verbs.Unbind a b c d call e = absurd cc
 spelled_four verbs.List a b c d call e = absurd cc
 spelled_four verbs.Open a b c d call e = absurd cc
@@ -152,6 +185,7 @@ spelled_five : (verb : Verb) (a b c d m : List ℕ) (call : Call) → five_at ve
 spelled_five verbs.Map a b c d m call e = spelled_map a b c d m call e
 spelled_five verbs.Context a b c d m call e = absurd cc
 spelled_five verbs.Bind a b c d m call e = absurd cc
+spelled_five verbs.Replicate a b c d m call e = absurd cc
 spelled_five verbs.Unbind a b c d m call e = absurd cc
 spelled_five verbs.List a b c d m call e = absurd cc
 spelled_five verbs.Open a b c d m call e = absurd cc
@@ -172,7 +206,7 @@ spelled_args : (verb : Verb) (args : List (List ℕ)) (call : Call) → args_at 
 spelled_args verb [] call e = absurd cc
 spelled_args verb (a ∷ []) call e = spelled_one verb a call e
 spelled_args verb (a ∷ b ∷ []) call e = spelled_two verb a b call e
-spelled_args verb (a ∷ b ∷ c ∷ []) call e = absurd cc
+spelled_args verb (a ∷ b ∷ c ∷ []) call e = spelled_three verb a b c call e
 spelled_args verb (a ∷ b ∷ c ∷ d ∷ []) call e = spelled_four verb a b c d call e
 spelled_args verb (a ∷ b ∷ c ∷ d ∷ m ∷ []) call e = spelled_five verb a b c d m call e
 spelled_args verb (a ∷ b ∷ c ∷ d ∷ m ∷ n ∷ args) call e = absurd cc

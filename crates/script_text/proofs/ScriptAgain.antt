@@ -48,7 +48,7 @@ call_line_fits : (clients : List ClientLine) (c : CallLine) → AllByRecursion I
 call_line_fits clients c h client call =
     let name : IsName (client_name clients c.client) = (and_parts (is_name (client_name clients c.client)) _ (client_named clients c.client h client)).0 in
     fits_most _ (call_line_words clients c) (lit≤ tt)
-    (fits_more 16 8308 (client_name clients c.client) (call_words c.call) (name_word (client_name clients c.client) name) (name_length (client_name clients c.client) name).1 (call_fits c.call call))
+    (fits_more 16 8310 (client_name clients c.client) (call_words c.call) (name_word (client_name clients c.client) name) (name_length (client_name clients c.client) name).1 (call_fits c.call call))
 
 are_words : (word : List ℕ) (words : List (List ℕ)) → Fits 8400 (word ∷ words) → AreWords (word ∷ words)
 are_words word words f = f.are

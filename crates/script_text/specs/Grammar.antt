@@ -21,6 +21,7 @@ use Rattle.script_text.specs.declared.verb.Verb.TheVariants as verbs
 abbrev pub verb_word : Verb → List ℕ
 verb_word verbs.Context = codes "context"
 verb_word verbs.Bind = codes "bind"
+verb_word verbs.Replicate = codes "replicate"
 verb_word verbs.Unbind = codes "unbind"
 verb_word verbs.List = codes "list"
 verb_word verbs.Open = codes "open"
@@ -59,6 +60,7 @@ root_or_path (Some path) = path_word path
 abbrev pub call_words : Call → List (List ℕ)
 call_words (calls.Context path) = verb_word verbs.Context ∷ path_word path ∷ []
 call_words (calls.Bind path sub view file) = verb_word verbs.Bind ∷ path_word path ∷ sub_word sub ∷ view ∷ file ∷ []
+call_words (calls.Replicate path file views) = verb_word verbs.Replicate ∷ path_word path ∷ file ∷ path_word views ∷ []
 call_words (calls.Unbind path) = verb_word verbs.Unbind ∷ path_word path ∷ []
 call_words (calls.List path) = verb_word verbs.List ∷ root_or_path path ∷ []
 call_words (calls.Open object path) = verb_word verbs.Open ∷ object ∷ path_word path ∷ []
@@ -90,6 +92,8 @@ IsRootOrPath (Some path) = IsPath path
 abbrev pub IsCall : Call → Type 0
 IsCall (calls.Context path) = IsPath path
 IsCall (calls.Bind path sub view file) = IsPath path × IsName view × IsName file
+-- views are joined as the parts of a path are, and are as many
+IsCall (calls.Replicate path file views) = IsPath path × IsName file × IsPath views
 IsCall (calls.Unbind path) = IsPath path
 IsCall (calls.List path) = IsRootOrPath path
 IsCall (calls.Open object path) = IsName object × IsPath path

@@ -63,7 +63,7 @@ hex_at word = or_why why.Hex (hex_of word)
 
 -- the verbs, and the one that a word is
 abbrev pub all_verbs : List Verb
-all_verbs = verbs.Context ∷ verbs.Bind ∷ verbs.Unbind ∷ verbs.List ∷ verbs.Open ∷ verbs.Copy ∷ verbs.Drop ∷ verbs.Read ∷ verbs.Write ∷ verbs.Clear ∷ verbs.Sync ∷ verbs.Clean ∷ verbs.Map ∷ verbs.Unmap ∷ verbs.Load ∷ verbs.Store ∷ verbs.Revoke ∷ verbs.Release ∷ []
+all_verbs = verbs.Context ∷ verbs.Bind ∷ verbs.Replicate ∷ verbs.Unbind ∷ verbs.List ∷ verbs.Open ∷ verbs.Copy ∷ verbs.Drop ∷ verbs.Read ∷ verbs.Write ∷ verbs.Clear ∷ verbs.Sync ∷ verbs.Clean ∷ verbs.Map ∷ verbs.Unmap ∷ verbs.Load ∷ verbs.Store ∷ verbs.Revoke ∷ verbs.Release ∷ []
 
 abbrev pub named : List ℕ → List Verb → Option Verb
 named word [] = None
@@ -72,7 +72,7 @@ named word (verb ∷ verbs) = if bytes_eq (verb_word verb) word then Some verb e
 unfoldable pub verb_at : List ℕ → Result Verb ScriptWhy
 verb_at word = or_why why.Verb (named word all_verbs)
 
--- the calls of one argument, of two, of four and of five: within each, names before numbers before hex
+-- the calls of one argument, of two, of three, of four and of five: within each, names before numbers before hex
 unfoldable pub one_at : Verb → List ℕ → Result Call ScriptWhy
 one_at verbs.Context path = path_at path >>= λ p. Ok (calls.Context p)
 one_at verbs.Unbind path = path_at path >>= λ p. Ok (calls.Unbind p)
@@ -96,6 +96,9 @@ two_at verb word next = Err why.Words
 unfoldable pub bind_at : List ℕ → List ℕ → List ℕ → List ℕ → Result Call ScriptWhy
 bind_at path sub view file = path_at path >>= λ p. sub_at sub >>= λ s. name_at view >>= λ v. name_at file >>= λ f. Ok (calls.Bind p s v f)
 
+unfoldable pub replicate_at : List ℕ → List ℕ → List ℕ → Result Call ScriptWhy
+replicate_at path file views = path_at path >>= λ p. name_at file >>= λ f. path_at views >>= λ v. Ok (calls.Replicate p f v)
+
 unfoldable pub read_at : List ℕ → List ℕ → List ℕ → List ℕ → Result Call ScriptWhy
 read_at object page off len = name_at object >>= λ o. number_at page >>= λ p. number_at off >>= λ f. number_at len >>= λ l. Ok (calls.Read o p f l)
 
@@ -104,6 +107,10 @@ write_at object page off hex = name_at object >>= λ o. number_at page >>= λ p.
 
 unfoldable pub map_at : List ℕ → List ℕ → List ℕ → List ℕ → List ℕ → Result Call ScriptWhy
 map_at region object address pages mode = name_at region >>= λ r. name_at object >>= λ o. mode_at mode >>= λ m. address_at address >>= λ a. number_at pages >>= λ p. Ok (calls.Map r o a p m)
+
+abbrev pub three_at : Verb → List ℕ → List ℕ → List ℕ → Result Call ScriptWhy
+three_at verbs.Replicate path file views = replicate_at path file views
+three_at verb a b c = Err why.Words
 
 abbrev pub four_at : Verb → List ℕ → List ℕ → List ℕ → List ℕ → Result Call ScriptWhy
 four_at verbs.Bind path sub view file = bind_at path sub view file
@@ -118,6 +125,7 @@ five_at verb a b c d e = Err why.Words
 abbrev pub args_at : Verb → List (List ℕ) → Result Call ScriptWhy
 args_at verb (a ∷ []) = one_at verb a
 args_at verb (a ∷ b ∷ []) = two_at verb a b
+args_at verb (a ∷ b ∷ c ∷ []) = three_at verb a b c
 args_at verb (a ∷ b ∷ c ∷ d ∷ []) = four_at verb a b c d
 args_at verb (a ∷ b ∷ c ∷ d ∷ e ∷ []) = five_at verb a b c d e
 args_at verb words = Err why.Words

@@ -1,7 +1,7 @@
 //! Reading the words of a call.
 
 ghost use Rattle.std.specs.Prelude.{◌≡◌, ◌∷◌, [], map};
-ghost use Rattle.script_text.specs.Reading.{Gives, one_at, two_at, bind_at, read_at, write_at, map_at, four_at, five_at, args_at, call_at};
+ghost use Rattle.script_text.specs.Reading.{Gives, one_at, two_at, bind_at, replicate_at, read_at, write_at, map_at, three_at, four_at, five_at, args_at, call_at};
 
 use crate::args::{
     address_of, hex_of, mode_of, name_of, number_of, path_of, root_or_path_of, sub_of,
@@ -111,6 +111,17 @@ fn bind(alloc: Global, path: &[u8], sub: &[u8], view: &[u8], file: &[u8]) -> Res
     })
 }
 
+/// A `replicate`.
+#[tactic(auto, unfolding(crate::specs::Reading::replicate_at))]
+fn replicate(alloc: Global, path: &[u8], file: &[u8], views: &[u8]) -> Result<Call, ScriptWhy>
+    ensures { Gives result (replicate_at path.now file.now views.now) }
+{
+    let path = path_of(alloc, path)?;
+    let file = name_of(alloc, file)?;
+    let views = path_of(alloc, views)?;
+    Ok(Call::Replicate { path, file, views })
+}
+
 /// A `read`.
 #[tactic(auto, unfolding(crate::specs::Reading::read_at))]
 fn read(
@@ -190,6 +201,10 @@ fn args(alloc: Global, verb: Verb, words: &[&[u8]]) -> Result<Call, ScriptWhy>
     match words {
         [a] => one(alloc, verb, a),
         [a, b] => two(alloc, verb, a, b),
+        [a, b, c] => match verb {
+            Verb::Replicate => replicate(alloc, a, b, c),
+            _ => Err(ScriptWhy::Words),
+        },
         [a, b, c, d] => match verb {
             Verb::Bind => bind(alloc, a, b, c, d),
             Verb::Read => read(alloc, a, b, c, d),
@@ -201,7 +216,6 @@ fn args(alloc: Global, verb: Verb, words: &[&[u8]]) -> Result<Call, ScriptWhy>
             _ => Err(ScriptWhy::Words),
         },
         [] => Err(ScriptWhy::Words),
-        [_, _, _] => Err(ScriptWhy::Words),
         [_, _, _, _, _, _, ..] => Err(ScriptWhy::Words),
     }
 }

@@ -84,6 +84,20 @@ fn put_bind(
     put_word(out, file.as_str().as_bytes())
 }
 
+/// Appends the words of a `replicate`.
+fn put_replicate(
+    out: &mut Vec<u8>,
+    path: &Path,
+    file: &Text,
+    views: &Path,
+) -> Result<(), AllocError>
+    ensures { OnOk result (out.new.items ≡ out.old.items ++ spaced (verb_word Verb.Replicate ∷ path_word path.now ∷ file.now ∷ path_word views.now ∷ [])) }
+{
+    put_with_path(out, Verb::Replicate, path)?;
+    put_word(out, file.as_str().as_bytes())?;
+    put_path(out, views)
+}
+
 /// Appends the words of a `map`.
 fn put_map(
     out: &mut Vec<u8>,
@@ -129,6 +143,7 @@ fn put_call(alloc: Global, out: &mut Vec<u8>, call: &Call) -> Result<(), AllocEr
             view,
             file,
         } => put_bind(out, path, *sub, view, file),
+        Call::Replicate { path, file, views } => put_replicate(out, path, file, views),
         Call::Unbind { path } => put_with_path(out, Verb::Unbind, path),
         Call::List { path } => {
             put_word(out, Verb::List.word())?;

@@ -64,6 +64,15 @@ pub enum Call {
         /// The name of the file.
         file: Text,
     },
+    /// Binds a replicon object: a file, with a door to it at each of some views.
+    Replicate {
+        /// Where it is bound.
+        path: Path,
+        /// The name of the file.
+        file: Text,
+        /// The names of the views to which its doors lead, from 1 to 8, in the order of the doors. A view may stand twice.
+        views: Path,
+    },
     /// Takes a name away, with all below it.
     Unbind {
         /// What is taken away.

@@ -11,6 +11,7 @@ use crate::why::ScriptWhy;
 pub(crate) enum Verb {
     Context,
     Bind,
+    Replicate,
     Unbind,
     List,
     Open,
@@ -30,9 +31,10 @@ pub(crate) enum Verb {
 }
 
 /// All verbs.
-const VERBS: [Verb; 18] = [
+const VERBS: [Verb; 19] = [
     Verb::Context,
     Verb::Bind,
+    Verb::Replicate,
     Verb::Unbind,
     Verb::List,
     Verb::Open,
@@ -59,6 +61,7 @@ impl Verb {
         match self {
             Verb::Context => b"context",
             Verb::Bind => b"bind",
+            Verb::Replicate => b"replicate",
             Verb::Unbind => b"unbind",
             Verb::List => b"list",
             Verb::Open => b"open",

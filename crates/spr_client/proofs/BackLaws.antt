@@ -10,17 +10,34 @@ use Rattle.stack_accept.specs.Mount.{Mount}
 use Rattle.client_objects.specs.declared.state.ClientState.{ClientState}
 use Rattle.client_objects.specs.declared.target.Target.{Target}
 use Rattle.client_objects.specs.Objects.{OpenObject, with_object}
+use Rattle.client_replicas.specs.declared.replicas.OpenReplicon.{OpenReplicon}
 use Rattle.spr_volume.specs.Passes.{Knows}
-use Rattle.script_meaning.specs.Plan.{Plan, Request, calls, carrying, ends, holding, life_in, opened, opening, plan_call, plan_found, reply_of, sent}
+use Rattle.script_meaning.specs.Plan.{Plan, Request, calls, carrying, ends, holding, life_in, opened, opening, plan_call, plan_found, replicating, reply_of, sent}
 use Rattle.spr_client.specs.Lines.{LineDone, PlanDone}
-use Rattle.spr_client.specs.Serving.{CallMade, CameBack, keep_number, keep_of}
+use Rattle.spr_client.specs.Serving.{CallMade, CameBack, having, keep_number, keep_of}
 use Rattle.spr_client.proofs.LineLaws.{line_of, plan-none}
 
 -- a call for whichever objects there are is one for those that there are
 pub made-held : (mount : Mount) (caller : ℕ) (request : Request) (old new : Knows) (state left : ClientState) (out : List ℕ) (result : Result Answer Reply) → left ≡ carrying state left.carrier
-    → ((objects : List OpenObject) → CallMade mount caller request old new (holding state objects) (holding left objects) out result) → CallMade mount caller request old new state left out result
+    → ((objects : List OpenObject) (replicas : List OpenReplicon) → CallMade mount caller request old new (having objects replicas state) (having objects replicas left) out result) → CallMade mount caller request old new state left out result
 made-held mount caller request old new state left out result is made =
-    subst (λ (s : ClientState). CallMade mount caller request old new state s out result) (ap (λ (s : ClientState). holding s state.objects) is ∙ sym is) (made state.objects)
+    subst (λ (s : ClientState). CallMade mount caller request old new state s out result) (ap (λ (s : ClientState). having state.objects state.replicas s) is ∙ sym is) (made state.objects state.replicas)
+
+-- and for these objects of one door, beside the replicon objects that there are
+pub made-objects : (mount : Mount) (caller : ℕ) (request : Request) (old new : Knows) (state left : ClientState) (out : List ℕ) (result : Result Answer Reply) (objects : List OpenObject) → left ≡ carrying state left.carrier
+    → ((objects : List OpenObject) (replicas : List OpenReplicon) → CallMade mount caller request old new (having objects replicas state) (having objects replicas left) out result)
+    → CallMade mount caller request old new (holding state objects) (holding left objects) out result
+made-objects mount caller request old new state left out result objects is made =
+    subst (λ (s : ClientState). CallMade mount caller request old new (holding state objects) s out result)
+    (ap (λ (s : ClientState). having objects state.replicas s) is ∙ sym (ap (λ (s : ClientState). holding s objects) is)) (made objects state.replicas)
+
+-- and for these replicon objects
+pub made-replicas : (mount : Mount) (caller : ℕ) (request : Request) (old new : Knows) (state left : ClientState) (out : List ℕ) (result : Result Answer Reply) (replicas : List OpenReplicon) → left ≡ carrying state left.carrier
+    → ((objects : List OpenObject) (replicas : List OpenReplicon) → CallMade mount caller request old new (having objects replicas state) (having objects replicas left) out result)
+    → CallMade mount caller request old new (replicating state replicas) (replicating left replicas) out result
+made-replicas mount caller request old new state left out result replicas is made =
+    subst (λ (s : ClientState). CallMade mount caller request old new (replicating state replicas) s out result)
+    (ap (λ (s : ClientState). having state.objects replicas s) is ∙ sym (ap (λ (s : ClientState). replicating s replicas) is)) (made state.objects replicas)
 
 -- what a call made, by its result
 pub made-ok : (mount : Mount) (caller : ℕ) (request : Request) (old new : Knows) (state left : ClientState) (out : List ℕ) (result : Result Answer Reply) (answer : Answer) → result ≡ Ok answer

@@ -4,6 +4,7 @@ use Rattle.std.specs.Prelude.{MatchResult}
 use Rattle.std.specs.List.{AllByRecursion}
 use Rattle.std.proofs.lemmas.List.{length-append}
 use Rattle.hist_plain.specs.declared.TheConstants.{MAX_PAGES}
+use Rattle.marshal_buf.specs.declared.door.Door.{Door}
 use Rattle.marshal_buf.specs.Numbers.{number_bytes}
 use Rattle.marshal_buf.proofs.NumberLaws.{length-number_bytes}
 use Rattle.pager_channel.specs.declared.front.Head.{Head}
@@ -27,7 +28,10 @@ use Rattle.link_lossy.specs.Reading.{request_at}
 use Rattle.client_objects.specs.declared.kind.ObjectKind.{ObjectKind}
 use Rattle.client_objects.specs.declared.kind.ObjectKind.TheVariants.{Singleton, Cluster, Caching, Reconnectable}
 use Rattle.client_objects.specs.declared.target.Target.{Target}
-use Rattle.client_objects.specs.Kinds.{id_of}
+use Rattle.client_objects.specs.declared.target.Way.{Way}
+use Rattle.client_objects.specs.Found.{door_to}
+use Rattle.client_objects.specs.Kinds.{file_of, id_of}
+use Rattle.client_objects.specs.Ways.{file_by, way_of}
 use Rattle.script_meaning.specs.Stack.{pages_of}
 use Rattle.stack_engine.specs.declared.refusal.StepErr.{StepErr}
 use Rattle.link_lossy.specs.declared.serve.Served.{Served}
@@ -36,7 +40,7 @@ use Rattle.spr_volume.specs.declared.answered.Answered.{Answered}
 use Rattle.spr_volume.specs.Passes.{Knows}
 use Rattle.script_meaning.specs.Plan.{asking}
 use Rattle.spr_client.specs.Calls.{CallDone}
-use Rattle.spr_client.specs.Serving.{FitsFile, IsRequestOf, Serves, ask_by, frame_on, volume_answer}
+use Rattle.spr_client.specs.Serving.{FitsFile, IsRequestOf, IsRoute, IsWayTo, Serves, ask_by, frame_on, volume_answer}
 
 -- HOW LONG A CALL'S FRAME IS: 24 bytes and a page at most
 frame_length : (h : Head) (body : List ℕ) → length (frame_bytes h body) ≡ 24 + length body
@@ -77,27 +81,42 @@ one_page : (mount : Mount) (file : ℕ) (call : FileCall) → IsMount mount → 
 one_page mount file (FileCall.Access op) sound fits = (pages_of mount file, few_pages mount mount.files file sound.pages, fits)
 one_page mount file FileCall.Sync sound fits = tt
 
-id-low : (kind : ObjectKind) → 1 ≤ id_of kind
-id-low Singleton = lit≤ tt
-id-low Cluster = lit≤ tt
-id-low Caching = lit≤ tt
-id-low Reconnectable = lit≤ tt
+-- a frame may have the identifier, and by it the object's file is chosen
+way_low : (kind : ObjectKind) → 1 ≤ id_of kind
+way_low Singleton = lit≤ tt
+way_low Cluster = lit≤ tt
+way_low Caching = lit≤ tt
+way_low Reconnectable = lit≤ tt
 
-id-high : (kind : ObjectKind) → id_of kind ≤ 5
-id-high Singleton = lit≤ tt
-id-high Cluster = lit≤ tt
-id-high Caching = lit≤ tt
-id-high Reconnectable = lit≤ tt
+way_high : (kind : ObjectKind) → id_of kind ≤ 5
+way_high Singleton = lit≤ tt
+way_high Cluster = lit≤ tt
+way_high Caching = lit≤ tt
+way_high Reconnectable = lit≤ tt
 
-abbrev pub read_on : Target → FileCall → Received
-read_on target call = record { subcontract = id_of target.kind; tag = target.tag; call = call }
+way_chooses : (kind : ObjectKind) (door : Door) (tag : ℕ) → file_by (id_of kind) door tag ≡ file_of kind door tag
+way_chooses Singleton door tag = refl
+way_chooses Cluster door tag = refl
+way_chooses Caching door tag = refl
+way_chooses Reconnectable door tag = refl
 
-received_on : (mount : Mount) (target : Target) (call : FileCall) → IsMount mount → target.tag < 2 ^ 32 → FitsFile mount target.file call → IsReceived mount.page_size (read_on target call)
-received_on mount target call sound tag fits = record {
-  subcontract_low = id-low target.kind;
-  subcontract_high = id-high target.kind;
+pub way_to : (mount : Mount) (target : Target) (node : ℕ) → IsRoute mount target node → IsWayTo mount (way_of target) node
+way_to mount target node route = record {
+  said = record { low = way_low target.kind; high = way_high target.kind; chosen = way_chooses target.kind (door_to target) target.tag ∙ route.chosen };
+  file = route.file;
+  above = route.above;
+  inside = route.inside;
+}
+
+abbrev pub read_on : Way → FileCall → Received
+read_on way call = record { subcontract = way.sub; tag = way.tag; call = call }
+
+received_on : (mount : Mount) (way : Way) (call : FileCall) → IsMount mount → (1 ≤ way.sub) × (way.sub ≤ 5) → way.tag < 2 ^ 32 → FitsFile mount way.file call → IsReceived mount.page_size (read_on way call)
+received_on mount way call sound known tag fits = record {
+  subcontract_low = known.0;
+  subcontract_high = known.1;
   tag = tag;
-  call = one_page mount target.file call sound fits;
+  call = one_page mount way.file call sound fits;
 }
 
 -- what reading a frame may answer, if it is that of this call
@@ -113,15 +132,15 @@ err-is : (result : Result Received CallWhy) (why : CallWhy) (r : Received) → r
 err-is (Ok x) why r is same = absurd cc
 err-is (Err e) why r is same = let this : e ≡ why = cc in sym this ∙ same
 
-pub call-read : (mount : Mount) (ops : Ops) (target : Target) (call : FileCall) (frame : List ℕ) (result : Result Received CallWhy) (received : Received) → IsMount mount → target.tag < 2 ^ 32 → FitsFile mount target.file call
-    → frame ≡ frame_on mount ops target call → Reads mount.page_size ops frame result → result ≡ Ok received → received ≡ read_on target call
-call-read mount ops target call frame result received sound tag fits framed reads is =
-    ok-is result received (read_on target call) is (reads (read_on target call) (received_on mount target call sound tag fits) framed)
+pub call-read : (mount : Mount) (ops : Ops) (way : Way) (call : FileCall) (frame : List ℕ) (result : Result Received CallWhy) (received : Received) → IsMount mount → (1 ≤ way.sub) × (way.sub ≤ 5) → way.tag < 2 ^ 32 → FitsFile mount way.file call
+    → frame ≡ frame_on mount ops way call → Reads mount.page_size ops frame result → result ≡ Ok received → received ≡ read_on way call
+call-read mount ops way call frame result received sound known tag fits framed reads is =
+    ok-is result received (read_on way call) is (reads (read_on way call) (received_on mount way call sound known tag fits) framed)
 
-pub call-unread : (mount : Mount) (ops : Ops) (target : Target) (call : FileCall) (frame : List ℕ) (result : Result Received CallWhy) (why : CallWhy) → IsMount mount → target.tag < 2 ^ 32 → FitsFile mount target.file call
-    → frame ≡ frame_on mount ops target call → Reads mount.page_size ops frame result → result ≡ Err why → why ≡ CallWhy.Memory
-call-unread mount ops target call frame result why sound tag fits framed reads is =
-    err-is result why (read_on target call) is (reads (read_on target call) (received_on mount target call sound tag fits) framed)
+pub call-unread : (mount : Mount) (ops : Ops) (way : Way) (call : FileCall) (frame : List ℕ) (result : Result Received CallWhy) (why : CallWhy) → IsMount mount → (1 ≤ way.sub) × (way.sub ≤ 5) → way.tag < 2 ^ 32 → FitsFile mount way.file call
+    → frame ≡ frame_on mount ops way call → Reads mount.page_size ops frame result → result ≡ Err why → why ≡ CallWhy.Memory
+call-unread mount ops way call frame result why sound known tag fits framed reads is =
+    err-is result why (read_on way call) is (reads (read_on way call) (received_on mount way call sound known tag fits) framed)
 
 -- WHICH REQUEST IT IS
 read_of : Packed → Result (ℕ × Packed) BadLink → Packed
@@ -132,16 +151,16 @@ same-request : (number other : ℕ) (r s : Packed) (x : Result (ℕ × Packed) B
 unfolding read_of
 same-request number other r s x e f = sym (ap (read_of r) e) ∙ ap (read_of r) f
 
-pub record IsReadAs (mount : Mount) (ops : Ops) (caller life : ℕ) (target : Target) (call : FileCall) (request : Packed) : Type 0 where
+pub record IsReadAs (mount : Mount) (ops : Ops) (caller life : ℕ) (way : Way) (call : FileCall) (request : Packed) : Type 0 where
   pub caller_is : request.caller ≡ caller
   pub life_is : request.life ≡ life
-  pub frame_is : request.packet.frame ≡ frame_on mount ops target call
+  pub frame_is : request.packet.frame ≡ frame_on mount ops way call
 
-pub request-read : (mount : Mount) (ops : Ops) (caller life : ℕ) (target : Target) (call : FileCall) (bytes : List ℕ) (number : ℕ) (request : Packed) → request_at bytes ≡ Ok (number, request) → IsRequestOf mount ops caller life target call bytes
-    → IsReadAs mount ops caller life target call request
-request-read mount ops caller life target call bytes number request read is =
+pub request-read : (mount : Mount) (ops : Ops) (caller life : ℕ) (way : Way) (call : FileCall) (bytes : List ℕ) (number : ℕ) (request : Packed) → request_at bytes ≡ Ok (number, request) → IsRequestOf mount ops caller life way call bytes
+    → IsReadAs mount ops caller life way call request
+request-read mount ops caller life way call bytes number request read is =
     let same : is.request ≡ request = same-request is.number number is.request request (request_at bytes) is.read read in
-    subst (λ (r : Packed). IsReadAs mount ops caller life target call r) same (record { caller_is = is.caller_is; life_is = is.life_is; frame_is = is.frame_is })
+    subst (λ (r : Packed). IsReadAs mount ops caller life way call r) same (record { caller_is = is.caller_is; life_is = is.life_is; frame_is = is.frame_is })
 
 -- a frame goes in a packet, and the packet in a request
 pub few-put : (n m : ℕ) → n ≡ 0 → m ≤ 4120 → n + 8 + m < 2 ^ 32

@@ -13,3 +13,4 @@ pub mod BoundLaws
 pub mod CarryLaws
 pub mod CarriedLaws
 pub mod BackLaws
+pub mod DoorLaws

@@ -1,5 +1,5 @@
 -- How a line is done.
-use Rattle.std.proofs.Common.{◌≡◌, ◌≢◌, ℕ, ◌<◌, ◌≤◌, List, [], ◌∷◌, length, true, false, unwrap_or, Option, Some, None, IsSome, Ok, Err, refl, sym, ap, subst, ◌∙◌, arith, inl, inr}
+use Rattle.std.proofs.Common.{◌≡◌, ◌≢◌, ℕ, ◌<◌, ◌≤◌, List, [], ◌∷◌, length, Bool, true, false, unwrap_or, Option, Some, None, IsSome, Ok, Err, refl, sym, ap, subst, ◌∙◌, arith, inl, inr}
 use Rattle.std.specs.Prelude.{◌⊎◌}
 use Rattle.std.specs.List.{AllZip}
 use Rattle.std.proofs.lemmas.Slice.Zip.{AllZip-map}
@@ -25,8 +25,9 @@ use Rattle.client_objects.specs.declared.state.ClientState.{ClientState}
 use Rattle.client_objects.specs.declared.target.Target.{Target}
 use Rattle.client_objects.specs.Objects.{with_object}
 use Rattle.client_objects.specs.Stored.{received, received_word}
+use Rattle.client_replicas.specs.Received.{received_doors}
 use Rattle.script_meaning.specs.Stack.{pages_of}
-use Rattle.script_meaning.specs.Plan.{Plan, ends, calls, Request, NamesAsk, told_names, unless_refused, refused_as, plan_call, plan_named, plan_names, plan_access, plan_after, plan_open, plan_found, plan_try, further_tries, asking_names, comes, heard, holding, opened, opening, over, reply_of, sent, trial_of}
+use Rattle.script_meaning.specs.Plan.{Plan, ends, calls, Request, NamesAsk, told_names, unless_refused, refused_as, plan_call, plan_named, plan_names, plan_access, plan_after, plan_open, plan_found, plan_received, plan_try, further_tries, asking_names, comes, heard, holding, opened, opening, over, reply_of, sent, trial_of}
 use Rattle.script_meaning.specs.Fits.{Gone}
 use Rattle.script_meaning.proofs.Parts.{did_nothing, did_then, went_of, went_lacks, gone_as, gone_none, gone_named, gone_unnamed, gone_lacks, comes_here, sent_here}
 use Rattle.spr_volume.specs.declared.answered.Answered.{Answered}
@@ -228,12 +229,12 @@ access-again mount state name word path op object kind is =
     ap (λ (k : ObjectKind). plan_try mount op (plan_after mount (further_tries k) name (unwrap_or (path_of word) []) op) state object) kind
     ∙ ap (λ (o : Option (List (List ℕ))). plan_try mount op (plan_after mount 2 name (unwrap_or o []) op) state object) (sym is)
 
-pub open-exists : (mount : Mount) (state : ClientState) (name : List ℕ) (path : List (List ℕ)) (o : Option Target) (object : Target) → o ≡ Some object → plan_open mount state name path o ≡ ends replies.ObjectExists state
-open-exists mount state name path o object some = ap (λ (x : Option Target). plan_open mount state name path x) some
+pub open-exists : (mount : Mount) (state : ClientState) (name : List ℕ) (path : List (List ℕ)) (taken : Bool) → taken ≡ true → plan_open mount state name path taken ≡ ends replies.ObjectExists state
+open-exists mount state name path taken is = ap (λ (x : Bool). plan_open mount state name path x) is
 
-pub open-new : (mount : Mount) (state : ClientState) (name : List ℕ) (path : List (List ℕ)) (o : Option Target) → o ≡ None
-    → plan_open mount state name path o ≡ plan_names state (asking_names calls_of.Resolve (Some path)) (λ names. plan_found mount state name (received_word (kept_at names path)) (received mount (kept_at names path)))
-open-new mount state name path o none = ap (λ (x : Option Target). plan_open mount state name path x) none
+pub open-new : (mount : Mount) (state : ClientState) (name : List ℕ) (path : List (List ℕ)) (taken : Bool) → taken ≡ false
+    → plan_open mount state name path taken ≡ plan_names state (asking_names calls_of.Resolve (Some path)) (λ names. plan_received mount state name (kept_at names path) (received_doors mount (kept_at names path)))
+open-new mount state name path taken is = ap (λ (x : Bool). plan_open mount state name path x) is
 
 -- the same line, with the plan written otherwise
 pub done-as : (mount : Mount) (caller : ℕ) (kept : ClientState) (p q : Plan) (old new : Knows) (said : Reply) (left : ClientState) → q ≡ p → LineDone mount caller kept p old new said left → LineDone mount caller kept q old new said left

@@ -19,36 +19,35 @@ use Rattle.client_objects.specs.declared.kind.ObjectKind.{ObjectKind}
 use Rattle.client_objects.specs.Found.{door_to, node_by}
 use Rattle.client_objects.specs.Objects.{object_of}
 use Rattle.client_objects.specs.Reconnected.{IsReconnectable, reconnected}
-use Rattle.client_objects.specs.Stored.{received}
 use Rattle.client_objects.proofs.FoundLaws.{found_leads}
 use Rattle.client_objects.proofs.OpenLaws.{object_of-with_target, on_stack-with_target}
-use Rattle.client_objects.proofs.ReceivedLaws.{received_leads}
 use Rattle.script_meaning.specs.Stack.{pages_of}
-use Rattle.script_meaning.specs.Plan.{Plan, asking_names, calls, ends, is_revoked, led_to, life_in, node_at, plan_after, plan_names, plan_reopened, plan_try, reopening, reply_of, rerouting, sent, trial_of}
+use Rattle.script_meaning.specs.Plan.{Plan, asking_names, calls, ends, is_revoked, led_to, life_in, node_at, plan_after, plan_names, plan_reopened, plan_try, reached, reopening, reply_of, rerouting, sent, trial_of}
 use Rattle.spr_volume.specs.Passes.{Knows}
 use Rattle.spr_client.specs.Lines.{IsLed, IsOnMachine, IsTarget, LeadsOn, PlanDone}
 use Rattle.spr_client.specs.Serving.{CameBack}
+use Rattle.spr_client.proofs.DoorLaws.{reached_leads}
 use Rattle.spr_client.proofs.LineLaws.{plan-lacks, plan-none}
 
 -- WHAT STANDS AT THE PATH is opened
 
 module _ (mount : Mount) (caller : ℕ) (state : ClientState) (name : List ℕ) (kept : Option Kept) where
   abbrev Reopens : Op → (ClientState → Told → Plan) → Plan
-  Reopens op go_on = plan_reopened mount name op go_on state (received mount kept)
+  Reopens op go_on = plan_reopened mount name op go_on state (reached mount kept)
 
   -- what comes behind the Open
   abbrev Behind : Op → (ClientState → Told → Plan) → Target → Told → Plan
   Behind op go_on target told = plan_try mount op go_on (rerouting (sent (reopening mount state target) state) name (led_to target told)) (led_to target told)
 
-  pub reopened-bad : (op : Op) (go_on : ClientState → Told → Plan) (pass : Knows) → received mount kept ≡ None → PlanDone mount caller (Reopens op go_on) pass pass replies.BadObject state
+  pub reopened-bad : (op : Op) (go_on : ClientState → Told → Plan) (pass : Knows) → reached mount kept ≡ None → PlanDone mount caller (Reopens op go_on) pass pass replies.BadObject state
   reopened-bad op go_on pass none = plan-none mount caller (Reopens op go_on) pass replies.BadObject state (ap (plan_reopened mount name op go_on state) none)
 
-  pub reopened-ends : (op : Op) (go_on : ClientState → Told → Plan) (target : Target) (old new : Knows) (said : Reply) (left : ClientState) → received mount kept ≡ Some target
+  pub reopened-ends : (op : Op) (go_on : ClientState → Told → Plan) (target : Target) (old new : Knows) (said : Reply) (left : ClientState) → reached mount kept ≡ Some target
       → ((next : Told → Plan) → PlanDone mount caller (calls (reopening mount state target) state next) old new said left) → PlanDone mount caller (Reopens op go_on) old new said left
   reopened-ends op go_on target old new said left is made =
       subst (λ (p : Plan). PlanDone mount caller p old new said left) (sym (ap (plan_reopened mount name op go_on state) is)) (made (Behind op go_on target))
 
-  pub reopened-leads : (op : Op) (go_on : ClientState → Told → Plan) (target : Target) (old mid : Knows) (out : List ℕ) (answer : Answer) (back left : ClientState) (led : Target) → received mount kept ≡ Some target
+  pub reopened-leads : (op : Op) (go_on : ClientState → Told → Plan) (target : Target) (old mid : Knows) (out : List ℕ) (answer : Answer) (back left : ClientState) (led : Target) → reached mount kept ≡ Some target
       → CameBack mount caller (reopening mount state target) old mid state back out answer → left ≡ rerouting back name (reconnected (door_to target) (life_in answer)) → led ≡ reconnected (door_to target) (life_in answer)
       → LeadsOn mount caller (Reopens op go_on) (plan_try mount op go_on left led) old mid
   reopened-leads op go_on target old mid out answer back left led is came left_is led_is new said end done =
@@ -67,10 +66,10 @@ some-target state name held = by (object_of name state.objects) held
     by (Some target) held = refl
     by None held = absurd held
 
-pub led-there : (mount : Mount) (state : ClientState) (name : List ℕ) (kept : Option Kept) (target : Target) (life : ℕ) (left : ClientState) (found : Found) → IsMount mount → IsReconnectable (object_of name state.objects) → received mount kept ≡ Some target
+pub led-there : (mount : Mount) (state : ClientState) (name : List ℕ) (kept : Option Kept) (target : Target) (life : ℕ) (left : ClientState) (found : Found) → IsMount mount → IsReconnectable (object_of name state.objects) → reached mount kept ≡ Some target
     → left ≡ rerouting state name (reconnected (door_to target) life) → found.target ≡ reconnected (door_to target) life → found.node ≡ target.view → IsLed mount name left found
 led-there mount state name kept target life left found sound held is left_is found_is node_is =
-    let leads = received_leads mount kept target is in
+    let leads = reached_leads mount kept target is in
     let led : Target = reconnected (door_to target) life in
     let above = found_leads mount 0 led sound leads.view in
     let there : Found = record { target = led; node = target.view } in
@@ -82,12 +81,12 @@ led-there mount state name kept target life left found sound held is left_is fou
       node = node_is ∙ sym (ap (λ (t : Target). t.view) found_is);
     }
 
-pub led-on : (mount : Mount) (state : ClientState) (name : List ℕ) (kept : Option Kept) (target : Target) (life : ℕ) (left : ClientState) → IsOnMachine mount state → received mount kept ≡ Some target
+pub led-on : (mount : Mount) (state : ClientState) (name : List ℕ) (kept : Option Kept) (target : Target) (life : ℕ) (left : ClientState) → IsOnMachine mount state → reached mount kept ≡ Some target
     → left ≡ rerouting state name (reconnected (door_to target) life) → IsOnMachine mount left
 led-on mount state name kept target life left on is left_is =
-    let leads = received_leads mount kept target is in
+    let leads = reached_leads mount kept target is in
     subst (λ (s : ClientState). IsOnMachine mount s) (sym left_is)
-    (record { machine = on.machine; objects = on_stack-with_target mount name (reconnected (door_to target) life) state.objects on.objects leads.view leads.file refl; regions = on.regions })
+    (record { machine = on.machine; objects = on_stack-with_target mount name (reconnected (door_to target) life) state.objects on.objects leads.view leads.file refl; replicas = on.replicas; regions = on.regions })
 
 -- ONE TRY
 
@@ -101,7 +100,7 @@ module _ (mount : Mount) (caller left : ℕ) (name : List ℕ) (path : List (Lis
 
   -- what comes behind a life that is over
   abbrev Again : ℕ → Plan
-  Again further = plan_names then_state (asking_names names_calls.Resolve (Some path)) (λ names. plan_reopened mount name op (plan_after mount further name path op) then_state (received mount (kept_at names path)))
+  Again further = plan_names then_state (asking_names names_calls.Resolve (Some path)) (λ names. plan_reopened mount name op (plan_after mount further name path op) then_state (reached mount (kept_at names path)))
 
   pub try-unfit : (pass : Knows) → fits_page mount.page_size (pages_of mount target.file) op ≡ false → PlanDone mount caller Tries pass pass replies.NotOnePage state
   try-unfit pass unfit = plan-none mount caller Tries pass replies.NotOnePage state (rw unfit refl)
@@ -149,18 +148,18 @@ module _ (mount : Mount) (caller left : ℕ) (name : List ℕ) (path : List (Lis
   -- the same from the state that the call left, where the caller's number may be written otherwise
   pub try-onward : (further by : ℕ) (old mid new : Knows) (out : List ℕ) (answer : Answer) (said : Reply) (back end : ClientState) → fits_page mount.page_size (pages_of mount target.file) op ≡ true → CameBack mount caller (trial_of mount state target op) old mid state back out answer
       → left ≡ suc further → is_revoked answer ≡ true → by ≡ caller
-      → PlanDone mount by (plan_names back (asking_names names_calls.Resolve (Some path)) (λ names. plan_reopened mount name op (plan_after mount further name path op) back (received mount (kept_at names path)))) mid new said end
+      → PlanDone mount by (plan_names back (asking_names names_calls.Resolve (Some path)) (λ names. plan_reopened mount name op (plan_after mount further name path op) back (reached mount (kept_at names path)))) mid new said end
       → PlanDone mount caller Tries old new said end
   try-onward further by old mid new out answer said back end fit came is over same onward =
-      let mine = subst (λ (n : ℕ). PlanDone mount n (plan_names back (asking_names names_calls.Resolve (Some path)) (λ names. plan_reopened mount name op (plan_after mount further name path op) back (received mount (kept_at names path)))) mid new said end) same onward in
+      let mine = subst (λ (n : ℕ). PlanDone mount n (plan_names back (asking_names names_calls.Resolve (Some path)) (λ names. plan_reopened mount name op (plan_after mount further name path op) back (reached mount (kept_at names path)))) mid new said end) same onward in
       try-again further old mid new out answer said back end fit came is over
-      (subst (λ (s : ClientState). PlanDone mount caller (plan_names s (asking_names names_calls.Resolve (Some path)) (λ names. plan_reopened mount name op (plan_after mount further name path op) s (received mount (kept_at names path)))) mid new said end) came.left_is mine)
+      (subst (λ (s : ClientState). PlanDone mount caller (plan_names s (asking_names names_calls.Resolve (Some path)) (λ names. plan_reopened mount name op (plan_after mount further name path op) s (reached mount (kept_at names path)))) mid new said end) came.left_is mine)
 
 -- the view that stands at the path is above the ground, and the file is one of the stack
-pub reopened-route : (mount : Mount) (kept : Option Kept) (target : Target) → IsMount mount → received mount kept ≡ Some target
+pub reopened-route : (mount : Mount) (kept : Option Kept) (target : Target) → IsMount mount → reached mount kept ≡ Some target
     → (target.file < length mount.files) × (0 < target.view) × (target.view < length mount.tree.parents)
 reopened-route mount kept target sound is =
-    let leads = received_leads mount kept target is in
+    let leads = reached_leads mount kept target is in
     let above = found_leads mount 0 (reconnected (door_to target) 0) sound leads.view in
     (leads.file, above.above, above.inside)
 

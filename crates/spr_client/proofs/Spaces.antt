@@ -24,7 +24,7 @@ space-blank mount = record { page_size = refl; files = refl; regions = All-nil (
 
 -- a client at the start
 pub on_machine-start : (mount : Mount) (loss : Option ℕ) (line : ClientLine) → number_in mount.machines line.machine < length mount.machines → IsOnMachine mount (start_state mount loss line)
-on_machine-start mount loss line low = record { machine = low; objects = tt; regions = space-blank mount }
+on_machine-start mount loss line low = record { machine = low; objects = tt; replicas = tt; regions = space-blank mount }
 
 -- one more region
 pub space-with : (mount : Mount) (space : SpaceShape) (region : Region) → IsSpaceOf mount space → IsMappedOn mount region → IsSpaceOf mount (with_region space region)
@@ -52,7 +52,7 @@ space-without mount name space of = record {
 
 -- the same client with this address space
 pub on_machine-mapping : (mount : Mount) (state : ClientState) (space : SpaceShape) → IsOnMachine mount state → IsSpaceOf mount space → IsOnMachine mount (mapping state space)
-on_machine-mapping mount state space on of = record { machine = on.machine; objects = on.objects; regions = of }
+on_machine-mapping mount state space on of = record { machine = on.machine; objects = on.objects; replicas = on.replicas; regions = of }
 
 -- a client whose last region was kept, of some life, or given up
 pub on_machine-mapped : (mount : Mount) (left state : ClientState) (region : Region) → IsOnMachine mount state → IsMappedOn mount region

@@ -58,7 +58,7 @@ found-some mount machine (Some target) found is =
 
 -- the same client with these objects
 on_machine-holding : (mount : Mount) (state : ClientState) (new : List OpenObject) → IsOnMachine mount state → AllByRecursion (IsOnStack mount) new → IsOnMachine mount (holding state new)
-on_machine-holding mount state new on all = record { machine = on.machine; objects = all; regions = on.regions }
+on_machine-holding mount state new on all = record { machine = on.machine; objects = all; replicas = on.replicas; regions = on.regions }
 
 -- a client with one more object of the stack
 pub on_machine-with : (mount : Mount) (state : ClientState) (name word : List ℕ) (target : Target) (kept : Option Kept) (life : ℕ) → IsOnMachine mount state → received mount kept ≡ Some target
@@ -78,7 +78,7 @@ on_machine-copy mount state new name other word target on found is =
 -- the same client with this carrier
 pub on_machine-carrying : (mount : Mount) (state left : ClientState) → left ≡ carrying state left.carrier → IsOnMachine mount state → IsOnMachine mount left
 on_machine-carrying mount state left is on =
-    subst (λ (s : ClientState). IsOnMachine mount s) (sym is) (record { machine = on.machine; objects = on.objects; regions = on.regions })
+    subst (λ (s : ClientState). IsOnMachine mount s) (sym is) (record { machine = on.machine; objects = on.objects; replicas = on.replicas; regions = on.regions })
 
 -- a client whose last object was kept, of some life, or given up
 pub on_machine-either : (mount : Mount) (left state : ClientState) (name word : List ℕ) (target : Target) (kept : Option Kept) → IsOnMachine mount state

@@ -2,7 +2,7 @@
 use Rattle.std.specs.Prelude.{◌≡◌, ◌≢◌, ◌⊎◌, ℕ, ◌+◌, ◌<◌, ◌≤◌, List, [], length, map, All, true, IsSome, Some}
 use Rattle.std.specs.List.{AllByRecursion}
 use Rattle.script_text.specs.declared.script.Call.{Call}
-use Rattle.script_text.specs.declared.script.Call.TheVariants.{Context, Bind, Unbind, List as ListNames, Open, Copy, Drop, Read, Write, Clear, Sync, Clean, Map, Unmap, Load, Store, Revoke, Release}
+use Rattle.script_text.specs.declared.script.Call.TheVariants.{Context, Bind, Replicate, Unbind, List as ListNames, Open, Copy, Drop, Read, Write, Clear, Sync, Clean, Map, Unmap, Load, Store, Revoke, Release}
 use Rattle.script_text.specs.declared.script.CallLine.{CallLine}
 use Rattle.script_text.specs.declared.script.Reply.{Reply}
 use Rattle.script_text.specs.declared.script.Said.{Said}
@@ -21,8 +21,10 @@ use Rattle.client_objects.specs.declared.target.Found.{Found}
 use Rattle.client_objects.specs.declared.target.Target.{Target}
 use Rattle.client_objects.specs.Objects.{IsOnStack, OpenObject, object_of, with_object}
 use Rattle.client_objects.specs.Found.{IsChosen}
+use Rattle.client_replicas.specs.declared.door.OpenDoor.{OpenDoor}
+use Rattle.client_replicas.specs.declared.replicas.OpenReplicon.{OpenReplicon}
 use Rattle.script_meaning.specs.Stack.{file_named, layer_of, pages_of, view_of}
-use Rattle.script_meaning.specs.Plan.{Plan, carrying, holding}
+use Rattle.script_meaning.specs.Plan.{Plan, carrying, holding, replica_doors}
 use Rattle.script_meaning.specs.Fits.{Did, Gone, Went, Worked}
 use Rattle.spr_volume.specs.Passes.{Knows, as_known}
 use Rattle.spr_client.specs.Calls.{histories}
@@ -70,10 +72,20 @@ abbrev pub IsKept : ClientState → ClientState → List OpenObject → List ℕ
 IsKept old new objects name target word =
     (new ≡ carrying (holding old objects) new.carrier) ⊎ ((life : ℕ) × (new ≡ carrying (holding old (with_object objects name (record target { life = life }) word)) new.carrier))
 
+-- a door of a replicon object leads to a view and a file of the stack
+pub record IsDoorOn (mount : Mount) (door : OpenDoor) : Type 0 where
+  pub view : is_view_in mount.nodes door.view ≡ true
+  pub file : door.file < length mount.files
+
+-- and so does each door of the object
+abbrev pub IsReplicatedOn : Mount → OpenReplicon → Type 0
+IsReplicatedOn mount object = AllByRecursion (IsDoorOn mount) object.doors
+
 -- the client runs on a machine of the stack, its objects lead to views and files of it, and so do its regions to managers and files
 pub record IsOnMachine (mount : Mount) (state : ClientState) : Type 0 where
   pub machine : state.machine < length mount.machines
   pub objects : AllByRecursion (IsOnStack mount) state.objects
+  pub replicas : AllByRecursion (IsReplicatedOn mount) state.replicas
   pub regions : IsSpaceOf mount state.regions
 
 -- the other callers of a pass did nothing
@@ -107,6 +119,7 @@ pub record LinesDone (mount : Mount) (caller : ℕ) (kept : ClientState) (lines 
 abbrev pub IsCallOf : Mount → Call → Type 0
 IsCallOf mount (Context path) = HasParts path
 IsCallOf mount (Bind path sub view file) = IsPath path × IsSome (view_of mount view) × IsSome (file_named mount file)
+IsCallOf mount (Replicate path file views) = IsPath path × IsPath views × IsSome (replica_doors mount (file_named mount file) views)
 IsCallOf mount (Unbind path) = HasParts path
 IsCallOf mount (ListNames path) = IsPathOf names_calls.List path
 IsCallOf mount (Open name path) = HasParts path

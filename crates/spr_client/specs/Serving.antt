@@ -11,8 +11,11 @@ use Rattle.file_frames.specs.declared.call.Received.{Received}
 use Rattle.pager_channel.specs.Frame.{IsFrame}
 use Rattle.file_frames.specs.Frames.{call_bytes, frame_of_call}
 use Rattle.client_objects.specs.declared.target.Target.{Target}
+use Rattle.client_objects.specs.declared.target.Way.{Way}
 use Rattle.client_objects.specs.Found.{IsChosen}
-use Rattle.client_objects.specs.Kinds.{id_of}
+use Rattle.client_objects.specs.Objects.{OpenObject}
+use Rattle.client_objects.specs.Ways.{IsWay}
+use Rattle.client_replicas.specs.declared.replicas.OpenReplicon.{OpenReplicon}
 use Rattle.link_lossy.specs.declared.request.Request.{Request as Packed}
 use Rattle.link_lossy.specs.Reading.{request_at}
 use Rattle.link_lossy.specs.declared.serve.Served.{Served}
@@ -60,16 +63,23 @@ abbrev pub FitsFile : Mount → ℕ → FileCall → Type 0
 FitsFile mount file (FileCall.Access op) = IsTrue (fits_page mount.page_size (pages_of mount file) op)
 FitsFile mount file FileCall.Sync = Unit {0}
 
--- calls of an object go to its file, at a layer of the stack above the ground
+-- calls of an object of one door go to its file, at a layer of the stack above the ground
 pub record IsRoute (mount : Mount) (target : Target) (node : ℕ) : Type 0 where
   pub chosen : IsChosen target
   pub file : target.file < length mount.files
   pub above : 0 < node
   pub inside : node < length mount.tree.parents
 
+-- and the same of an object of which frames say this
+pub record IsWayTo (mount : Mount) (way : Way) (node : ℕ) : Type 0 where
+  pub said : IsWay way
+  pub file : way.file < length mount.files
+  pub above : 0 < node
+  pub inside : node < length mount.tree.parents
+
 -- the frame of a call on an object
-abbrev pub frame_on : Mount → Ops → Target → FileCall → List ℕ
-frame_on mount ops target call = call_bytes ops mount.page_size (id_of target.kind) target.tag call
+abbrev pub frame_on : Mount → Ops → Way → FileCall → List ℕ
+frame_on mount ops way call = call_bytes ops mount.page_size way.sub way.tag call
 
 -- what serving answers, as an answer of the volume
 abbrev pub volume_answer : Result Served ServeErr → Result Answered StepErr
@@ -79,30 +89,34 @@ volume_answer (Err refusals.TrailFull) = Err errs.TrailFull
 volume_answer (Err refusals.Memory) = Err errs.Memory
 
 -- the request of a call on an object, as it arrives
-pub record IsRequestOf (mount : Mount) (ops : Ops) (caller life : ℕ) (target : Target) (call : FileCall) (bytes : List ℕ) : Type 0 where
+pub record IsRequestOf (mount : Mount) (ops : Ops) (caller life : ℕ) (way : Way) (call : FileCall) (bytes : List ℕ) : Type 0 where
   pub number : ℕ
   pub request : Packed
   pub read : request_at bytes ≡ Ok (number, request)
   pub caller_is : request.caller ≡ caller
   pub life_is : request.life ≡ life
-  pub frame_is : request.packet.frame ≡ frame_on mount ops target call
+  pub frame_is : request.packet.frame ≡ frame_on mount ops way call
 
 -- A REQUEST THAT MAY BE SERVED for an object: its call has a frame and fits the file, its caller may call, and `out` has as many bytes as it reads
-pub record MayServe (mount : Mount) (ops : Ops) (v : VolumeSeen) (p : Knows) (target : Target) (bytes : List ℕ) (len : ℕ) : Type 0 where
+pub record MayServe (mount : Mount) (ops : Ops) (v : VolumeSeen) (p : Knows) (way : Way) (bytes : List ℕ) (len : ℕ) : Type 0 where
   pub caller : ℕ
   pub life : ℕ
   pub call : FileCall
-  pub request_is : IsRequestOf mount ops caller life target call bytes
-  pub framed : IsFrame ops (frame_of_call ops mount.page_size (id_of target.kind) target.tag call)
+  pub request_is : IsRequestOf mount ops caller life way call bytes
+  pub framed : IsFrame ops (frame_of_call ops mount.page_size way.sub way.tag call)
   pub may : MayCall mount v p caller
-  pub fits : FitsFile mount target.file call
+  pub fits : FitsFile mount way.file call
   pub long : len ≡ asked_in call
 
 -- what was read of a call's frame
-pub record IsReceivedAs (target : Target) (call : FileCall) (received : Received) : Type 0 where
-  pub subcontract_is : received.subcontract ≡ id_of target.kind
-  pub tag_is : received.tag ≡ target.tag
+pub record IsReceivedAs (way : Way) (call : FileCall) (received : Received) : Type 0 where
+  pub subcontract_is : received.subcontract ≡ way.sub
+  pub tag_is : received.tag ≡ way.tag
   pub call_is : received.call ≡ call
+
+-- the state with these objects open, of one door and of several
+abbrev pub having : List OpenObject → List OpenReplicon → ClientState → ClientState
+having objects replicas state = record state { objects = objects; replicas = replicas }
 
 -- A CALL CAME BACK, and the state is what it left: whatever its line does then, by what the call was told, it does from here
 pub record CameBack (mount : Mount) (caller : ℕ) (request : Request) (old new : Knows) (state left : ClientState) (out : List ℕ) (answer : Answer) : Type 0 where

@@ -3,32 +3,16 @@
 ghost use Rattle.std.specs.Prelude.{◌≡◌, ◌<◌, [], IfOk, IsTrue, length};
 ghost use Rattle.hist_plain.specs.Event.{fits_page};
 ghost use Rattle.hist_plain.specs.Plain.{asked_by};
-ghost use Rattle.client_objects.specs.declared.kind.ObjectKind.{ObjectKind as AKind};
-ghost use Rattle.client_objects.specs.Kinds.{file_of, id_of};
 ghost use Rattle.script_meaning.specs.Plan.{asking, access, sync};
 ghost use Rattle.script_meaning.specs.Stack.{pages_of};
 ghost use Rattle.spr_client.specs.Calls.{CallDone, MayCall, ask_of};
 
 use crate::client::Common;
-use client_objects::ObjectKind;
-use file_frames::Received;
 use hist_plain::{Gate, Keep, Op};
-use marshal_buf::Door;
 use page_ground::Ground;
 use spr_volume::{Answered, CallErr, Pass};
 use stack_engine::End;
 use std::sync::Wait;
-
-/// The file of a call on an object of this door, as the frame of the call says it: by its subcontract and its tag.
-pub(crate) fn file_in(received: &Received, door: Door) -> u32
-    requires { (kind : AKind) × (received.now.subcontract ≡ id_of kind) }
-    ensures { (kind : AKind) → received.now.subcontract ≡ id_of kind → result ≡ file_of kind door received.now.tag }
-{
-    let Some(kind) = ObjectKind::of(received.subcontract()) else {
-        unreachable!();
-    };
-    kind.file(door, received.tag())
-}
 
 /// Makes an access at a file, at a layer above the ground, within one page of the file.
 pub(crate) fn access_at<R: Wait, G: Ground, T: Gate>(

@@ -5,15 +5,16 @@ ghost use Rattle.std.specs.Prelude.{◌≡◌, ◌≢◌, ◌<◌, ◌^◌, ℕ,
 ghost use Rattle.file_frames.specs.declared.call.FileCall.{FileCall as ACall};
 ghost use Rattle.script_meaning.specs.Stack.{is_far};
 ghost use Rattle.client_objects.specs.Objects.{OpenObject};
-ghost use Rattle.script_meaning.specs.Plan.{asking, asking_at, carrying, holding};
+ghost use Rattle.client_replicas.specs.declared.replicas.OpenReplicon.{OpenReplicon};
+ghost use Rattle.script_meaning.specs.Plan.{asking, asking_at, carrying};
 ghost use Rattle.spr_client.specs.Calls.{CallDone, MayCall};
-ghost use Rattle.spr_client.specs.Serving.{CallMade, FitsFile, IsReceivedAs, IsRequestOf, IsRoute, IsCarried, MayServe, Serves, ask_by, asked_in, heard_here, heard_there, keep_of, volume_answer};
+ghost use Rattle.spr_client.specs.Serving.{CallMade, FitsFile, IsReceivedAs, IsRequestOf, IsRoute, IsCarried, IsWayTo, MayServe, Serves, ask_by, asked_in, heard_here, having, heard_there, keep_of, volume_answer};
 ghost use Rattle.spr_volume.specs.Passes.{as_known};
 
-use crate::calls::{access_at, file_in, sync_at};
+use crate::calls::{access_at, sync_at};
 use crate::client::{Client, Common};
 use crate::line::refused;
-use client_objects::Target;
+use client_objects::{Target, Way, file_by};
 use dfs_layer::{put_packet, read_packet};
 use file_frames::{CallWhy, FileCall, Received, put_call, read_call, through_frame};
 use hist_plain::{Answer, Gate, Keep};
@@ -51,19 +52,19 @@ fn call_at<R: Wait, G: Ground, T: Gate>(
     pass: &mut Pass<G>,
     caller: u32,
     received: Received,
-    target: Target,
+    way: Way,
     node: u32,
     life: u32,
     out: &mut [u8],
 ) -> Result<Answered, CallErr>
     requires may { MayCall common.now.mount.now common.now.volume.now pass.old caller }
-    requires route { IsRoute common.now.mount.now target node }
-    requires object { IsReceivedAs target received.call received }
-    requires fits { FitsFile common.now.mount.now target.file received.call }
+    requires route { IsWayTo common.now.mount.now way node }
+    requires object { IsReceivedAs way received.call received }
+    requires fits { FitsFile common.now.mount.now way.file received.call }
     requires long { length out.old ≡ asked_in received.call }
-    ensures { CallDone caller (asking target.file (ask_by node life received.call)) pass.old pass.new out.new result }
+    ensures { CallDone caller (asking way.file (ask_by node life received.call)) pass.old pass.new out.new result }
 {
-    let file = file_in(&received, target.door());
+    let file = file_by(received.subcontract(), way.door, received.tag());
     match received.into_call() {
         FileCall::Access { op } => access_at(rt, common, pass, caller, file, node, life, &op, out),
         FileCall::Sync => sync_at(rt, common, pass, caller, file, node, keep_of(life)),
@@ -77,27 +78,27 @@ fn call_here<R: Wait, G: Ground, T: Gate>(
     common: &Common<'_, G, T>,
     pass: &mut Pass<G>,
     caller: u32,
-    target: Target,
+    way: Way,
     node: u32,
     life: u32,
     call: &FileCall,
     out: &mut [u8],
 ) -> Option<Result<Answered, CallErr>>
     requires may { MayCall common.now.mount.now common.now.volume.now pass.old caller }
-    requires route { IsRoute common.now.mount.now target node }
-    requires fits { FitsFile common.now.mount.now target.file call.now }
+    requires route { IsWayTo common.now.mount.now way node }
+    requires fits { FitsFile common.now.mount.now way.file call.now }
     requires long { length out.old ≡ asked_in call.now }
-    ensures made { IfSome result (λ r. CallDone caller (asking target.file (ask_by node life call.now)) pass.old pass.new out.new r) }
+    ensures made { IfSome result (λ r. CallDone caller (asking way.file (ask_by node life call.now)) pass.old pass.new out.new r) }
     ensures none { result ≡ None → pass.new ≡ pass.old }
 {
-    let (page_size, id) = (common.mount.page_size(), target.kind.id());
+    let page_size = common.mount.page_size();
     let mut frame = Buf::new(alloc);
     let Ok(received) = through_frame(
-        alloc, common.ops, page_size, id, target.tag, call, &mut frame,
+        alloc, common.ops, page_size, way.sub, way.tag, call, &mut frame,
     ) else {
         return None;
     };
-    Some(call_at(rt, common, pass, caller, received, target, node, life, out))
+    Some(call_at(rt, common, pass, caller, received, way, node, life, out))
 }
 
 /// What the volume answered, as what serving answers.
@@ -121,16 +122,16 @@ fn serve<R: Wait, G: Ground, T: Gate>(
     alloc: Global,
     common: &Common<'_, G, T>,
     pass: &mut Pass<G>,
-    target: Target,
+    way: Way,
     node: u32,
     bytes: &[u8],
     out: &mut [u8],
 ) -> Result<Served, ServeErr>
     requires few { length bytes.now < 2 ^ 32 }
-    requires request { MayServe common.now.mount.now common.now.ops.now common.now.volume.now pass.old target bytes.now (length out.old) }
-    requires route { IsRoute common.now.mount.now target node }
-    ensures { (caller life : ℕ) (call : ACall) → IsRequestOf common.now.mount.now common.now.ops.now caller life target call bytes.now → FitsFile common.now.mount.now target.file call
-        → Serves caller (asking target.file (ask_by node life call)) pass.old pass.new out.new result }
+    requires request { MayServe common.now.mount.now common.now.ops.now common.now.volume.now pass.old way bytes.now (length out.old) }
+    requires route { IsWayTo common.now.mount.now way node }
+    ensures { (caller life : ℕ) (call : ACall) → IsRequestOf common.now.mount.now common.now.ops.now caller life way call bytes.now → FitsFile common.now.mount.now way.file call
+        → Serves caller (asking way.file (ask_by node life call)) pass.old pass.new out.new result }
 {
     let Ok((_number, request)) = read_request(bytes) else {
         unreachable!();
@@ -143,7 +144,7 @@ fn serve<R: Wait, G: Ground, T: Gate>(
             pass,
             request.caller,
             received,
-            target,
+            way,
             node,
             request.life,
             out,
@@ -165,7 +166,7 @@ fn carry<R: Wait, G: Ground, T: Gate>(
     carrier: &mut Carrier,
     from: u32,
     to: u32,
-    target: Target,
+    way: Way,
     node: u32,
     life: u32,
     call: &FileCall,
@@ -173,21 +174,14 @@ fn carry<R: Wait, G: Ground, T: Gate>(
 ) -> Result<Served, LinkErr>
     requires may { MayCall common.now.mount.now common.now.volume.now pass.old caller }
     requires machines { from ≢ to }
-    requires route { IsRoute common.now.mount.now target node }
-    requires fits { FitsFile common.now.mount.now target.file call.now }
+    requires route { IsWayTo common.now.mount.now way node }
+    requires fits { FitsFile common.now.mount.now way.file call.now }
     requires long { length out.old ≡ asked_in call.now }
-    ensures { IsCarried caller (asking target.file (ask_by node life call.now)) pass.old pass.new carrier.old carrier.new out.new result }
+    ensures { IsCarried caller (asking way.file (ask_by node life call.now)) pass.old pass.new carrier.old carrier.new out.new result }
 {
     let page_size = common.mount.page_size();
     let mut frame = Buf::new(alloc);
-    let Ok(()) = put_call(
-        common.ops,
-        page_size,
-        target.kind.id(),
-        target.tag,
-        call,
-        &mut frame,
-    ) else {
+    let Ok(()) = put_call(common.ops, page_size, way.sub, way.tag, call, &mut frame) else {
         return Err(LinkErr::Memory);
     };
     let mut packed = Buf::new(alloc);
@@ -206,7 +200,7 @@ fn carry<R: Wait, G: Ground, T: Gate>(
         Ok(asked) => asked,
         Err(err) => return Err(err),
     };
-    let served = serve(rt, alloc, common, pass, target, node, asked.bytes(), out);
+    let served = serve(rt, alloc, common, pass, way, node, asked.bytes(), out);
     carrier.answer(&asked, &served, out)
 }
 
@@ -234,8 +228,46 @@ fn answered_there(answered: Result<Served, LinkErr>) -> Result<Answer, Reply>
     }
 }
 
-/// Makes a call of a client on an open object, at the object's file and a node; an error is the answer that ends the line. Of a sync `life` is 0 if
-/// it keeps the right for writing, and 1 if it keeps that for reading.
+/// Makes a call of a client on an open object whose frames say this of it, at its file and a node; an error is the answer that ends the line. Of
+/// a sync `life` is 0 if it keeps the right for writing, and 1 if it keeps that for reading.
+pub(crate) fn call_way<R: Wait, G: Ground, T: Gate>(
+    rt: &R,
+    alloc: Global,
+    common: &Common<'_, G, T>,
+    pass: &mut Pass<G>,
+    client: &mut Client,
+    way: Way,
+    node: u32,
+    life: u32,
+    call: &FileCall,
+    out: &mut [u8],
+) -> Result<Answer, Reply>
+    requires may { MayCall common.now.mount.now common.now.volume.now pass.old client.old.caller }
+    requires route { IsWayTo common.now.mount.now way node }
+    requires fits { FitsFile common.now.mount.now way.file call.now }
+    requires long { length out.old ≡ asked_in call.now }
+    // The open objects have no part in it: so it is for whichever there are, of one door and of several.
+    ensures made { (objects : List OpenObject) (replicas : List OpenReplicon) → CallMade common.now.mount.now client.old.caller (asking_at common.now.mount.now client.old.state node way.file (ask_by node life call.now)) pass.old pass.new (having objects replicas client.old.state) (having objects replicas client.new.state) out.new result }
+    ensures same { client.new ≡ record client.old { state = carrying client.old.state client.new.state.carrier } }
+    ensures pass { pass.new ≡ as_known pass.old pass.new }
+{
+    let (caller, from) = (client.caller, client.state.machine);
+    let Some(to) = far_machine(common.mount, from, node) else {
+        return answered_here(call_here(
+            rt, alloc, common, pass, caller, way, node, life, call, out,
+        ));
+    };
+    match &mut client.state.carrier {
+        Some(carrier) => answered_there(carry(
+            rt, alloc, common, pass, caller, carrier, from, to, way, node, life, call, out,
+        )),
+        None => answered_here(call_here(
+            rt, alloc, common, pass, caller, way, node, life, call, out,
+        )),
+    }
+}
+
+/// Makes a call of a client on an open object of one door, as `call_way` does.
 pub(crate) fn call_object<R: Wait, G: Ground, T: Gate>(
     rt: &R,
     alloc: Global,
@@ -252,23 +284,10 @@ pub(crate) fn call_object<R: Wait, G: Ground, T: Gate>(
     requires route { IsRoute common.now.mount.now target node }
     requires fits { FitsFile common.now.mount.now target.file call.now }
     requires long { length out.old ≡ asked_in call.now }
-    // The open objects have no part in it: so it is for whichever there are.
-    ensures made { (objects : List OpenObject) → CallMade common.now.mount.now client.old.caller (asking_at common.now.mount.now client.old.state node target.file (ask_by node life call.now)) pass.old pass.new (holding client.old.state objects) (holding client.new.state objects) out.new result }
+    ensures made { (objects : List OpenObject) (replicas : List OpenReplicon) → CallMade common.now.mount.now client.old.caller (asking_at common.now.mount.now client.old.state node target.file (ask_by node life call.now)) pass.old pass.new (having objects replicas client.old.state) (having objects replicas client.new.state) out.new result }
     ensures same { client.new ≡ record client.old { state = carrying client.old.state client.new.state.carrier } }
     ensures pass { pass.new ≡ as_known pass.old pass.new }
 {
-    let (caller, from) = (client.caller, client.state.machine);
-    let Some(to) = far_machine(common.mount, from, node) else {
-        return answered_here(call_here(
-            rt, alloc, common, pass, caller, target, node, life, call, out,
-        ));
-    };
-    match &mut client.state.carrier {
-        Some(carrier) => answered_there(carry(
-            rt, alloc, common, pass, caller, carrier, from, to, target, node, life, call, out,
-        )),
-        None => answered_here(call_here(
-            rt, alloc, common, pass, caller, target, node, life, call, out,
-        )),
-    }
+    let way = target.way();
+    call_way(rt, alloc, common, pass, client, way, node, life, call, out)
 }

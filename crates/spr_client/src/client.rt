@@ -8,12 +8,14 @@ ghost use Rattle.spr_client.specs.Calls.{MayCall};
 ghost use Rattle.spr_client.specs.Lines.{IsCallOf, IsOnMachine, LineDone};
 
 use crate::ending::end_line;
-use crate::files::{clear_line, read_line, sync_line, write_line};
-use crate::mapping::{map_line, unmap_line};
+use crate::files::{clear_line, read_line, write_line};
+use crate::mapping::{map_held, unmap_line};
 use crate::names::{bind_line, context_line, list_line, unbind_line};
-use crate::opening::{copy_line, drop_line, open_line};
+use crate::opening::open_line;
 use crate::places::{load_line, store_line};
+use crate::replicas::{copy_held, drop_held, replicate_line, sync_held};
 use client_objects::{ClientState, Objects};
+use client_replicas::Replicas;
 use hist_plain::{Gate, Keep};
 use link_lossy::Carrier;
 use page_ground::Ground;
@@ -70,13 +72,14 @@ impl Client {
         machine: u32,
         loss: Option<u32>,
     ) -> Result<Client, AllocError>
-        ensures { IfOk result (λ client. client ≡ record { caller = caller; state = record { machine = machine; objects = []; regions = blank_of mount.now; carrier = option_map fresh loss } }) }
+        ensures { IfOk result (λ client. client ≡ record { caller = caller; state = record { machine = machine; objects = []; replicas = []; regions = blank_of mount.now; carrier = option_map fresh loss } }) }
     {
         Ok(Client {
             caller,
             state: ClientState {
                 machine,
                 objects: Objects::new(alloc),
+                replicas: Replicas::new(alloc),
                 regions: Space::new(alloc, mount)?,
                 carrier: carrier_of(alloc, loss)?,
             },
@@ -108,11 +111,14 @@ pub fn perform<R: Wait, G: Ground, T: Gate>(
             view,
             file,
         } => bind_line(rt, alloc, common, pass, client, path, sub, view, file),
+        Call::Replicate { path, file, views } => {
+            replicate_line(rt, alloc, common, pass, client, path, file, views)
+        }
         Call::Unbind { path } => unbind_line(rt, alloc, common, pass, client, path),
         Call::List { path } => list_line(rt, alloc, common, pass, client, path.as_ref()),
         Call::Open { object, path } => open_line(rt, alloc, common, pass, client, object, path),
-        Call::Copy { object, other } => copy_line(alloc, common, pass, client, object, other),
-        Call::Drop { object } => drop_line(common, pass, client, object),
+        Call::Copy { object, other } => copy_held(alloc, common, pass, client, object, other),
+        Call::Drop { object } => drop_held(common, pass, client, object),
         Call::Read {
             object,
             page,
@@ -126,15 +132,15 @@ pub fn perform<R: Wait, G: Ground, T: Gate>(
             bytes,
         } => write_line(rt, alloc, common, pass, client, object, *page, *off, bytes),
         Call::Clear { object, page } => clear_line(rt, alloc, common, pass, client, object, *page),
-        Call::Sync { object } => sync_line(rt, alloc, common, pass, client, object, Keep::Write),
-        Call::Clean { object } => sync_line(rt, alloc, common, pass, client, object, Keep::Read),
+        Call::Sync { object } => sync_held(rt, alloc, common, pass, client, object, Keep::Write),
+        Call::Clean { object } => sync_held(rt, alloc, common, pass, client, object, Keep::Read),
         Call::Map {
             region,
             object,
             address,
             pages,
             write,
-        } => map_line(
+        } => map_held(
             rt, alloc, common, pass, client, region, object, *address, *pages, *write,
         ),
         Call::Unmap { region } => unmap_line(common, pass, client, region),

@@ -8,7 +8,7 @@ ghost use Rattle.hist_plain.specs.Plain.{asked_by};
 ghost use Rattle.client_objects.specs.Objects.{object_of, word_of};
 ghost use Rattle.client_objects.specs.Found.{found_on};
 ghost use Rattle.script_meaning.specs.Stack.{pages_of};
-ghost use Rattle.script_meaning.specs.Plan.{access, asking, node_at, plan_access, plan_call, plan_named, plan_sync, trial_of};
+ghost use Rattle.script_meaning.specs.Plan.{access, asking, node_at, plan_access, plan_call, plan_named, plan_sync, plan_use, trial_of};
 ghost use Rattle.spr_client.specs.Calls.{MayCall};
 ghost use Rattle.spr_client.specs.Serving.{keep_number};
 ghost use Rattle.spr_client.specs.Lines.{IsLeafOf, IsOnMachine, IsTarget, LineDone};
@@ -18,6 +18,7 @@ use crate::carried::call_object;
 use crate::client::{Client, Common};
 use crate::line::{refused, reply_to};
 use crate::reconnecting::reconnecting;
+use crate::replicas::access_doors;
 use client_objects::{Found, ObjectKind};
 use file_frames::FileCall;
 use hist_plain::{Gate, Keep, Op, fits};
@@ -107,7 +108,7 @@ fn access_object<R: Wait, G: Ground, T: Gate>(
     }
 }
 
-/// A line of one access of the object of a name.
+/// A line of one access of the object of a name, which has one door.
 fn access_line<R: Wait, G: Ground, T: Gate>(
     rt: &R,
     alloc: Global,
@@ -141,6 +142,30 @@ fn access_line<R: Wait, G: Ground, T: Gate>(
     access_object(rt, alloc, common, pass, client, found, op, len)
 }
 
+/// A line of one access of the object of a name, of one door or of several.
+fn use_line<R: Wait, G: Ground, T: Gate>(
+    rt: &R,
+    alloc: Global,
+    common: &Common<'_, G, T>,
+    pass: &mut Pass<G>,
+    client: &mut Client,
+    name: &Text,
+    op: Op,
+    len: usize,
+) -> Reply
+    requires may { MayCall common.now.mount.now common.now.volume.now pass.old client.old.caller }
+    requires on { IsOnMachine common.now.mount.now client.old.state }
+    requires len { len ≡ asked_by op }
+    ensures done { LineDone common.now.mount.now client.old.caller client.old.state (plan_use common.now.mount.now client.old.state name.now op) pass.old pass.new result client.new.state }
+    ensures on { IsOnMachine common.now.mount.now client.new.state }
+    ensures same { client.new ≡ record client.old { state = client.new.state } }
+{
+    match client.state.replicas.first(name) {
+        Some(door) => access_doors(rt, alloc, common, pass, client, name, door, op),
+        None => access_line(rt, alloc, common, pass, client, name, op, len),
+    }
+}
+
 /// A line that reads bytes of a page of the object of a name.
 pub(crate) fn read_line<R: Wait, G: Ground, T: Gate>(
     rt: &R,
@@ -155,12 +180,12 @@ pub(crate) fn read_line<R: Wait, G: Ground, T: Gate>(
 ) -> Reply
     requires may { MayCall common.now.mount.now common.now.volume.now pass.old client.old.caller }
     requires on { IsOnMachine common.now.mount.now client.old.state }
-    ensures done { LineDone common.now.mount.now client.old.caller client.old.state (plan_named client.old.state (object_of name.now client.old.state.objects) (plan_access common.now.mount.now client.old.state name.now (word_of name.now client.old.state.objects) (ops.Read page off len))) pass.old pass.new result client.new.state }
+    ensures done { LineDone common.now.mount.now client.old.caller client.old.state (plan_use common.now.mount.now client.old.state name.now (ops.Read page off len)) pass.old pass.new result client.new.state }
     ensures on { IsOnMachine common.now.mount.now client.new.state }
     ensures same { client.new ≡ record client.old { state = client.new.state } }
 {
     let op = Op::Read { page, off, len };
-    access_line(rt, alloc, common, pass, client, name, op, len as usize)
+    use_line(rt, alloc, common, pass, client, name, op, len as usize)
 }
 
 /// A line that writes bytes of a page of the object of a name.
@@ -177,7 +202,7 @@ pub(crate) fn write_line<R: Wait, G: Ground, T: Gate>(
 ) -> Reply
     requires may { MayCall common.now.mount.now common.now.volume.now pass.old client.old.caller }
     requires on { IsOnMachine common.now.mount.now client.old.state }
-    ensures done { LineDone common.now.mount.now client.old.caller client.old.state (plan_named client.old.state (object_of name.now client.old.state.objects) (plan_access common.now.mount.now client.old.state name.now (word_of name.now client.old.state.objects) (ops.Write page off bytes.now))) pass.old pass.new result client.new.state }
+    ensures done { LineDone common.now.mount.now client.old.caller client.old.state (plan_use common.now.mount.now client.old.state name.now (ops.Write page off bytes.now)) pass.old pass.new result client.new.state }
     ensures on { IsOnMachine common.now.mount.now client.new.state }
     ensures same { client.new ≡ record client.old { state = client.new.state } }
 {
@@ -185,7 +210,7 @@ pub(crate) fn write_line<R: Wait, G: Ground, T: Gate>(
         return Reply::Memory;
     };
     let op = Op::Write { page, off, bytes };
-    access_line(rt, alloc, common, pass, client, name, op, 0)
+    use_line(rt, alloc, common, pass, client, name, op, 0)
 }
 
 /// A line that clears a page of the object of a name.
@@ -200,14 +225,14 @@ pub(crate) fn clear_line<R: Wait, G: Ground, T: Gate>(
 ) -> Reply
     requires may { MayCall common.now.mount.now common.now.volume.now pass.old client.old.caller }
     requires on { IsOnMachine common.now.mount.now client.old.state }
-    ensures done { LineDone common.now.mount.now client.old.caller client.old.state (plan_named client.old.state (object_of name.now client.old.state.objects) (plan_access common.now.mount.now client.old.state name.now (word_of name.now client.old.state.objects) (ops.Clear page))) pass.old pass.new result client.new.state }
+    ensures done { LineDone common.now.mount.now client.old.caller client.old.state (plan_use common.now.mount.now client.old.state name.now (ops.Clear page)) pass.old pass.new result client.new.state }
     ensures on { IsOnMachine common.now.mount.now client.new.state }
     ensures same { client.new ≡ record client.old { state = client.new.state } }
 {
-    access_line(rt, alloc, common, pass, client, name, Op::Clear { page }, 0)
+    use_line(rt, alloc, common, pass, client, name, Op::Clear { page }, 0)
 }
 
-/// A line that syncs the file of the object of a name.
+/// A line that syncs the file of the object of a name, which has one door.
 pub(crate) fn sync_line<R: Wait, G: Ground, T: Gate>(
     rt: &R,
     alloc: Global,
@@ -245,7 +270,7 @@ pub(crate) fn sync_line<R: Wait, G: Ground, T: Gate>(
 }
 
 /// The number by which the request of a sync says which right it keeps.
-fn keep_number(keep: Keep) -> u32
+pub(crate) fn keep_number(keep: Keep) -> u32
     ensures { result ≡ keep_number keep }
 {
     match keep {
@@ -254,7 +279,7 @@ fn keep_number(keep: Keep) -> u32
     }
 }
 
-/// Where a client's object of a name leads, and to which node its calls go from the client's machine.
+/// Where a client's object of a name leads, which has one door, and to which node its calls go from the client's machine.
 pub(crate) fn find<G: Ground, T: Gate>(
     common: &Common<'_, G, T>,
     client: &Client,

@@ -17,6 +17,7 @@ mod names;
 mod opening;
 mod places;
 mod reconnecting;
+mod replicas;
 
 pub use calls::sync_at;
 pub use client::{Client, Common, perform};

@@ -5,7 +5,8 @@ ghost use Rattle.vmm_space.specs.declared.TheConstants.{MAX_ADDRESS};
 ghost use Rattle.vmm_space.specs.declared.regions.Region.{Region};
 ghost use Rattle.vmm_space.specs.Spaces.{SpaceShape, refusal, with_region};
 ghost use Rattle.client_objects.specs.Objects.{object_of};
-ghost use Rattle.script_meaning.specs.Plan.{living, mapping, plan_map, plan_mapped, plan_named, plan_unmap, region_of};
+ghost use Rattle.client_replicas.specs.Objects.{doors_of};
+ghost use Rattle.script_meaning.specs.Plan.{by_door, living, mapping, plan_doors, plan_map, plan_mapped, plan_named, plan_unmap, region_of};
 ghost use Rattle.spr_client.specs.Calls.{MayCall};
 ghost use Rattle.spr_client.specs.Lines.{IsLeafOf, IsOnMachine, IsTarget, LineDone, PlanDone};
 
@@ -13,6 +14,7 @@ use crate::calls::access_at;
 use crate::client::{Client, Common};
 use crate::files::find;
 use crate::line::{life_in, refused, reply_to, unmappable};
+use crate::replicas::found_by;
 use client_objects::Found;
 use hist_plain::{Gate, Op};
 use memory_object::{CacheRights, MemoryObject};
@@ -135,8 +137,8 @@ fn map_object<R: Wait, G: Ground, T: Gate>(
     )
 }
 
-/// A line that maps the first pages of the file of the object of a name, as a region of a name of its own.
-pub(crate) fn map_line<R: Wait, G: Ground, T: Gate>(
+/// A line that maps the first pages of the file of the object of a name, which has one door, as a region of a name of its own.
+fn map_line<R: Wait, G: Ground, T: Gate>(
     rt: &R,
     alloc: Global,
     common: &Common<'_, G, T>,
@@ -161,6 +163,41 @@ pub(crate) fn map_line<R: Wait, G: Ground, T: Gate>(
     map_object(
         rt, alloc, common, pass, client, found, region, address, pages, write,
     )
+}
+
+/// A line that maps the first pages of the file of the object of a name, of one door or of several, as a region of a name of its own.
+pub(crate) fn map_held<R: Wait, G: Ground, T: Gate>(
+    rt: &R,
+    alloc: Global,
+    common: &Common<'_, G, T>,
+    pass: &mut Pass<G>,
+    client: &mut Client,
+    region: &Text,
+    name: &Text,
+    address: u64,
+    pages: u32,
+    write: bool,
+) -> Reply
+    requires may { MayCall common.now.mount.now common.now.volume.now pass.old client.old.caller }
+    requires on { IsOnMachine common.now.mount.now client.old.state }
+    requires address { address ≤ MAX_ADDRESS }
+    ensures done { LineDone common.now.mount.now client.old.caller client.old.state (plan_doors (doors_of name.now client.old.state.replicas) (λ door more. plan_map common.now.mount.now client.old.state region.now address pages write (by_door door)) (plan_named client.old.state (object_of name.now client.old.state.objects) (plan_map common.now.mount.now client.old.state region.now address pages write))) pass.old pass.new result client.new.state }
+    ensures on { IsOnMachine common.now.mount.now client.new.state }
+    ensures same { client.new ≡ record client.old { state = client.new.state } }
+{
+    // The proof reads here that calls go above the ground.
+    let _nodes = common.mount.nodes();
+    match client.state.replicas.first(name) {
+        Some(door) => {
+            let found = found_by(door);
+            map_object(
+                rt, alloc, common, pass, client, found, region, address, pages, write,
+            )
+        }
+        None => map_line(
+            rt, alloc, common, pass, client, region, name, address, pages, write,
+        ),
+    }
 }
 
 /// A line that takes the region of a name away. It makes no call.

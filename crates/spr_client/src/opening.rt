@@ -4,7 +4,8 @@ ghost use Rattle.std.specs.Prelude.{◌≡◌, ℕ, List, Some};
 ghost use Rattle.name_context.specs.Names.{HasParts, kept_object};
 ghost use Rattle.client_objects.specs.Objects.{OpenObject, object_of, with_object, word_of};
 ghost use Rattle.client_objects.specs.Stored.{received, received_word};
-ghost use Rattle.script_meaning.specs.Plan.{holding, node_at, plan_copy, plan_drop, plan_found, plan_named, plan_open};
+ghost use Rattle.client_replicas.specs.Received.{received_doors};
+ghost use Rattle.script_meaning.specs.Plan.{holding, is_open, node_at, plan_copy, plan_drop, plan_found, plan_named, plan_open, plan_received};
 ghost use Rattle.spr_client.specs.Calls.{MayCall};
 ghost use Rattle.spr_client.specs.Lines.{IsKept, IsOnMachine, IsTarget, LineDone, PlanDone};
 
@@ -12,7 +13,9 @@ use crate::carried::call_object;
 use crate::client::{Client, Common};
 use crate::files::find;
 use crate::line::{life_in, parts_of, refused_names, reply_to};
+use crate::replicas::open_replicon;
 use client_objects::{Found, NotReceived};
+use client_replicas::received_doors;
 use file_frames::FileCall;
 use hist_plain::{Gate, Op};
 use page_ground::Ground;
@@ -65,7 +68,7 @@ fn open_received<R: Wait, G: Ground, T: Gate>(
     }
 }
 
-/// Opens what stands at a path, under a name that no open object has.
+/// Opens what stands at a path, under a name that no open object has, if it is no replicon object.
 fn open_stored<R: Wait, G: Ground, T: Gate>(
     rt: &R,
     alloc: Global,
@@ -92,6 +95,40 @@ fn open_stored<R: Wait, G: Ground, T: Gate>(
     }
 }
 
+/// Opens what stands at a path, under a name that no open object has.
+fn open_kept<R: Wait, G: Ground, T: Gate>(
+    rt: &R,
+    alloc: Global,
+    common: &Common<'_, G, T>,
+    pass: &mut Pass<G>,
+    client: &mut Client,
+    name: Text,
+    stored: &Stored,
+) -> Reply
+    requires may { MayCall common.now.mount.now common.now.volume.now pass.old client.old.caller }
+    requires on { IsOnMachine common.now.mount.now client.old.state }
+    ensures done { PlanDone common.now.mount.now client.old.caller (plan_received common.now.mount.now client.old.state name (Some (kept_object stored.now)) (received_doors common.now.mount.now (Some (kept_object stored.now)))) pass.old pass.new result client.new.state }
+    ensures on { IsOnMachine common.now.mount.now client.new.state }
+    ensures same { client.new ≡ record client.old { state = client.new.state } }
+{
+    match received_doors(common.mount, stored) {
+        Some(doors) => open_replicon(rt, alloc, common, pass, client, name, doors.as_slice()),
+        None => open_stored(rt, alloc, common, pass, client, name, stored),
+    }
+}
+
+/// Whether a client has an open object of the name.
+pub(crate) fn is_open<G: Ground, T: Gate>(
+    common: &Common<'_, G, T>,
+    client: &Client,
+    name: &Text,
+) -> bool
+    requires { IsOnMachine common.now.mount.now client.now.state }
+    ensures { result ≡ is_open name.now client.now.state }
+{
+    client.state.replicas.first(name).is_some() || find(common, client, name).is_some()
+}
+
 /// A line that opens what a path leads to.
 pub(crate) fn open_line<R: Wait, G: Ground, T: Gate>(
     rt: &R,
@@ -105,13 +142,13 @@ pub(crate) fn open_line<R: Wait, G: Ground, T: Gate>(
     requires may { MayCall common.now.mount.now common.now.volume.now pass.old client.old.caller }
     requires on { IsOnMachine common.now.mount.now client.old.state }
     requires path { HasParts path.now }
-    ensures done { LineDone common.now.mount.now client.old.caller client.old.state (plan_open common.now.mount.now client.old.state name.now path.now (object_of name.now client.old.state.objects)) pass.old pass.new result client.new.state }
+    ensures done { LineDone common.now.mount.now client.old.caller client.old.state (plan_open common.now.mount.now client.old.state name.now path.now (is_open name.now client.old.state)) pass.old pass.new result client.new.state }
     ensures on { IsOnMachine common.now.mount.now client.new.state }
     ensures same { client.new ≡ record client.old { state = client.new.state } }
 {
-    let None = find(common, client, name) else {
+    if is_open(common, client, name) {
         return Reply::ObjectExists;
-    };
+    }
     let Ok(copy) = Text::of(alloc, name.as_str()) else {
         return Reply::Memory;
     };
@@ -119,12 +156,12 @@ pub(crate) fn open_line<R: Wait, G: Ground, T: Gate>(
         return Reply::Memory;
     };
     match common.volume.resolve(rt, pass, client.caller, path) {
-        Ok(stored) => open_stored(rt, alloc, common, pass, client, copy, &stored),
+        Ok(stored) => open_kept(rt, alloc, common, pass, client, copy, &stored),
         Err(err) => refused_names(err, parts),
     }
 }
 
-/// A line that copies the object of a name.
+/// A line that copies the object of a name, which has one door.
 pub(crate) fn copy_line<G: Ground, T: Gate>(
     alloc: Global,
     common: &Common<'_, G, T>,
@@ -134,16 +171,16 @@ pub(crate) fn copy_line<G: Ground, T: Gate>(
     other: &Text,
 ) -> Reply
     requires on { IsOnMachine common.now.mount.now client.old.state }
-    ensures done { LineDone common.now.mount.now client.old.caller client.old.state (plan_named client.old.state (object_of name.now client.old.state.objects) (plan_copy client.old.state (word_of name.now client.old.state.objects) other.now (object_of other.now client.old.state.objects))) pass.now pass.now result client.new.state }
+    ensures done { LineDone common.now.mount.now client.old.caller client.old.state (plan_named client.old.state (object_of name.now client.old.state.objects) (plan_copy client.old.state (word_of name.now client.old.state.objects) other.now (is_open other.now client.old.state))) pass.now pass.now result client.new.state }
     ensures on { IsOnMachine common.now.mount.now client.new.state }
     ensures same { client.new ≡ record client.old { state = client.new.state } }
 {
     let Some(_) = find(common, client, name) else {
         return Reply::NoObject;
     };
-    let None = find(common, client, other) else {
+    if is_open(common, client, other) {
         return Reply::ObjectExists;
-    };
+    }
     let Ok(second) = Text::of(alloc, other.as_str()) else {
         return Reply::Memory;
     };
@@ -153,7 +190,7 @@ pub(crate) fn copy_line<G: Ground, T: Gate>(
     }
 }
 
-/// A line that drops the object of a name.
+/// A line that drops the object of a name, which has one door.
 pub(crate) fn drop_line<G: Ground, T: Gate>(
     common: &Common<'_, G, T>,
     pass: &Pass<G>,

@@ -1,6 +1,6 @@
 //! Accesses of reconnectable objects: an object whose view was revoked finds its file again, by the path that it was bound under.
 
-ghost use Rattle.std.specs.Prelude.{◌≡◌, IfErr, IfOk, Some};
+ghost use Rattle.std.specs.Prelude.{◌≡◌, IfErr, IfOk, IfSome, Some};
 ghost use Rattle.hist_plain.specs.declared.event.Op.{Op as AnOp};
 ghost use Rattle.hist_plain.specs.Plain.{Told, asked_by};
 ghost use Rattle.name_context.specs.declared.entry.NameCall.TheVariants as names_calls;
@@ -8,8 +8,8 @@ ghost use Rattle.name_context.specs.Names.{HasParts, kept_at, kept_object};
 ghost use Rattle.client_objects.specs.declared.kind.ObjectKind.TheVariants.{Reconnectable};
 ghost use Rattle.client_objects.specs.declared.state.ClientState.{ClientState as AState};
 ghost use Rattle.client_objects.specs.Objects.{object_of, word_of};
-ghost use Rattle.client_objects.specs.Stored.{received};
-ghost use Rattle.script_meaning.specs.Plan.{Plan, asking_names, is_revoked, plan_access, plan_after, plan_names, plan_reopened, plan_try};
+ghost use Rattle.client_objects.specs.Laws.{LeadsOntoStack};
+ghost use Rattle.script_meaning.specs.Plan.{Plan, asking_names, is_revoked, plan_access, plan_after, plan_names, plan_reopened, plan_try, reached};
 ghost use Rattle.spr_client.specs.Calls.{MayCall};
 ghost use Rattle.client_objects.specs.Reconnected.{IsReconnectable};
 ghost use Rattle.spr_client.specs.Lines.{IsLed, IsOnMachine, LeadsOn, LineDone, PlanDone};
@@ -19,12 +19,14 @@ use crate::carried::call_object;
 use crate::client::{Client, Common};
 use crate::line::{life_in, parts_of, refused_names, reply_to};
 use client_objects::{Found, ObjectKind, Target, received_target};
+use client_replicas::received_doors;
 use file_frames::FileCall;
 use hist_plain::{Answer, Gate, Op, fits};
 use page_ground::Ground;
 use script_meaning::pages_of;
 use script_text::Reply;
 use spr_volume::{Pass, Stored};
+use stack_accept::Mounted;
 use std::alloc::Global;
 use std::sync::Wait;
 use value_types::{Path, Text};
@@ -33,7 +35,7 @@ use value_types::{Path, Text};
 const FURTHER: u32 = 2;
 
 /// Whether an answer is that a life is over.
-fn is_revoked(answer: Answer) -> bool
+pub(crate) fn is_revoked(answer: Answer) -> bool
     ensures { result ≡ is_revoked answer }
 {
     matches!(answer, Answer::Revoked { .. })
@@ -56,6 +58,25 @@ fn led_to(found: Target, life: u32) -> Found
     }
 }
 
+/// Where a reconnectable object finds its file again, by what stands at its path: by the first door of a replicon object, and by the door of
+/// any other object.
+fn reached(mount: &Mounted, stored: &Stored) -> Option<Target>
+    ensures is { result ≡ reached mount.now (Some (kept_object stored.now)) }
+    ensures leads { IfSome result (LeadsOntoStack mount.now) }
+{
+    let Some(doors) = received_doors(mount, stored) else {
+        return received_target(mount, stored);
+    };
+    let door = doors.as_slice()[0];
+    Some(Target {
+        kind: ObjectKind::Singleton,
+        tag: 0,
+        view: door.node,
+        file: door.file,
+        life: 0,
+    })
+}
+
 /// Opens the view to which an object leads that stands at the path of the reconnectable object of a name; if that is answered,
 /// the object leads there. An error is the answer that ends the line.
 fn reopen<R: Wait, G: Ground, T: Gate>(
@@ -71,10 +92,10 @@ fn reopen<R: Wait, G: Ground, T: Gate>(
     requires on { IsOnMachine common.now.mount.now client.old.state }
     requires held { IsReconnectable (object_of name.now client.old.state.objects) }
     ensures ok { IfOk result (λ found. (op : AnOp) (go_on : AState → Told → Plan) → LeadsOn common.now.mount.now client.old.caller
-        (plan_reopened common.now.mount.now name.now op go_on client.old.state (received common.now.mount.now (Some (kept_object stored.now))))
+        (plan_reopened common.now.mount.now name.now op go_on client.old.state (reached common.now.mount.now (Some (kept_object stored.now))))
         (plan_try common.now.mount.now op go_on client.new.state found.target) pass.old pass.new) }
     ensures err { IfErr result (λ reply. (op : AnOp) (go_on : AState → Told → Plan) → PlanDone common.now.mount.now client.old.caller
-        (plan_reopened common.now.mount.now name.now op go_on client.old.state (received common.now.mount.now (Some (kept_object stored.now)))) pass.old pass.new reply client.new.state) }
+        (plan_reopened common.now.mount.now name.now op go_on client.old.state (reached common.now.mount.now (Some (kept_object stored.now)))) pass.old pass.new reply client.new.state) }
     ensures led { IfOk result (IsLed common.now.mount.now name.now client.new.state) }
     ensures on { IsOnMachine common.now.mount.now client.new.state }
     ensures same { client.new ≡ record client.old { state = client.new.state } }
@@ -82,7 +103,7 @@ fn reopen<R: Wait, G: Ground, T: Gate>(
 {
     // The proof reads here that calls go above the ground.
     let _nodes = common.mount.nodes();
-    let Some(target) = received_target(common.mount, stored) else {
+    let Some(target) = reached(common.mount, stored) else {
         return Err(Reply::BadObject);
     };
     let call = FileCall::Access { op: Op::Open };
@@ -123,10 +144,10 @@ fn reconnect<R: Wait, G: Ground, T: Gate>(
     requires held { IsReconnectable (object_of name.now client.old.state.objects) }
     requires path { HasParts path.now }
     ensures ok { IfOk result (λ found. (op : AnOp) (go_on : AState → Told → Plan) → LeadsOn common.now.mount.now client.old.caller
-        (plan_names client.old.state (asking_names names_calls.Resolve (Some path.now)) (λ names. plan_reopened common.now.mount.now name.now op go_on client.old.state (received common.now.mount.now (kept_at names path.now))))
+        (plan_names client.old.state (asking_names names_calls.Resolve (Some path.now)) (λ names. plan_reopened common.now.mount.now name.now op go_on client.old.state (reached common.now.mount.now (kept_at names path.now))))
         (plan_try common.now.mount.now op go_on client.new.state found.target) pass.old pass.new) }
     ensures err { IfErr result (λ reply. (op : AnOp) (go_on : AState → Told → Plan) → PlanDone common.now.mount.now client.old.caller
-        (plan_names client.old.state (asking_names names_calls.Resolve (Some path.now)) (λ names. plan_reopened common.now.mount.now name.now op go_on client.old.state (received common.now.mount.now (kept_at names path.now)))) pass.old pass.new reply client.new.state) }
+        (plan_names client.old.state (asking_names names_calls.Resolve (Some path.now)) (λ names. plan_reopened common.now.mount.now name.now op go_on client.old.state (reached common.now.mount.now (kept_at names path.now)))) pass.old pass.new reply client.new.state) }
     ensures led { IfOk result (IsLed common.now.mount.now name.now client.new.state) }
     ensures on { IsOnMachine common.now.mount.now client.new.state }
     ensures same { client.new ≡ record client.old { state = client.new.state } }
@@ -213,7 +234,7 @@ fn tried<R: Wait, G: Ground, T: Gate>(
 }
 
 /// How many bytes an access asks for.
-fn asked(op: &Op) -> u32
+pub(crate) fn asked(op: &Op) -> u32
     ensures { result ≡ asked_by op.now }
 {
     match op {

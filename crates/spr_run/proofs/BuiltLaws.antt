@@ -1,6 +1,6 @@
 -- Where the stack has what each line of a script names, the program makes its calls.
 use Rattle.std.proofs.Common.{◌≡◌, ℕ, suc, ◌+◌, ◌≤◌, length, drop, arith, Bool, true, false, cond, not, ◌&&◌, ◌||◌, leb, position, IsSome, List, [], ◌∷◌, Option, Some, None, refl, sym, subst}
-use Rattle.std.specs.Option.{option_map, option_or}
+use Rattle.std.specs.Option.{option_and_then, option_map, option_or}
 use Rattle.std.proofs.lemmas.Bool.{and_parts, leb-true}
 use Rattle.std.specs.Str.{bytes_eq}
 use Rattle.std.specs.List.{AllByRecursion, list_any, list_all, position_from}
@@ -15,6 +15,8 @@ use Rattle.stack_accept.specs.declared.entries.FileEntry.{FileEntry}
 use Rattle.stack_accept.specs.declared.entries.NodeEntry.{NodeEntry}
 use Rattle.stack_accept.specs.Mount.{Mount, is_view}
 use Rattle.name_context.specs.Names.{HasParts}
+use Rattle.marshal_buf.specs.declared.door.Door.{Door}
+use Rattle.script_meaning.specs.Plan.{doors_at, replica_doors}
 use Rattle.script_meaning.specs.Stack.{view_of, layer_of, file_named}
 use Rattle.spr_client.specs.Lines.{AreCalls, IsCallOf}
 use Rattle.run_texts.specs.Known.{has_view, has_file, has_layer, is_known, unknown_client, unknown_in, unknown_call, unknown_line}
@@ -52,6 +54,26 @@ names-of mount layer file known =
       found (λ (f : FileEntry). bytes_eq f.name file) mount.files named.1,
     )
 
+-- the doors of a replicon object at views that the stack has
+both-some : (mount : Mount) (file : ℕ) (views : List (List ℕ)) (node : Option ℕ) → IsSome node → IsSome (doors_at mount file views)
+    → IsSome (option_and_then {T = ℕ} (λ n. option_map {T = List Door} (λ doors. record { node = n; file = file } ∷ doors) (doors_at mount file views)) node)
+both-some mount file views (Some node) some rest = by (doors_at mount file views) rest
+  where
+    by : (o : Option (List Door)) → IsSome o → IsSome (option_map {T = List Door} (λ doors. record { node = node; file = file } ∷ doors) o)
+    by (Some doors) there = refl
+    by None there = absurd cc
+both-some mount file views None some rest = absurd cc
+
+doors-of : (mount : Mount) (views : List (List ℕ)) → list_all (has_view mount) views ≡ true → (file : ℕ) → IsSome (doors_at mount file views)
+doors-of mount [] known file = refl
+doors-of mount (view ∷ views) known file =
+    let parts = and_parts (has_view mount view) (list_all (has_view mount) views) known in
+    both-some mount file views (view_of mount view) (found (λ (node : NodeEntry). is_view node.kind && bytes_eq node.name view) mount.nodes parts.0) (doors-of mount views parts.1 file)
+
+doors-behind : (mount : Mount) (file : Option ℕ) (views : List (List ℕ)) → IsSome file → ((number : ℕ) → IsSome (doors_at mount number views)) → IsSome (replica_doors mount file views)
+doors-behind mount (Some number) views some there = there number
+doors-behind mount None views some there = absurd cc
+
 call-of : (mount : Mount) (call : Call) → IsCall call → is_known mount call ≡ true → IsCallOf mount call
 call-of mount (calls.Context path) is known = parts-of path is
 call-of mount (calls.Bind path sub view file) is known =
@@ -60,6 +82,9 @@ call-of mount (calls.Bind path sub view file) is known =
       found (λ (node : NodeEntry). is_view node.kind && bytes_eq node.name view) mount.nodes named.0,
       found (λ (f : FileEntry). bytes_eq f.name file) mount.files named.1,
     )
+call-of mount (calls.Replicate path file views) is known =
+    let named = and_parts (has_file mount file) (list_all (has_view mount) views) known in
+    (is.0, is.2, doors-behind mount (file_named mount file) views (found (λ (f : FileEntry). bytes_eq f.name file) mount.files named.0) (doors-of mount views named.1))
 call-of mount (calls.Unbind path) is known = parts-of path is
 call-of mount (calls.List None) is known = refl
 call-of mount (calls.List (Some path)) is known = parts-of path is

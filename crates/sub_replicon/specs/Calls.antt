@@ -53,6 +53,13 @@ pub record CopiesReplicon (object copy : Replicas) (old new : Doors) : Type 0 wh
   pub lives : copy.lives ≡ object.lives
   pub kept : Holds new object.doors doors
 
+-- the copy has the object's doors in another domain, and their lives
+pub record CopiesInto (object copy : Replicas) (from old new : Doors) : Type 0 where
+  pub doors : List Door
+  pub held : Holds from object.doors doors
+  pub enter : Enter copy.doors doors old new
+  pub lives : copy.lives ≡ object.lives
+
 -- the domain held the doors of the identifiers, which have left it
 pub record GivesUp (ids : List ℕ) (old new : Doors) : Type 0 where
   pub held : AreHeld old ids

@@ -8,7 +8,7 @@ ghost use Rattle.sub_replicon.specs.Domains.{HoldsTheSame, StopsAt};
 ghost use Rattle.sub_replicon.specs.Routes.{LacksFirst, first_route};
 ghost use Rattle.sub_replicon.specs.Forms.{replicon_len};
 ghost use Rattle.sub_replicon.specs.Doors.{replicas_behind};
-ghost use Rattle.sub_replicon.specs.Calls.{Begins, Marshals, RefusesHeld, Unmarshals, Refuses, CopiesReplicon, GivesUp, DropsUnlessLast};
+ghost use Rattle.sub_replicon.specs.Calls.{Begins, Marshals, RefusesHeld, Unmarshals, Refuses, CopiesInto, CopiesReplicon, GivesUp, DropsUnlessLast};
 
 use crate::held::{Ids, hold_all, look_all, take_out_all};
 use crate::lives::{Lives, new_lives, same_lives};
@@ -97,6 +97,19 @@ impl Replicon {
         let doors = look_all(self.doors.as_slice(), domain)?;
         let lives = same_lives(self.lives.as_slice());
         let doors = hold_all(doors.as_slice(), domain)?;
+        Ok(Replicon { doors, lives })
+    }
+
+    /// Another object like this one, in another domain: it has the same doors there, under identifiers of that domain. It fails if the
+    /// object's own domain lacks a door, of which it names the first, or if memory runs out, and then leaves the other as it was.
+    pub fn copy_into(&self, from: &Domain, to: &mut Domain) -> Result<Replicon, ObjectErr>
+        ensures ok { IfOk result (λ copy. CopiesInto self.now copy from.now to.old to.new) }
+        ensures why { IfErr result (RefusesHeld from.now self.now.doors) }
+        ensures err { OnErr result (HoldsTheSame to.old to.new) }
+    {
+        let doors = look_all(self.doors.as_slice(), from)?;
+        let lives = same_lives(self.lives.as_slice());
+        let doors = hold_all(doors.as_slice(), to)?;
         Ok(Replicon { doors, lives })
     }
 

@@ -78,7 +78,7 @@ fn is_call(mount: &Mounted, call: &Call) -> bool
         Call::Revoke { layer, file } | Call::Release { layer, file } => {
             layer_of(mount, layer).is_some() && file_named(mount, file).is_some()
         }
-        Call::Context { .. } => false,
+        Call::Context { .. } | Call::Replicate { .. } => false,
     }
 }
 

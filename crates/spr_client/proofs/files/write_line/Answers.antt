@@ -1,7 +1,6 @@
 use Rattle.std.proofs.Common.{◌≡◌, ℕ, List, ap, sym, ◌∙◌}
 use Rattle.hist_plain.specs.declared.event.Op.TheVariants as ops
-use Rattle.client_objects.specs.Objects.{object_of, word_of}
-use Rattle.script_meaning.specs.Plan.{Plan, plan_access, plan_named}
+use Rattle.script_meaning.specs.Plan.{Plan, plan_use}
 use Rattle.spr_client.proofs.LineLaws.{done-lacks, done-as, clone-is}
 use Rattle.spr_client.proofs.files.write_line.Goals as goal
 
@@ -14,5 +13,5 @@ returns-clause-done g c =
     let state = c.args.client.now.state in
     let cases = c.in-Ok.ensures.cases in
     let same : c.in-Ok.bytes ≡ c.args.bytes.now = sym cases.3 ∙ (clone-is cases.0.inner.items cases.1.inner.items cases.4.0 ∙ cases.2) in
-    let line : List ℕ → Plan = λ bytes. plan_named state (object_of c.args.name.now state.objects) (plan_access mount state c.args.name.now (word_of c.args.name.now state.objects) (ops.Write c.args.page c.args.off bytes)) in
-    done-as mount c.args.client.now.caller state (line c.in-Ok.bytes) (line c.args.bytes.now) c.args.pass.now c.access_line.new.pass c.access_line.result c.access_line.new.client.state (ap line (sym same)) c.access_line.ensures.done
+    let line : List ℕ → Plan = λ bytes. plan_use mount state c.args.name.now (ops.Write c.args.page c.args.off bytes) in
+    done-as mount c.args.client.now.caller state (line c.in-Ok.bytes) (line c.args.bytes.now) c.args.pass.now c.use_line.new.pass c.use_line.result c.use_line.new.client.state (ap line (sym same)) c.use_line.ensures.done

@@ -30,5 +30,6 @@ returns-clause-on g c =
     record {
       machine = c.requires.on.machine;
       objects = subst (λ (os : List OpenObject). AllByRecursion (IsOnStack mount) os) (sym c.remove.ensures) (on_stack-without mount state.objects c.args.name.now c.requires.on.objects);
+      replicas = c.requires.on.replicas;
       regions = c.requires.on.regions;
     }

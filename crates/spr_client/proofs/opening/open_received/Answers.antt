@@ -6,7 +6,7 @@ use Rattle.script_meaning.specs.Plan.{access, asking_at, carrying, holding, open
 use Rattle.spr_client.specs.declared.client.Client.{Client}
 use Rattle.spr_client.specs.Lines.{PlanDone}
 use Rattle.spr_client.specs.Serving.{CallMade}
-use Rattle.spr_client.proofs.BackLaws.{found-ended, found-kept, made-err, made-ok}
+use Rattle.spr_client.proofs.BackLaws.{found-ended, found-kept, made-err, made-objects, made-ok}
 use Rattle.spr_client.proofs.LineLaws.{no-bytes}
 use Rattle.spr_client.proofs.opening.open_received.Goals as goal
 
@@ -23,7 +23,9 @@ returns-in-Ok-clause-done g c = λ objects name word is.
     let out : List ℕ = c.call_object.new.out in
     let answer = c.in-Ok.answer in
     let same : mid.objects ≡ c.args.client.now.state.objects = ap (λ (k : Client). k.state.objects) c.call_object.ensures.same in
-    let made = subst (λ (n : ℕ). CallMade mount caller (asking_at mount state n target.file (access n 0 ops.Open)) old new state back out c.call_object.result) c.requires.node (c.call_object.ensures.made objects) in
+    let moved : mid ≡ carrying c.args.client.now.state mid.carrier = ap (λ (k : Client). k.state) c.call_object.ensures.same in
+    let one = made-objects mount caller (asking_at mount state c.args.found.node target.file (access c.args.found.node 0 ops.Open)) old new c.args.client.now.state mid out c.call_object.result objects moved c.call_object.ensures.made in
+    let made = subst (λ (n : ℕ). CallMade mount caller (asking_at mount state n target.file (access n 0 ops.Open)) old new state back out c.call_object.result) c.requires.node one in
     let kept : c.set_life.new.self ≡ with_object objects name (record target { life = c.life_in.result }) word = c.set_life.ensures.last objects name word target (same ∙ is) in
     found-kept mount caller old new state back (holding mid c.set_life.new.self) name word target out answer c.reply_to.result
     (made-ok mount caller (opening mount state target) old new state back out c.call_object.result answer c.in-Ok.is made)
@@ -53,7 +55,9 @@ returns-clause-done g c = λ objects name word is.
     let out : List ℕ = c.call_object.new.out in
     let reply = c.in-Err.reply in
     let same : mid.objects ≡ c.args.client.now.state.objects = ap (λ (k : Client). k.state.objects) c.call_object.ensures.same in
-    let made = subst (λ (n : ℕ). CallMade mount caller (asking_at mount state n target.file (access n 0 ops.Open)) old new state back out c.call_object.result) c.requires.node (c.call_object.ensures.made objects) in
+    let moved : mid ≡ carrying c.args.client.now.state mid.carrier = ap (λ (k : Client). k.state) c.call_object.ensures.same in
+    let one = made-objects mount caller (asking_at mount state c.args.found.node target.file (access c.args.found.node 0 ops.Open)) old new c.args.client.now.state mid out c.call_object.result objects moved c.call_object.ensures.made in
+    let made = subst (λ (n : ℕ). CallMade mount caller (asking_at mount state n target.file (access n 0 ops.Open)) old new state back out c.call_object.result) c.requires.node one in
     let gone : c.give_up_last.new.self ≡ objects = c.give_up_last.ensures.last objects name word target (same ∙ is) in
     subst (λ (os : List OpenObject). PlanDone mount caller (plan_found mount state name word (Some target)) old new reply (holding mid os)) (sym gone)
     (found-ended mount caller old new state back name word target reply

@@ -3,8 +3,7 @@ use Rattle.script_text.specs.declared.script.Reply.{Reply}
 use Rattle.name_context.specs.declared.entry.NameCall.TheVariants as names_calls
 use Rattle.name_context.specs.Names.{Kept, kept_at}
 use Rattle.client_objects.specs.declared.target.Found.{Found}
-use Rattle.client_objects.specs.Stored.{received}
-use Rattle.script_meaning.specs.Plan.{asking_names, plan_reopened, refused_as}
+use Rattle.script_meaning.specs.Plan.{asking_names, plan_reopened, reached, refused_as}
 use Rattle.spr_client.specs.Lines.{PlanDone}
 use Rattle.spr_client.specs.Names.{IsAt}
 use Rattle.spr_client.proofs.LineLaws.{plan-names-lacks, plan-names-refused, plan-names-then}
@@ -18,7 +17,7 @@ returns-in_default-clause-err g c = λ op go_on.
     let state = c.args.client.now.state in
     let name = c.args.name.now in
     let path = c.args.path.now in
-    plan-names-lacks mount c.args.client.now.caller state _ (asking_names names_calls.Resolve (Some path)) (λ names. plan_reopened mount name op go_on state (received mount (kept_at names path))) c.args.pass.now refl
+    plan-names-lacks mount c.args.client.now.caller state _ (asking_names names_calls.Resolve (Some path)) (λ names. plan_reopened mount name op go_on state (reached mount (kept_at names path))) c.args.pass.now refl
 
 pub refused_names-requires : goal.refused_names-requires
 refused_names-requires g c =
@@ -36,9 +35,9 @@ returns-in-Ok-resolve-clause-ok g c =
     let mid = c.resolve.new.pass in
     let ended = c.reopen.new.client.state in
     if-ok c.reopen.result c.reopen.ensures.ok (λ (found : Found) leads. λ op go_on new said left done.
-    plan-names-then mount c.args.common.now.volume.now caller state _ (asking_names names_calls.Resolve (Some path)) (λ names. plan_reopened mount name op go_on state (received mount (kept_at names path))) None _ c.args.pass.now mid new said left c.requires.may
+    plan-names-then mount c.args.common.now.volume.now caller state _ (asking_names names_calls.Resolve (Some path)) (λ names. plan_reopened mount name op go_on state (reached mount (kept_at names path))) None _ c.args.pass.now mid new said left c.requires.may
     refl (refl, c.in-Ok-resolve.ensures.called)
-    (λ names tells. subst (λ (k : Option Kept). PlanDone mount caller (plan_reopened mount name op go_on state (received mount k)) mid new said left) (sym tells) (leads op go_on new said left done)))
+    (λ names tells. subst (λ (k : Option Kept). PlanDone mount caller (plan_reopened mount name op go_on state (reached mount k)) mid new said left) (sym tells) (leads op go_on new said left done)))
 
 pub returns-in-Ok-resolve-clause-err : goal.returns-in-Ok-resolve-clause-err
 returns-in-Ok-resolve-clause-err g c =
@@ -49,9 +48,9 @@ returns-in-Ok-resolve-clause-err g c =
     let path = c.args.path.now in
     let mid = c.resolve.new.pass in
     if-err c.reopen.result c.reopen.ensures.err (λ (reply : Reply) fails. λ op go_on.
-    plan-names-then mount c.args.common.now.volume.now caller state _ (asking_names names_calls.Resolve (Some path)) (λ names. plan_reopened mount name op go_on state (received mount (kept_at names path))) None _ c.args.pass.now mid c.reopen.new.pass reply c.reopen.new.client.state c.requires.may
+    plan-names-then mount c.args.common.now.volume.now caller state _ (asking_names names_calls.Resolve (Some path)) (λ names. plan_reopened mount name op go_on state (reached mount (kept_at names path))) None _ c.args.pass.now mid c.reopen.new.pass reply c.reopen.new.client.state c.requires.may
     refl (refl, c.in-Ok-resolve.ensures.called)
-    (λ names tells. subst (λ (k : Option Kept). PlanDone mount caller (plan_reopened mount name op go_on state (received mount k)) mid c.reopen.new.pass reply c.reopen.new.client.state) (sym tells) (fails op go_on)))
+    (λ names tells. subst (λ (k : Option Kept). PlanDone mount caller (plan_reopened mount name op go_on state (reached mount k)) mid c.reopen.new.pass reply c.reopen.new.client.state) (sym tells) (fails op go_on)))
 
 pub returns-in-Err-clause-err : goal.returns-in-Err-clause-err
 returns-in-Err-clause-err g c = λ op go_on.
@@ -60,5 +59,5 @@ returns-in-Err-clause-err g c = λ op go_on.
     let state = c.args.client.now.state in
     let name = c.args.name.now in
     let path = c.args.path.now in
-    plan-names-refused mount c.args.common.now.volume.now caller state _ (asking_names names_calls.Resolve (Some path)) (λ names. plan_reopened mount name op go_on state (received mount (kept_at names path))) None _ c.args.pass.now c.resolve.new.pass c.in-Err.err _ c.requires.may
+    plan-names-refused mount c.args.common.now.volume.now caller state _ (asking_names names_calls.Resolve (Some path)) (λ names. plan_reopened mount name op go_on state (reached mount (kept_at names path))) None _ c.args.pass.now c.resolve.new.pass c.in-Err.err _ c.requires.may
     refl (refl, c.in-Err.ensures.called) (c.refused_names.ensures ∙ ap (λ (ps : List (List ℕ)). refused_as (Some ps) c.in-Err.err) c.in-Ok.ensures)

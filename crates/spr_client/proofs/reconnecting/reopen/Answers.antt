@@ -4,7 +4,7 @@ use Rattle.name_context.specs.Names.{kept_object}
 use Rattle.client_objects.specs.Found.{door_to}
 use Rattle.client_objects.specs.Objects.{OpenObject, object_of, with_target}
 use Rattle.client_objects.specs.Reconnected.{IsReconnectable, reconnected}
-use Rattle.client_objects.proofs.ReceivedLaws.{received_leads}
+use Rattle.spr_client.proofs.DoorLaws.{reached_leads}
 use Rattle.script_meaning.specs.Plan.{carrying, holding, reopening, rerouting}
 use Rattle.spr_client.specs.declared.client.Client.{Client}
 use Rattle.spr_client.proofs.BackLaws.{made-err, made-held, made-ok}
@@ -14,7 +14,7 @@ use Rattle.spr_client.proofs.reconnecting.reopen.Goals as goal
 
 pub returns-in_default-clause-err : goal.returns-in_default-clause-err
 returns-in_default-clause-err g c = λ op go_on.
-    reopened-bad c.args.common.now.mount.now c.args.client.now.caller c.args.client.now.state c.args.name.now (Some (kept_object c.args.stored.now)) op go_on c.args.pass.now (sym c.received_target.ensures ∙ c.in_default.is)
+    reopened-bad c.args.common.now.mount.now c.args.client.now.caller c.args.client.now.state c.args.name.now (Some (kept_object c.args.stored.now)) op go_on c.args.pass.now (sym c.reached.ensures.is ∙ c.in_default.is)
 
 pub returns-in-Ok-clause-ok : goal.returns-in-Ok-clause-ok
 returns-in-Ok-clause-ok g c = λ op go_on.
@@ -34,7 +34,7 @@ returns-in-Ok-clause-ok g c = λ op go_on.
     let left : holding back c.reroute.new.self ≡ rerouting back name (reconnected (door_to target) c.life_in-life.result) =
     ap (λ (os : List OpenObject). holding back os) (c.reroute.ensures ∙ ap (λ (d : Door). with_target name (reconnected d c.life_in-life.result) back.objects) c.door.ensures) in
     reopened-leads mount caller state name (Some (kept_object c.args.stored.now)) op go_on target old mid out answer back (holding back c.reroute.new.self) c.led_to.result.target
-    (sym c.received_target.ensures ∙ c.in-Some.is) came
+    (sym c.reached.ensures.is ∙ c.in-Some.is) came
     (left ∙ ap (λ (n : ℕ). rerouting back name (reconnected (door_to target) n)) c.life_in-life.ensures)
     (c.led_to.ensures.target ∙ ap (λ (n : ℕ). reconnected (door_to target) n) c.life_in-life.ensures)
 
@@ -49,7 +49,7 @@ returns-in-Ok-clause-led g c =
     let held : IsReconnectable (object_of name back.objects) = subst (λ (os : List OpenObject). IsReconnectable (object_of name os)) (sym (ap (λ (k : Client). k.state.objects) c.call_object.ensures.same)) c.requires.held in
     let left : holding back c.reroute.new.self ≡ rerouting back name (reconnected (door_to target) c.life_in-life.result) =
     ap (λ (os : List OpenObject). holding back os) (c.reroute.ensures ∙ ap (λ (d : Door). with_target name (reconnected d c.life_in-life.result) back.objects) c.door.ensures) in
-    led-there mount back name (Some (kept_object c.args.stored.now)) target c.life_in-life.result (holding back c.reroute.new.self) c.led_to.result c.nodes-nodes.ensures.sound held (sym c.received_target.ensures ∙ c.in-Some.is) left
+    led-there mount back name (Some (kept_object c.args.stored.now)) target c.life_in-life.result (holding back c.reroute.new.self) c.led_to.result c.nodes-nodes.ensures.sound held (sym c.reached.ensures.is ∙ c.in-Some.is) left
     c.led_to.ensures.target c.led_to.ensures.node
 
 pub returns-in-Ok-clause-on : goal.returns-in-Ok-clause-on
@@ -62,7 +62,7 @@ returns-in-Ok-clause-on g c =
     let left : holding back c.reroute.new.self ≡ rerouting back name (reconnected (door_to target) c.life_in-life.result) =
     ap (λ (os : List OpenObject). holding back os) (c.reroute.ensures ∙ ap (λ (d : Door). with_target name (reconnected d c.life_in-life.result) back.objects) c.door.ensures) in
     led-on mount back name (Some (kept_object c.args.stored.now)) target c.life_in-life.result (holding back c.reroute.new.self)
-    (on_machine-carrying mount state back (ap (λ (k : Client). k.state) c.call_object.ensures.same) c.requires.on) (sym c.received_target.ensures ∙ c.in-Some.is) left
+    (on_machine-carrying mount state back (ap (λ (k : Client). k.state) c.call_object.ensures.same) c.requires.on) (sym c.reached.ensures.is ∙ c.in-Some.is) left
 
 pub returns-clause-err : goal.returns-clause-err
 returns-clause-err g c = λ op go_on.
@@ -77,7 +77,7 @@ returns-clause-err g c = λ op go_on.
     let out : List ℕ = c.call_object.new.out in
     let reply = c.in-Err.reply in
     let moved : back ≡ carrying state back.carrier = ap (λ (k : Client). k.state) c.call_object.ensures.same in
-    reopened-ends mount caller state name (Some (kept_object c.args.stored.now)) op go_on target old mid reply back (sym c.received_target.ensures ∙ c.in-Some.is)
+    reopened-ends mount caller state name (Some (kept_object c.args.stored.now)) op go_on target old mid reply back (sym c.reached.ensures.is ∙ c.in-Some.is)
     (made-err mount caller (reopening mount state target) old mid state back out c.call_object.result reply c.in-Err.is
     (made-held mount caller (reopening mount state target) old mid state back out c.call_object.result moved c.call_object.ensures.made))
 
@@ -85,7 +85,7 @@ pub call_object-requires-clause-route : goal.call_object-requires-clause-route
 call_object-requires-clause-route g c κs within =
     let mount = c.args.common.now.mount.now in
     let kept = Some (kept_object c.args.stored.now) in
-    let is = sym c.received_target.ensures ∙ c.in-Some.is in
+    let is = sym c.reached.ensures.is ∙ c.in-Some.is in
     let route = reopened-route mount kept c.in-Some.target c.nodes-nodes.ensures.sound is in
-    let leads = received_leads mount kept c.in-Some.target is in
+    let leads = reached_leads mount kept c.in-Some.target is in
     record { chosen = leads.chosen; file = route.0; above = route.1; inside = route.2 }
