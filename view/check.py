@@ -7,6 +7,7 @@ after it may be wrong for its sake alone: the first counts.
 
 from collections import Counter
 
+import doors
 import heads
 import losses
 import names
@@ -211,12 +212,13 @@ class Check:
     """A report over its stack, checked. `findings` has what is wrong, in the order of the report's lines.
 
     `notices` is what was told of the disks in mirrors beside the report; nothing of it is checked. `losses` has
-    the lines that lost a call.
+    the lines that lost a call, `doors` what is told of the doors of objects, if the script is given.
     """
 
-    def __init__(self, stack, report, notices=()):
+    def __init__(self, stack, report, notices=(), script=""):
         self.stack, self.report, self.notices, self.findings = stack, report, list(notices), []
         self.losses = losses.find_losses(report)
+        self.doors = doors.told_doors(script, report)
         self.traced = report.is_traced()
         self.numbers = heads.Numbers(report)
         self.files = []

@@ -1,7 +1,7 @@
 """The histories as lines for a terminal: one for each event, with what each node has of its page then."""
 
 from sentences import row_words
-from texts import lost_lines
+from texts import of_lines
 
 SIGNS = ("-", "r", "w")
 LEGEND = "- nothing, r may read, w may write, * changed: not what its pager has, | the ground"
@@ -74,7 +74,7 @@ def file_lines(check, file, page):
 
 
 def draw(check, name, page):
-    """The text: the lines that lost a call, and then all files, or the one that is named."""
-    lost = lost_lines(check)
-    parts = ([lost] if lost else []) + [file_lines(check, file, page) for file in check.files if name in (None, file.part.name)]
+    """The text: what is told of the script's lines, and then all files, or the one that is named."""
+    told = of_lines(check)
+    parts = ([told] if told else []) + [file_lines(check, file, page) for file in check.files if name in (None, file.part.name)]
     return "\n\n".join("\n".join(lines) for lines in parts) + "\n"

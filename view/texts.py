@@ -22,17 +22,20 @@ def write_text(name, text):
         file.write(text)
 
 
-def lost_lines(check):
-    """The lines that lost a call, in words."""
-    said = [loss.words() for loss in check.losses[:MOST_TOLD]]
-    if len(check.losses) > MOST_TOLD:
-        said.append("and %d more lines lost a call" % (len(check.losses) - MOST_TOLD))
-    return said
+def first_of(said, behind):
+    """The first sentences, and how many more there are, in words."""
+    return said[:MOST_TOLD] + ([behind % (len(said) - MOST_TOLD)] if len(said) > MOST_TOLD else [])
+
+
+def of_lines(check):
+    """What is told of the script's lines: those that lost a call, and the doors of objects."""
+    return first_of([loss.words() for loss in check.losses], "and %d more lines lost a call") + first_of(
+        check.doors, "and %d more of doors")
 
 
 def beside(check):
-    """What is told beside the check: the notices of disks, and the lines that lost a call."""
-    return [notice.words() for notice in check.notices] + lost_lines(check)
+    """What is told beside the check: the notices of disks, and what is told of lines."""
+    return [notice.words() for notice in check.notices] + of_lines(check)
 
 
 def verdict(check):
